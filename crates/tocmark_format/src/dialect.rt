@@ -109,9 +109,12 @@ fn begins_key(line: &str) -> bool {
     }
 }
 
-/// Whether a line is one tag of HTML or MDX. `cmark-gfm` and MDX take such a lazy line for a block behind the list or quote.
+/// Whether a line is one tag of HTML or MDX.
 fn is_lone_tag(line: &str) -> bool {
     let bytes = line.as_bytes();
+    if bytes.first() != Some(&b'<') {
+        return false;
+    }
     let name = if bytes.starts_with(b"</") { 2 } else { 1 };
     let letters = bytes
         .iter()
@@ -119,8 +122,7 @@ fn is_lone_tag(line: &str) -> bool {
         .take_while(|byte| byte.is_ascii_alphanumeric() || matches!(**byte, b'-' | b'.'))
         .count();
     let behind = bytes.get(name.saturating_add(letters)).copied();
-    bytes.first() == Some(&b'<')
-        && letters > 0
+    letters > 0
         && matches!(behind, Some(b'>' | b'/' | b' ' | b'\t'))
         && line.trim_end_matches(&[' ', '\t']).ends_with('>')
 }
@@ -144,23 +146,6 @@ fn behind_marker(line: &str) -> Option<&str> {
     }
 }
 
-/// Whether a line has markers of items alone.
-fn is_marker_alone(line: &str) -> bool {
-    let mut inner = line;
-    for _ in 0..line.len() {
-        match behind_marker(inner) {
-            None => break,
-            Some(behind) => inner = behind,
-        }
-    }
-    inner.is_empty() && !line.is_empty()
-}
-
-/// Whether a text begins with the box of a task.
-fn begins_box(text: &str) -> bool {
-    begins_with(text, &["[ ]", "[x]", "[X]"])
-}
-
 /// Whether a text ends with the marker of an item.
 fn ends_with_marker(text: &str) -> bool {
     let mut bytes = text.as_bytes().iter().rev().copied();
@@ -169,6 +154,26 @@ fn ends_with_marker(text: &str) -> bool {
         (Some(b'.' | b')'), Some(before)) => before.is_ascii_digit(),
         _ => false,
     }
+}
+
+/// Whether a line has markers of items alone.
+fn is_marker_alone(line: &str) -> bool {
+    if !ends_with_marker(line.trim_end_matches(&[' ', '\t'])) {
+        return false;
+    }
+    let mut inner = line;
+    for _ in 0..line.len() {
+        match behind_marker(inner) {
+            None => break,
+            Some(behind) => inner = behind,
+        }
+    }
+    inner.is_empty()
+}
+
+/// Whether a text begins with the box of a task.
+fn begins_box(text: &str) -> bool {
+    begins_with(text, &["[ ]", "[x]", "[X]"])
 }
 
 /// Whether a line ends with a marker and the box of a task alone behind it.
@@ -181,11 +186,11 @@ fn ends_with_box(line: &str) -> bool {
     }
 }
 
-/// Whether a line could be the delimiter row of a table.
+/// Whether a line could be the delimiter row of a table. One of a single column may have a colon in place of a bar.
 fn is_delimiter_row(line: &str) -> bool {
     let bytes = line.as_bytes();
     matches!(bytes.first(), Some(b'|' | b':' | b'-'))
-        && bytes.contains(&b'|')
+        && (bytes.contains(&b'|') || bytes.contains(&b':'))
         && bytes.contains(&b'-')
         && bytes
             .iter()
@@ -205,7 +210,7 @@ impl Printer<'_> {
             if is_lazy && bare.len() < text.len() {
                 continue;
             }
-            if begins_foreign_line(bare) || (is_lazy && is_lone_tag(bare)) {
+            if begins_foreign_line(bare) {
                 return true;
             }
         }
@@ -278,6 +283,23 @@ impl Printer<'_> {
         self.source.line(line).trim_start_matches(&[' ', '\t', '>'])
     }
 
+    /// Whether a paragraph goes on with one tag on a lazy line that isn't indented like code. To `cmark-gfm` and MDX the list
+    /// or quote ends before it.
+    fn has_lazy_tag(&self, start: usize, end: usize) -> bool {
+        let source = self.source;
+        let second = source.line_of(start).saturating_add(1);
+        let last = source.line_of(end.saturating_sub(1));
+        for line in second..=last {
+            if is_lone_tag(self.bare_line(line)) {
+                let place = self.page.stripped(source, source.start_of(line));
+                if !place.is_met && self.indent_behind(place) < 4 {
+                    return true;
+                }
+            }
+        }
+        false
+    }
+
     /// Whether a list or a quote ends with the box of a task alone, and the next line isn't blank. To GitHub both lines are
     /// text. Of both lines it looks at a few bytes, because many lists may end in one line.
     fn ends_with_bare_task(&self, end: usize) -> bool {
@@ -298,9 +320,11 @@ impl Printer<'_> {
         let first = self.source.line_of(start);
         let last = self.source.line_of(end.saturating_sub(1));
         for line in first..last {
-            let below = behind_marker(self.bare_line(line.saturating_add(1)));
-            if is_marker_alone(self.bare_line(line)) && below.is_some_and(begins_box) {
-                return true;
+            if is_marker_alone(self.bare_line(line)) {
+                let below = behind_marker(self.bare_line(line.saturating_add(1)));
+                if below.is_some_and(begins_box) {
+                    return true;
+                }
             }
         }
         false
@@ -371,6 +395,10 @@ impl Printer<'_> {
 
     /// Whether a block belongs to another dialect: it has a line of that, or it stands below such a block, deeper indented.
     pub(crate) fn is_foreign(&mut self, kind: Kind, start: usize, end: usize) -> bool {
+        if kind == Kind::Paragraph && self.page.depth() > 0 && self.has_lazy_tag(start, end) {
+            self.has_tag = true;
+            self.page.stop();
+        }
         if self.is_below_foreign(start) {
             return true;
         }

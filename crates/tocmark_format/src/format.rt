@@ -11,10 +11,11 @@ ghost use Rattle.tocmark_format.specs.Shape.{HaveSameShapes, has_same_shape, Out
 ghost use Rattle.tocmark_format.specs.Summaries.{Sums, SumsFirst};
 
 use crate::answer::{Formatted, Left, Reason};
+use crate::blocks::{Blocks, Places, TreeWalk};
 use crate::look::Look;
 use crate::part::{Part, Placed};
 use crate::parts::{PartReader, PartTaker};
-use crate::printer::{Block, Printer, Step};
+use crate::printer::{Printer, Step};
 use crate::shape::{Outline, add_apart};
 use crate::source::Source;
 use crate::style::Style;
@@ -106,18 +107,14 @@ impl PartTaker for Printing<'_> {
 struct ReadBack {
     says: Summary,
     /// Where each tree at the top begins.
-    starts: Vec<usize>,
+    starts: Places,
     /// How many containers are open.
     depth: usize,
     definitions: Vec<ReferenceDefinition>,
 }
 
 /// Adds where further trees begin, from so many open containers on; how many are open behind them.
-fn add_starts(
-    starts: &mut Vec<usize>,
-    open: usize,
-    events: &[Placed],
-) -> Result<usize, AllocError> {
+fn add_starts(starts: &mut Places, open: usize, events: &[Placed]) -> Result<usize, AllocError> {
     let mut depth = open;
     for (event, range) in events {
         if depth == 0 {
@@ -130,13 +127,6 @@ fn add_starts(
         }
     }
     Ok(depth)
-}
-
-impl ReadBack {
-    /// The number of the first tree that begins here or behind.
-    fn tree_from(&self, place: usize) -> usize {
-        self.starts.partition_point(|start| *start < place)
-    }
 }
 
 impl PartTaker for ReadBack {
@@ -152,7 +142,7 @@ impl PartTaker for ReadBack {
 #[derive(Drop)]
 struct Printed {
     text: String,
-    blocks: Vec<Block>,
+    blocks: Blocks,
     said: Summary,
     definitions: Vec<ReferenceDefinition>,
 }
@@ -226,27 +216,19 @@ impl Ladder {
         let (printed, old_ends) = old;
         let (back, new_ends) = new;
         let mut has_fallen = false;
-        let mut tree_end = old_ends.len();
-        let mut read_end = new_ends.len();
-        let mut at = printed.blocks.len();
-        for block in printed.blocks.iter().rev() {
-            at = at.saturating_sub(1);
-            let is_apart = apart.get(at) == Some(&true);
-            let read_from = back.tree_from(block.start);
-            let Some(tree) = block.tree else {
-                read_end = read_from;
-                continue;
+        let mut walk = TreeWalk::new(&printed.blocks);
+        let ends = (old_ends.len(), new_ends.len());
+        for _ in 0..printed.blocks.len() {
+            let Some(trees) = walk.next(&printed.blocks, &back.starts, ends) else {
+                break;
             };
-            let said = (tree, tree_end);
-            let read = (read_from, read_end);
+            let is_apart = apart.get(trees.block) == Some(&true);
             let is_same = printed
                 .said
-                .has_same_trees(old_ends, said, &back.says, new_ends, read);
-            if (is_apart || !is_same) && self.fall(tree, is_apart) {
+                .has_same_trees(old_ends, trees.said, &back.says, new_ends, trees.read);
+            if (is_apart || !is_same) && self.fall(trees.said.0, is_apart) {
                 has_fallen = true;
             }
-            tree_end = tree;
-            read_end = read_from;
         }
         has_fallen
     }
@@ -256,10 +238,14 @@ impl Ladder {
         &self,
         alloc: Global,
         source: &Source<'_>,
-        blocks: &[Block],
+        blocks: &Blocks,
     ) -> Result<Vec<Left>, AllocError> {
         let mut all = Vec::new(alloc);
-        for block in blocks {
+        let mut place = blocks.first();
+        for _ in 0..blocks.len() {
+            let Some(block) = blocks.take(&mut place) else {
+                break;
+            };
             let Some(tree) = block.tree else {
                 continue;
             };
@@ -367,7 +353,7 @@ impl<R: PartReader> Formatter<'_, R> {
     {
         let mut back = ReadBack {
             says: Summary::new(self.alloc, self.style.wrap),
-            starts: Vec::new(self.alloc),
+            starts: Places::new(self.alloc),
             depth: 0,
             definitions: Vec::new(self.alloc),
         };

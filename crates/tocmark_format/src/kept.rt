@@ -1,9 +1,10 @@
 //! Lines that are kept: those that a comment names, those that other programs read as one, those of blocks that would be
 //! read otherwise, and those behind front matter that isn't at the front.
 
-use crate::page::Kind;
+use crate::hazard::is_hazard;
+use crate::page::{Kind, Place};
 use crate::part::{Mark, Opening, Part, is_inline};
-use crate::piece::blanks;
+use crate::piece::{INDENT, blanks};
 use crate::printer::Printer;
 use crate::source::{without_blanks, without_end_blanks};
 use crate::spans::Span;
@@ -74,10 +75,17 @@ fn comment_at(part: &Part, at: usize) -> Option<&str> {
 }
 
 impl Printer<'_> {
-    /// Prints a part of a line of the source, behind the blanks that a tab leaves over.
-    fn print_rest(&mut self, spare: usize, from: usize, to: usize) -> Result<(), AllocError> {
-        self.page
-            .line_with(blanks(spare), self.source.slice(from, to))
+    /// Prints a line of the source up to a place, behind the blanks that a tab leaves over. A lazy line that would begin a
+    /// block behind the prefixes gets four blanks.
+    fn print_rest(&mut self, place: Place, to: usize) -> Result<(), AllocError> {
+        let text = self.source.slice(place.at, to);
+        let is_lazy_hazard = !place.is_met && is_hazard(text.trim_start_matches(&[' ', '\t']));
+        let front = if is_lazy_hazard {
+            INDENT
+        } else {
+            blanks(place.spare)
+        };
+        self.page.line_with(front, text)
     }
 
     /// Prints the source's lines from one place to another, unchanged but for the prefixes of the open containers.
@@ -88,7 +96,7 @@ impl Printer<'_> {
         let first_end = end.min(source.line_end(start));
         if top.content <= base && !top.owes_sign() {
             let place = self.page.stripped(source, base);
-            self.print_rest(place.spare, place.at, first_end.max(place.at))?;
+            self.print_rest(place, first_end.max(place.at))?;
         } else {
             self.page.line(source.slice(start, first_end))?;
         }
@@ -99,7 +107,7 @@ impl Printer<'_> {
             }
             let place = self.page.stripped(source, at);
             let line_end = source.line_end(place.at);
-            self.print_rest(place.spare, place.at, end.max(place.at).min(line_end))?;
+            self.print_rest(place, end.max(place.at).min(line_end))?;
             at = line_end.saturating_add(1);
         }
         Ok(())

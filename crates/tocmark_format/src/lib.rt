@@ -4,13 +4,15 @@
 //! that format files. Enter at `formatted` (`format`), which prints, reads back, and prints nearer to the source what is read
 //! otherwise. `style` says how things look, `answer` what comes out, and `parts` which readers hand out a text's events part
 //! by part. `printer` walks over the events; `page` has what is printed and the containers that are open; `leaf`, `table`,
-//! `container` and `definitions` print the blocks; `kept`, `spans`, `columns` and `dialect` say which keep their lines. `inline` makes `piece`s of
-//! events, and `lines` and `fill` make lines of these. `summary` and `shape` compare two texts.
+//! `container` and `definitions` print the blocks; `kept`, `spans`, `columns` and `dialect` say which keep their lines.
+//! `inline` makes `piece`s of events, and `lines` and `fill` make lines of these. `summary` and `shape` compare two texts.
+//! `blocks` and `numbers` keep in little memory what stands where.
 //!
 //! What is printed is read again and compared, so all that stands between can be changed freely.
 #![tactic(auto)]
 
 mod answer;
+mod blocks;
 mod columns;
 mod container;
 mod definitions;
@@ -24,6 +26,7 @@ mod leaf;
 mod lines;
 mod link;
 mod look;
+mod numbers;
 mod page;
 mod part;
 mod parts;

@@ -224,7 +224,7 @@ pub(crate) struct Page {
     top: Frame,
     /// How many bytes of prefixes may still come.
     budget: usize,
-    /// Whether more prefixes would have come than may.
+    /// Whether no more lines come: more prefixes would have come than may, or the block will be printed anew.
     is_over: bool,
 }
 
@@ -290,7 +290,12 @@ impl Page {
         self.is_over = false;
     }
 
-    /// Whether more prefixes would have come than may.
+    /// Lets no more lines come until the next limit.
+    pub(crate) fn stop(&mut self) {
+        self.is_over = true;
+    }
+
+    /// Whether no more lines come.
     pub(crate) fn is_over(&self) -> bool {
         self.is_over
     }

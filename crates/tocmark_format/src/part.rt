@@ -133,13 +133,24 @@ pub(crate) fn is_inline(mark: Mark) -> bool {
 }
 
 /// An event, and where it stands in the source. A Start has the place of its End, and both end in the source where that does.
+/// All numbers are short, because one list may be the whole document.
 #[derive(Clone, Copy)]
 struct Node {
     mark: Mark,
-    /// Where it begins in the source.
-    start: usize,
-    /// Where it ends in the source; of a Start the place of its End, and its own as long as there is none.
-    end: usize,
+    /// How far behind the front of the trees it begins in the source.
+    start: u32,
+    /// How far behind that front it ends; of a Start the place of its End, and its own as long as there is none.
+    end: u32,
+}
+
+/// A number in four bytes. In a tree of more than 4 GiB the largest one stands for those that don't fit. What is printed then
+/// reads otherwise, so the document stays as it is.
+fn short(number: usize) -> u32 {
+    if number > 0xffff_ffff {
+        0xffff_ffff
+    } else {
+        number as u32
+    }
 }
 
 /// Whether blank lines stand between the items of a list.
@@ -153,7 +164,7 @@ enum Spread {
 /// A list: the place of its Start, and whether blank lines stand between its items.
 #[derive(Clone, Copy)]
 struct ListSpread {
-    at: usize,
+    at: u32,
     spread: Spread,
     /// Whether a blank line of the source stands between two of its items, or between two blocks of an item. One beside
     /// the definitions of links alone is none.
@@ -197,6 +208,8 @@ struct OpenContainer {
 #[derive(Drop)]
 pub(crate) struct Part {
     nodes: Vec<Node>,
+    /// Where the first one begins in the source.
+    front: usize,
     /// How many events stand before the last cell of a table.
     cell: usize,
     /// The containers that are open.
@@ -248,6 +261,7 @@ impl Part {
     pub(crate) fn new(alloc: Global) -> Part {
         Part {
             nodes: Vec::new(alloc),
+            front: 0,
             cell: 0,
             open: Vec::new(alloc),
             lists: Vec::new(alloc),
@@ -362,7 +376,7 @@ impl Part {
     fn note_list(&mut self, at: usize) -> Result<Role, AllocError> {
         let list = self.lists.len();
         self.lists.push(ListSpread {
-            at,
+            at: short(at),
             spread: Spread::Unknown,
             has_gap: false,
         })?;
@@ -413,7 +427,7 @@ impl Part {
             return;
         };
         if let Some(node) = self.nodes.get_mut(container.at) {
-            node.end = at;
+            node.end = short(at);
         }
         if let Role::Inline = container.role {
             return;
@@ -470,14 +484,17 @@ impl Part {
             Event::Start(tag) => self.keep_alignments(at, tag)?,
             _ => {}
         }
+        if at == 0 {
+            self.front = range.0;
+        }
         let end = match mark {
             Mark::Start(_) => at,
-            _ => range.1,
+            _ => range.1.saturating_sub(self.front),
         };
         self.nodes.push(Node {
             mark,
-            start: range.0,
-            end,
+            start: short(range.0.saturating_sub(self.front)),
+            end: short(end),
         })?;
         Ok(())
     }
@@ -525,10 +542,11 @@ impl Part {
             return (0, 0);
         };
         let last = match node.mark {
-            Mark::Start(_) => self.nodes.get(node.end).unwrap_or(node),
+            Mark::Start(_) => self.nodes.get(node.end as usize).unwrap_or(node),
             _ => node,
         };
-        (node.start, last.end)
+        let start = self.front.saturating_add(node.start as usize);
+        (start, self.front.saturating_add(last.end as usize))
     }
 
     /// The place of the End of a container that starts at a place; a leaf's own place.
@@ -537,14 +555,14 @@ impl Part {
             return at;
         };
         match node.mark {
-            Mark::Start(_) => node.end,
+            Mark::Start(_) => node.end as usize,
             _ => at,
         }
     }
 
     /// The list whose Start stands at a place.
     fn list(&self, at: usize) -> Option<ListSpread> {
-        let number = self.lists.partition_point(|one| one.at < at);
+        let number = self.lists.partition_point(|one| (one.at as usize) < at);
         self.lists.get(number).copied()
     }
 

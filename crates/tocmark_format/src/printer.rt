@@ -1,5 +1,6 @@
 //! The walk over the events of a document: each block is printed as it comes.
 
+use crate::blocks::{Block, Blocks};
 use crate::dialect::Foreign;
 use crate::kept::Stretch;
 use crate::look::Look;
@@ -28,19 +29,6 @@ impl Step {
     }
 }
 
-/// What stands at the top of a document: a tree, some that are kept together, or definitions of links.
-#[derive(Clone, Copy)]
-pub(crate) struct Block {
-    /// The number of its first tree; definitions have none.
-    pub(crate) tree: Option<usize>,
-    /// Where it stands in the source.
-    pub(crate) range: (usize, usize),
-    /// Where its text begins.
-    pub(crate) start: usize,
-    /// Whether its prefixes outgrew its text, so that it keeps its lines.
-    pub(crate) is_outgrown: bool,
-}
-
 /// Prefixes may have so many bytes in a block, and four for each byte of it.
 const FREE_PREFIXES: usize = 4096;
 
@@ -57,7 +45,7 @@ pub(crate) struct Printer<'d> {
     steps: &'d [Step],
     /// Whether definitions stay as they are spelled.
     keeps_definitions: bool,
-    pub(crate) blocks: Vec<Block>,
+    pub(crate) blocks: Blocks,
     /// How many trees came.
     trees: usize,
     /// Room for the pieces of a leaf.
@@ -68,6 +56,8 @@ pub(crate) struct Printer<'d> {
     pub(crate) kept: Option<Stretch>,
     /// Where the last code ends that has a tag of another program.
     pub(crate) code_end: usize,
+    /// Whether the block at the top has a tag that other programs read as a block of its own.
+    pub(crate) has_tag: bool,
     /// The last block of another dialect, as long as only blocks below it came.
     pub(crate) foreign: Option<Foreign>,
 }
@@ -88,12 +78,13 @@ impl<'d> Printer<'d> {
             look: wanted,
             steps,
             keeps_definitions,
-            blocks: Vec::new(alloc),
+            blocks: Blocks::new(alloc),
             trees: 0,
             room: Pieces::new(alloc),
             is_cut: false,
             kept: None,
             code_end: 0,
+            has_tag: false,
             foreign: None,
         }
     }
@@ -194,19 +185,33 @@ impl<'d> Printer<'d> {
         self.begin(kind, is_apart, (tree, (start, end)))
     }
 
-    /// Ends a block; one whose prefixes outgrow its text gets its lines of the source.
+    /// Prints the block at the top anew, by its lines of the source; what it is then.
+    fn print_anew(&mut self, kind: Kind) -> Result<Kind, AllocError> {
+        let has_tag = self.has_tag;
+        self.has_tag = false;
+        self.page.limit(usize::MAX);
+        let Some(block) = self.blocks.last() else {
+            return Ok(kind);
+        };
+        self.page.take_back(block.start);
+        self.print_lines(block.range.0, block.range.1)?;
+        if has_tag {
+            self.begin_foreign(block.range.0);
+            return Ok(Kind::Foreign);
+        }
+        self.blocks.outgrow_last();
+        Ok(kind)
+    }
+
+    /// Ends a block. One at the top gets its lines of the source if its prefixes outgrow its text, or if other programs read
+    /// a tag in it as a block of its own.
     pub(crate) fn finish(&mut self, kind: Kind, end: usize) -> Result<(), AllocError> {
+        let mut last = kind;
         if self.page.depth() == 0 && self.page.is_over() {
-            self.page.limit(usize::MAX);
-            if let Some(block) = self.blocks.last_mut() {
-                block.is_outgrown = true;
-                let block = *block;
-                self.page.take_back(block.start);
-                self.print_lines(block.range.0, block.range.1)?;
-            }
+            last = self.print_anew(kind)?;
         }
         let top = self.page.top_mut();
-        top.last = Some(kind);
+        top.last = Some(last);
         top.at = top.at.max(end);
         Ok(())
     }
@@ -360,14 +365,12 @@ impl<'d> Printer<'d> {
         let mut text = String::from_str(self.alloc, "\n")?;
         text.push_str(self.page.text.as_str())?;
         self.page.text = text;
-        for block in self.blocks.iter_mut() {
-            block.start = block.start.saturating_add(1);
-        }
+        self.blocks.shift(1);
         Ok(())
     }
 
     /// What is printed, and its blocks.
-    pub(crate) fn into_text(self) -> (String, Vec<Block>) {
+    pub(crate) fn into_text(self) -> (String, Blocks) {
         let Printer { page, blocks, .. } = self;
         (page.into_text(), blocks)
     }

@@ -8,8 +8,8 @@ ghost use Rattle.tocmark_compare.specs.Digest.{marked, plain_start};
 ghost use Rattle.tocmark_compare.specs.Given.{given_events};
 ghost use Rattle.tocmark_format.specs.Shape.{Outlines, outlined, shape};
 
+use crate::blocks::Blocks;
 use crate::parts::PartTaker;
-use crate::printer::Block;
 use std::alloc::{AllocError, Global};
 use tocmark_compare::number::end_number;
 use tocmark_event::event::{Event, Tag, TagEnd};
@@ -153,13 +153,15 @@ impl PartTaker for Outline {
 /// Marks the blocks in which a printed text has another shape than its source.
 pub(crate) fn add_apart(
     apart: &mut Vec<bool>,
-    blocks: &[Block],
+    blocks: &Blocks,
     old: &Outline,
     new: &Outline,
 ) -> Result<(), AllocError> {
     let (mut old_from, mut new_from) = (0usize, 0usize);
+    let mut place = blocks.first();
+    blocks.take(&mut place);
     for at in 0..blocks.len() {
-        let (old_end, new_end) = match blocks.get(at.saturating_add(1)) {
+        let (old_end, new_end) = match blocks.take(&mut place) {
             Some(next) => (next.range.0, next.start),
             None => (usize::MAX, usize::MAX),
         };
