@@ -134,12 +134,14 @@ impl Printer<'_> {
 
     /// Prints the lines of a gap between two places of the source, if they aren't empty.
     fn print_gap_text(&mut self, text: &str, from: usize, end: usize) -> Result<(), AllocError> {
-        let text = text.trim_matches(&[' ', '\t', '\n']);
-        if text.is_empty() {
+        let bare = text.trim_start_matches(&[' ', '\t', '\n']);
+        if bare.is_empty() {
             return Ok(());
         }
-        self.begin_definitions(from, end.min(self.source.text.len()))?;
-        self.print_definitions(text)?;
+        let white = text.len().saturating_sub(bare.len());
+        let is_apart = text.get(..white).unwrap_or("").contains('\n');
+        self.begin_definitions(is_apart, from, end.min(self.source.text.len()))?;
+        self.print_definitions(bare.trim_end_matches(&[' ', '\t', '\n']))?;
         self.finish(Kind::Definitions, end)
     }
 

@@ -164,9 +164,15 @@ impl<'d> Printer<'d> {
         Ok(())
     }
 
-    /// Begins definitions of links.
-    pub(crate) fn begin_definitions(&mut self, from: usize, to: usize) -> Result<(), AllocError> {
-        self.begin(Kind::Definitions, true, (None, (from, to)))
+    /// Begins definitions of links. They get a line before them, unless they stand directly below a block of another dialect.
+    pub(crate) fn begin_definitions(
+        &mut self,
+        is_apart: bool,
+        from: usize,
+        to: usize,
+    ) -> Result<(), AllocError> {
+        let is_below_foreign = !is_apart && matches!(self.page.top().last, Some(Kind::Foreign));
+        self.begin(Kind::Definitions, !is_below_foreign, (None, (from, to)))
     }
 
     /// Begins a block of events behind the definitions that stand before it.
