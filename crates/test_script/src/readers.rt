@@ -2,7 +2,7 @@
 
 ghost use Rattle.std.specs.Prelude.{◌≡◌, IfOk, map};
 ghost use Rattle.tocmark_event.specs.Reading.{reading_view};
-ghost use Rattle.test_script_answers.specs.Readers.{labelled_reading, ranged_view};
+ghost use Rattle.test_script.specs.Readers.{labelled_reading, ranged_view};
 
 use std::alloc::{AllocError, Global};
 use std::cell::Cell;
@@ -45,7 +45,7 @@ fn copied_events(
 }
 
 impl<'a> Table<'a> {
-    ghost use Rattle.test_script_answers.specs.Readers.{table_events, table_reading};
+    ghost use Rattle.test_script.specs.Readers.{table_events, table_reading};
 
     /// A table without readings.
     pub fn new(alloc: Global) -> Table<'a> {
@@ -89,7 +89,7 @@ fn read_with_label(
 
 /// The core reader and the extended one have their reading of a text, and a table the events that it has for it.
 impl Reader for ScriptReader<'_> {
-    ghost use Rattle.test_script_answers.specs.Readers.{script_reading};
+    ghost use Rattle.test_script.specs.Readers.{script_reading};
 
     ghost reading = { λ r text flags. script_reading r text flags };
 

@@ -9,9 +9,9 @@ use Rattle.tocmark_event.specs.declared.event.flags.ParserOptions.{ParserOptions
 use Rattle.tocmark_reader.specs.Reading.{core_reading, reading_of}
 use Rattle.tocmark_reader.specs.Flags.{syntax_of}
 use Rattle.tocmark_read_scan.specs.declared.syntax.Names.TheVariants.{All}
-use Rattle.test_script_answers.specs.declared.readers.Table.{Table as ReadingTable}
-use Rattle.test_script_answers.specs.declared.readers.ScriptReader.{ScriptReader}
-use Rattle.test_script_answers.specs.declared.readers.ScriptReader.TheVariants.{Core, Labelled, Table, Extended}
+use Rattle.test_script.specs.declared.readers.Table.{Table as ReadingTable}
+use Rattle.test_script.specs.declared.readers.ScriptReader.{ScriptReader}
+use Rattle.test_script.specs.declared.readers.ScriptReader.TheVariants.{Core, Labelled, Table, Extended}
 
 -- an event with its range, as a plain value
 abbrev pub ranged_view : ParserEvent × (ℕ × ℕ) → EventView × (ℕ × ℕ)
