@@ -5,23 +5,11 @@
 //! begin with `#` say nothing. Behind a line `Flags` with hexadecimal digits the rest of a list is read with the
 //! extensions of these flags and all names of references; in front of it texts are read as CommonMark.
 
-use crate::rewriting::{CORE, Syntax, are_read_alike, rewritten};
-use serde_json::Value;
+use crate::json_text::text_of;
+use crate::round_trip::{CORE, Syntax, are_read_alike, rewritten};
 use std::alloc::Global;
 use std::io::{self, ErrorKind, Write};
 use tocmark_event::event::ParserOptions;
-
-/// The text of a JSON string.
-fn text_of(alloc: Global, line: &str) -> io::Result<String> {
-    let value = match Value::from_str(alloc, line) {
-        Ok(value) => value,
-        Err(_error) => return Err(io::Error::from(ErrorKind::InvalidData)),
-    };
-    match value {
-        Value::String(text) => Ok(text),
-        _other => Err(io::Error::from(ErrorKind::InvalidData)),
-    }
-}
 
 /// The flags of hexadecimal digits.
 ///

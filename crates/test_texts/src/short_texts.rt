@@ -1,7 +1,7 @@
 //! Every text of one and of two characters from U+0020 to U+007E that doesn't end with a space, written and
 //! read back, and counted: alone in a paragraph, and as its second line behind the line `a`.
 
-use crate::rewriting::{ended, merged};
+use crate::round_trip::{ended, merged};
 use std::alloc::{AllocError, Global};
 use std::fmt;
 use std::io::{self, Write};

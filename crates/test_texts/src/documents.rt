@@ -2,7 +2,7 @@
 //! stand in them. Behind each stands a line that begins with `%`: what is wrong, or nothing more where it is read as
 //! the document is.
 
-use crate::rewriting::{CORE, are_read_alike, rewritten, rewritten_from_source};
+use crate::round_trip::{CORE, are_read_alike, rewritten, rewritten_from_source};
 use std::alloc::{AllocError, Global};
 use std::io::{self, Write};
 use tocmark::Error;

@@ -1,7 +1,7 @@
 //! How long writing a list of events takes.
 
 use crate::paper::Paper;
-use crate::rewriting::ended;
+use crate::round_trip::ended;
 use crate::shape::events_of;
 use std::alloc::Global;
 use std::io::{self, Write};

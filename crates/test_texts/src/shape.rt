@@ -13,7 +13,7 @@
 //! line of HTML, `!` HTML within a line, `$` the mathematics `a`, `^` a reference to a footnote, `#` a checked box and `-` a
 //! thematic break.
 
-use crate::rewriting::add_made;
+use crate::round_trip::add_made;
 use std::alloc::{AllocError, Global};
 use tocmark_event::event::{
     Alignment, CodeBlockKindOf, CowStr, Event, EventOf, HeadingLevel, LinkType, MetadataBlockKind,

@@ -9,11 +9,11 @@ use tocmark_reader::EXTENSIONS;
 
 /// Which extensions are read, and a style.
 #[derive(Clone, Copy)]
-pub(crate) struct Looks {
-    pub(crate) flags: ParserOptions,
-    pub(crate) style: Style,
+pub struct Looks {
+    pub flags: ParserOptions,
+    pub style: Style,
     /// Under which flags the blocks stay, too.
-    pub(crate) also: Option<ParserOptions>,
+    pub also: Option<ParserOptions>,
 }
 
 /// What documents on GitHub have, front matter among it.
@@ -193,7 +193,7 @@ fn set_by(looks: &mut Looks, word: &str) -> bool {
 }
 
 /// The style that words behind `@format` ask for: each a name, `=` and a value.
-pub(crate) fn looks_of(words: &str) -> io::Result<Looks> {
+pub fn looks_of(words: &str) -> io::Result<Looks> {
     let mut looks = Looks {
         flags: GFM,
         style: Style::new(),
