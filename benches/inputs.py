@@ -272,7 +272,7 @@ def marked_paragraphs():
 
 def standard_examples():
     """The examples of the CommonMark standard one after the other with an empty line between, two hundred times."""
-    with open(f"{TOP}/crates/test_workbench/stdin", encoding="utf-8") as file:
+    with open(f"{TOP}/crates/test_texts/stdin", encoding="utf-8") as file:
         lines = file.read().split("\n%\n")[0].split("\n")
     examples = [json.loads(line) for line in lines if line.startswith('"')]
     return "".join(f"{text}\n" for text in examples) * 200

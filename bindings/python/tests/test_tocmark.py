@@ -19,7 +19,7 @@ from tocmark import _mdbook
 from tocmark._calls import _dumped
 
 HERE = os.path.dirname(os.path.realpath(__file__))
-EXAMPLES = os.path.join(HERE, "../../../crates/test_workbench/stdin")
+EXAMPLES = os.path.join(HERE, "../../../crates/test_texts/stdin")
 PARAGRAPH = [{"Start": "Paragraph"}, {"Text": "a"}, {"End": "Paragraph"}]
 FRONT = "---\ntitle:   x\n---\n\n"
 # What no writer would write so.

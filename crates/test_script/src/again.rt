@@ -1,10 +1,10 @@
 //! Runs of one script again: with a clone of the state behind each event, and with a writer or a reader that fails.
 
 use crate::runs::{Refusals, RunAnswer, refusals_of, run_with};
+use crate::script::{Call, Script};
 use crate::tally::Tally;
 use std::alloc::{AllocError, Global};
 use std::io::{self, Write};
-use test_script_answers::script::{Call, Script};
 
 /// A script with more events than these isn't run again.
 const MOST_EVENTS: usize = 300;

@@ -2,14 +2,14 @@
 
 use crate::cuts::write_cuts;
 use crate::fault::Fault;
+use crate::line_fault::{LineFault, NumberedFault};
+use crate::lines::ScriptLines;
 use crate::question::answers;
 use crate::rows::RowTrials;
 use crate::runs::run;
+use crate::script::Script;
 use std::alloc::{AllocError, Global};
 use std::io::{self, Write};
-use test_script_answers::line_fault::{LineFault, NumberedFault};
-use test_script_answers::lines::ScriptLines;
-use test_script_answers::script::Script;
 
 /// Scripts whose lines come one after the other.
 #[derive(Drop)]

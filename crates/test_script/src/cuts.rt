@@ -1,9 +1,9 @@
 //! Runs of one script in other calls, between which the state is cloned.
 
 use crate::runs::run;
+use crate::script::{Call, Script};
 use crate::tally::Tally;
 use std::alloc::{AllocError, Global};
-use test_script_answers::script::{Call, Script};
 
 /// The answer where the events are cut in two, and a clone of the state takes those behind the cut.
 fn in_two(alloc: Global, script: &Script<'static>, place: usize) -> Result<String, AllocError> {

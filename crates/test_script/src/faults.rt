@@ -1,9 +1,9 @@
 //! What can't be read in a script.
 
+use crate::errors::ended;
+use crate::line_fault::{LineFault, NumberedFault};
+use crate::lines::ScriptLines;
 use std::alloc::{AllocError, Global};
-use test_script_answers::errors::ended;
-use test_script_answers::line_fault::{LineFault, NumberedFault};
-use test_script_answers::lines::ScriptLines;
 
 /// Takes all lines of a script and its end.
 fn take_all<'l>(lines: &mut ScriptLines, script: &'l str) -> Result<(), NumberedFault<'l>> {

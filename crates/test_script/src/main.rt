@@ -1,28 +1,46 @@
 //! Runs scripts of events: reads them on standard input, and writes on standard output what each one is
 //! answered. The lines of scripts and of answers stand in `docs/SCRIPTS.md`.
 //!
+//! A `script` is read line by line (`lines`, `gathering`). A line is an event in JSON (`event_line`), or words and
+//! strings (`words`, `strings`) of a `statement` or an `option`; `line_fault` has what is wrong with one. `readers` has
+//! the reader of a script: the core reader, with a label more or without, a table of readings, or the reader of
+//! extensions.
+//!
 //! A `batch` answers scripts in turn: it makes the calls of one (`runs`, `cuts`), or answers its questions
-//! (`question`). With the argument `--rows` a line of an answer of more than 4,000 bytes is told by its length and
-//! digest (`short_lines`), and each script is also tried as a stored row (`rows`). Behind the answers stands what
-//! these trials came to.
+//! (`question`, `events`, `readings`). With the argument `--rows` a line of an answer of more than 4,000 bytes is told
+//! by its length and digest (`short_lines`), and each script is also tried as a stored row (`rows`). Behind the answers
+//! stands what these trials came to.
 #![tactic(auto)]
 
 mod again;
 mod alike;
 mod batch;
 mod cuts;
+mod errors;
+mod event_line;
+mod events;
 mod fault;
 mod faults;
+mod gathering;
+mod line_fault;
+mod lines;
 mod midst;
+mod option;
 mod question;
+mod readers;
+mod readings;
 mod report;
 mod rows;
 mod runs;
+mod script;
 mod short_lines;
+mod statement;
+mod strings;
 mod tally;
 mod trials;
 mod unit;
 mod valid;
+mod words;
 
 use crate::batch::Batch;
 use crate::fault::Fault;

@@ -1,14 +1,14 @@
 //! Questions of a script, and their answers.
 
+use crate::errors::error_name;
+use crate::events::write_events_answer;
 use crate::faults::write_fault;
+use crate::readings::{write_read, write_read_count, write_roundtrip};
+use crate::script::{Question, Script, ScriptQuestion, TextQuestion};
+use crate::strings::Quoted;
 use crate::valid::write_valid_count;
 use std::alloc::{AllocError, Global};
 use std::fmt;
-use test_script_answers::errors::error_name;
-use test_script_answers::events::write_events_answer;
-use test_script_answers::readings::{write_read, write_read_count, write_roundtrip};
-use test_script_answers::script::{Question, Script, ScriptQuestion, TextQuestion};
-use test_script_answers::strings::Quoted;
 use tocmark::core_reader::is_plain;
 use tocmark::event::LinkType;
 use tocmark::{Error, OptionsError};

@@ -12,12 +12,12 @@
 
 use crate::again::Again;
 use crate::report::Report;
+use crate::script::Script;
 use crate::trials::{Front, try_body, try_unit};
 use crate::unit::Unit;
 use std::alloc::{AllocError, Global};
 use std::io::{self, Write};
 use std::mem;
-use test_script_answers::script::Script;
 use tocmark_event::event::{Event, OwnedEvent, ParserOptions};
 use tocmark_event::options::{Error, Options};
 use tocmark_reader::CoreReader;

@@ -1,12 +1,12 @@
 //! Runs of a script.
 
+use crate::errors::error_name;
+use crate::event_line::{Events, RangedEvent, RangedEvents};
+use crate::readers::{CountedReader, ScriptReader};
+use crate::script::{Call, Script};
+use crate::strings::Quoted;
 use std::alloc::{AllocError, Global};
 use std::fmt;
-use test_script_answers::errors::error_name;
-use test_script_answers::event_line::{Events, RangedEvent, RangedEvents};
-use test_script_answers::readers::{CountedReader, ScriptReader};
-use test_script_answers::script::{Call, Script};
-use test_script_answers::strings::Quoted;
 use tocmark::{Error, Progress, State};
 
 /// The reader of one run.

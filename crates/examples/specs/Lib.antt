@@ -1,0 +1,4 @@
+pub mod Links
+pub mod Levels
+pub mod Chapters
+pub mod Headings
