@@ -126,7 +126,7 @@ spells-link : (m : ℕ) (d t i : List ℕ) (e : EventView) → Plain d t i → I
 spells-link m d t i e plain is bytes others =
     ap (λ xs. merged (said Texts xs others)) (three-apart m d t i bytes)
     ∙ ap merged
-    (first-said m d (late-one (nat_lt 75 m) (option_map (λ f. Start (f d t i)) (slice_get linked (m - 85))) e is.all) plain.first (t ++ 255 ∷ (i ++ 255 ∷ bytes)) others
+    (first-said m d (late-one (nat_lt 75 m) (option_map (λ f. Start (f d t i)) (slice_get linked (m - 86))) e is.all) plain.first (t ++ 255 ∷ (i ++ 255 ∷ bytes)) others
     ∙ ap (λ o. next_spelled o (said Texts (t ++ 255 ∷ (i ++ 255 ∷ bytes)) others) (said (Words m (d ∷ []) []) (t ++ 255 ∷ (i ++ 255 ∷ bytes)) others)) is.more
     ∙ words-said m (d ∷ []) t [] plain.second (i ++ 255 ∷ bytes) others
     ∙ words-said m (d ∷ t ∷ []) i [] plain.third bytes others

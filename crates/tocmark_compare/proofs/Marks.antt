@@ -1,7 +1,10 @@
--- The marks of Ends and Starts.
-use Rattle.std.proofs.Common.{◌≡◌, refl, ◌+◌, ◌-◌, ◌^◌, min, Some, None, true, false}
+-- The marks of Ends and Starts, and the bytes of alignments.
+use Rattle.std.proofs.Common.{◌≡◌, refl, ◌+◌, ◌-◌, ◌^◌, ◌==◌, min, Some, None, true, false, List, [], ◌∷◌, map}
+use Rattle.std.specs.List.{list_any}
 use Rattle.tocmark_event.specs.Ends.{end_code}
 use Rattle.tocmark_event.specs.View.{Image, Link, Start, End}
+use Rattle.tocmark_event.specs.declared.event.Alignment.{Alignment}
+use Rattle.tocmark_event.specs.declared.event.Alignment.TheVariants as alignment
 use Rattle.tocmark_event.specs.declared.event.BlockQuoteKind.TheVariants as quote
 use Rattle.tocmark_event.specs.declared.event.HeadingLevel.TheVariants as level
 use Rattle.tocmark_event.specs.declared.event.LinkType.{LinkType}
@@ -9,7 +12,7 @@ use Rattle.tocmark_event.specs.declared.event.LinkType.TheVariants as link
 use Rattle.tocmark_event.specs.declared.event.MetadataBlockKind.TheVariants as metadata
 use Rattle.tocmark_event.specs.declared.event.TagEnd.{TagEnd}
 use Rattle.tocmark_event.specs.declared.event.TagEnd.TheVariants as end
-use Rattle.tocmark_spelling.specs.SameEvents.{link_code}
+use Rattle.tocmark_spelling.specs.SameEvents.{alignment_code, link_code}
 use Rattle.tocmark_compare.specs.Digest.{IsLinkMark, marked, plain_start}
 
 -- each End has a mark, and so has the container that it says all of
@@ -88,7 +91,7 @@ start-marked (end.MetadataBlock metadata.YamlStyle) = refl
 start-marked (end.MetadataBlock metadata.PlusesStyle) = refl
 
 -- each type of link has a mark
-pub link-marked : (k : LinkType) → IsLinkMark (min (link_code k + 85) (2 ^ 8 - 1)) (λ d t i. Link k d t i)
+pub link-marked : (k : LinkType) → IsLinkMark (min (link_code k + 86) (2 ^ 8 - 1)) (λ d t i. Link k d t i)
 link-marked link.Inline = record { more = λ d. refl; all = λ d t i. refl }
 link-marked link.Reference = record { more = λ d. refl; all = λ d t i. refl }
 link-marked link.ReferenceUnknown = record { more = λ d. refl; all = λ d t i. refl }
@@ -102,7 +105,7 @@ link-marked (link.WikiLink false) = record { more = λ d. refl; all = λ d t i. 
 link-marked (link.WikiLink true) = record { more = λ d. refl; all = λ d t i. refl }
 
 -- each type of link has a mark of images
-pub image-marked : (k : LinkType) → IsLinkMark (min (link_code k + 96) (2 ^ 8 - 1)) (λ d t i. Image k d t i)
+pub image-marked : (k : LinkType) → IsLinkMark (min (link_code k + 97) (2 ^ 8 - 1)) (λ d t i. Image k d t i)
 image-marked link.Inline = record { more = λ d. refl; all = λ d t i. refl }
 image-marked link.Reference = record { more = λ d. refl; all = λ d t i. refl }
 image-marked link.ReferenceUnknown = record { more = λ d. refl; all = λ d t i. refl }
@@ -114,3 +117,11 @@ image-marked link.Autolink = record { more = λ d. refl; all = λ d t i. refl }
 image-marked link.Email = record { more = λ d. refl; all = λ d t i. refl }
 image-marked (link.WikiLink false) = record { more = λ d. refl; all = λ d t i. refl }
 image-marked (link.WikiLink true) = record { more = λ d. refl; all = λ d t i. refl }
+
+-- no alignment has the number 255
+pub codes-plain : (all : List Alignment) → list_any (λ b. b == 255) (map alignment_code all) ≡ false
+codes-plain [] = refl
+codes-plain (alignment.None ∷ all) = codes-plain all
+codes-plain (alignment.Left ∷ all) = codes-plain all
+codes-plain (alignment.Center ∷ all) = codes-plain all
+codes-plain (alignment.Right ∷ all) = codes-plain all

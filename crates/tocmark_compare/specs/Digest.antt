@@ -1,9 +1,11 @@
 -- What a digest says.
-use Rattle.std.specs.Prelude.{◌≡◌, ℕ, ◌-◌, nat_lt, length, true, false, List, [], ◌∷◌, ◌++◌, Option, Some, None, map, option_map, if◌then◌else◌, ◌==◌}
+use Rattle.std.specs.Prelude.{◌≡◌, ℕ, ◌-◌, nat_lt, length, true, false, List, [], ◌∷◌, ◌++◌, Option, Some, None, map, option_map, get_or, if◌then◌else◌, ◌==◌}
 use Rattle.std.specs.List.{list_any, slice_get}
 use Rattle.tocmark_event.specs.Merged.{merged}
 use Rattle.tocmark_event.specs.Text.{text_of}
-use Rattle.tocmark_event.specs.View.{Indented, Fenced, TagView, Paragraph, Heading, BlockQuote, CodeBlock, HtmlBlock, ListOf, Item, FootnoteDefinition, DefinitionList, DefinitionListTitle, DefinitionListDefinition, TableHead, TableRow, TableCell, Emphasis, Strong, Strikethrough, Superscript, Subscript, Link, Image, MetadataBlock, Text, Code, InlineMath, DisplayMath, Html, InlineHtml, FootnoteReference, SoftBreak, HardBreak, Rule, TaskListMarker, EventView, Start, End, Leaf, event_view}
+use Rattle.tocmark_event.specs.View.{Indented, Fenced, TagView, Paragraph, Heading, BlockQuote, CodeBlock, HtmlBlock, ListOf, Item, FootnoteDefinition, DefinitionList, DefinitionListTitle, DefinitionListDefinition, TableHead, TableRow, TableCell, Emphasis, Strong, Strikethrough, Superscript, Subscript, Link, Image, MetadataBlock, Table, Text, Code, InlineMath, DisplayMath, Html, InlineHtml, FootnoteReference, SoftBreak, HardBreak, Rule, TaskListMarker, EventView, Start, End, Leaf, event_view}
+use Rattle.tocmark_event.specs.declared.event.Alignment.{Alignment}
+use Rattle.tocmark_event.specs.declared.event.Alignment.TheVariants as alignment
 use Rattle.tocmark_event.specs.declared.event.BlockQuoteKind.TheVariants as quote
 use Rattle.tocmark_event.specs.declared.event.HeadingLevel.TheVariants as level
 use Rattle.tocmark_event.specs.declared.event.LinkType.{LinkType}
@@ -57,12 +59,19 @@ marks =
 abbrev pub marked : ℕ → Option EventView
 marked m = slice_get marks m
 
--- the events with one text, each at its mark less 76; that of an ordered list is its first number as a byte
+-- the alignment with a number, by which alignments are compared
+abbrev pub alignment_of : ℕ → Alignment
+alignment_of n =
+    get_or (alignment.None ∷ alignment.Left ∷ alignment.Center ∷ alignment.Right ∷ []) n alignment.None
+
+-- the events with one text, each at its mark less 76; that of an ordered list is its first number as a byte, that of a table
+-- the number of each column's alignment
 abbrev pub worded : List (List ℕ → EventView)
 worded =
     (λ t. Leaf (Code t)) ∷ (λ t. Leaf (InlineMath t)) ∷ (λ t. Leaf (DisplayMath t)) ∷ (λ t. Leaf (Html t))
     ∷ (λ t. Leaf (InlineHtml t)) ∷ (λ t. Leaf (FootnoteReference t)) ∷ (λ t. Start (CodeBlock (Fenced t)))
-    ∷ (λ t. Start (FootnoteDefinition t)) ∷ (λ t. Start (ListOf (slice_get t 0))) ∷ []
+    ∷ (λ t. Start (FootnoteDefinition t)) ∷ (λ t. Start (ListOf (slice_get t 0)))
+    ∷ (λ t. Start (Table (map alignment_of t))) ∷ []
 
 -- the types of links, in the order of the numbers by which they are compared
 abbrev pub link_types : List LinkType
@@ -70,7 +79,7 @@ link_types =
     link.Inline ∷ link.Reference ∷ link.ReferenceUnknown ∷ link.Collapsed ∷ link.CollapsedUnknown ∷ link.Shortcut
     ∷ link.ShortcutUnknown ∷ link.Autolink ∷ link.Email ∷ link.WikiLink false ∷ link.WikiLink true ∷ []
 
--- the links and images, which have a destination, a title and a label, each at its mark less 85
+-- the links and images, which have a destination, a title and a label, each at its mark less 86
 abbrev pub linked : List (List ℕ → List ℕ → List ℕ → TagView)
 linked = map (λ k. Link k) link_types ++ map (λ k. Image k) link_types
 
@@ -78,7 +87,7 @@ linked = map (λ k. Link k) link_types ++ map (λ k. Image k) link_types
 abbrev pub spelled : ℕ → List (List ℕ) → Option EventView
 spelled m (t ∷ []) = if nat_lt 75 m then option_map (λ event. event t) (slice_get worded (m - 76)) else None
 spelled m (d ∷ t ∷ i ∷ []) =
-    if nat_lt 75 m then option_map (λ tag. Start (tag d t i)) (slice_get linked (m - 85)) else None
+    if nat_lt 75 m then option_map (λ tag. Start (tag d t i)) (slice_get linked (m - 86)) else None
 spelled m texts = None
 
 -- what is awaited: texts, a mark, or more of the texts behind a mark, of which some have ended

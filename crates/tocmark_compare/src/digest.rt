@@ -4,14 +4,15 @@ ghost use Rattle.std.specs.Prelude.{◌≡◌, ◌==◌, ◌++◌, ◌∷◌, []
 ghost use Rattle.std.specs.List.{list_any};
 ghost use Rattle.tocmark_event.specs.Merged.{merged};
 ghost use Rattle.tocmark_event.specs.Text.{text_of};
-ghost use Rattle.tocmark_event.specs.View.{End, EventView, Image, Link, Start, end_of, event_view, tag_view};
+ghost use Rattle.tocmark_event.specs.View.{End, EventView, Image, Link, Start, Table, end_of, event_view, tag_view};
+ghost use Rattle.tocmark_spelling.specs.SameEvents.{alignment_code};
 ghost use Rattle.tocmark_compare.specs.Digest.{Adds, IsLinkMark, IsLinkOf, IsTextOf, SaysFirst, marked, plain_start, says, spelled};
 ghost use Rattle.tocmark_compare.specs.Given.{given_events};
 
 use crate::event::same_events;
-use crate::number::{end_number, link_number};
+use crate::number::{alignment_number, end_number, link_number};
 use std::alloc::{AllocError, Global};
-use tocmark_event::event::{CodeBlockKind, Event, LinkType, Tag, TagEnd};
+use tocmark_event::event::{Alignment, CodeBlockKind, Event, LinkType, Tag, TagEnd};
 
 /// What stands before a mark. No text has such a byte.
 const SIGN: u8 = 255;
@@ -47,11 +48,13 @@ const FENCED: u8 = 82;
 const FOOTNOTE: u8 = 83;
 /// The mark of an ordered list with a small first number, which is a text of one byte.
 const NUMBER: u8 = 84;
+/// The mark of a table, whose text has a byte for each column: the number of its alignment.
+const TABLE: u8 = 85;
 /// The first mark of a link, behind which stand its destination, title and label, and a sign behind each. Each type of
 /// link has a mark.
-const LINKS: u8 = 85;
+const LINKS: u8 = 86;
 /// The first mark of an image.
-const IMAGES: u8 = 96;
+const IMAGES: u8 = 97;
 
 /// What a list of events says: a byte for each byte of its texts, two for an event without a text, a byte more for each
 /// text of another event, as a link has three, and an event of its own for one with more to it, as a heading with
@@ -171,6 +174,16 @@ fn number_of(event: &Event<'_>) -> Option<u8>
     }
 }
 
+/// The alignments of the columns of a table that starts.
+fn alignments_of<'e>(event: &'e Event<'_>) -> Option<&'e [Alignment]>
+    ensures { IfSome result (λ all. event_view text_of event.now ≡ Start (Table all.now)) }
+{
+    match event {
+        Event::Start(Tag::Table(alignments)) => Some(alignments.as_slice()),
+        _ => None,
+    }
+}
+
 /// The mark of a link.
 fn link_mark(link: LinkType) -> u8
     ensures { IsLinkMark result (λ d t i. Link link d t i) }
@@ -249,7 +262,7 @@ fn can_stand(text: &str) -> bool
 enum Next {
     Text,
     Mark,
-    /// A byte of the texts behind a mark, of which so many haven't ended.
+    /// A byte of a text behind a mark. The number counts this text and those behind it.
     Words(u8),
 }
 
@@ -274,7 +287,7 @@ impl Walk {
     fn take_mark(&mut self, mark: u8, others: &[Event<'static>]) {
         self.next = match mark {
             0..=OTHER => Next::Text,
-            CODE..=NUMBER => Next::Words(1),
+            CODE..=TABLE => Next::Words(1),
             _ => Next::Words(3),
         };
         match mark {
@@ -371,6 +384,33 @@ impl Digest {
         Ok(true)
     }
 
+    /// Puts the number of each alignment.
+    fn put_alignments(&mut self, alignments: &[Alignment]) -> Result<(), AllocError>
+        ensures bytes { OnOk result (self.new.bytes.items
+            ≡ self.old.bytes.items ++ map alignment_code alignments.now) }
+        ensures others { self.new.others ≡ self.old.others }
+    {
+        for alignment in alignments {
+            self.bytes.push(alignment_number(*alignment))?;
+        }
+        Ok(())
+    }
+
+    /// Puts the start of a table; whether the event is one.
+    fn put_table(&mut self, event: &Event<'_>) -> Result<bool, AllocError>
+        ensures done { IfOk result (λ done. done ≡ true
+            → Adds self.old self.new (event_view text_of event.now)) }
+        ensures not_done { IfOk result (λ done. done ≡ false → self.new ≡ self.old) }
+    {
+        let Some(alignments) = alignments_of(event) else {
+            return Ok(false);
+        };
+        self.put_mark(TABLE)?;
+        self.put_alignments(alignments)?;
+        self.put_bytes(&[SIGN])?;
+        Ok(true)
+    }
+
     /// Puts a link or an image, if it can stand among the bytes; whether it does.
     fn put_linked(&mut self, event: &Event<'_>) -> Result<bool, AllocError>
         ensures done { IfOk result (λ done. done ≡ true
@@ -419,6 +459,9 @@ impl Digest {
             return Ok(());
         }
         if self.put_worded(event)? {
+            return Ok(());
+        }
+        if self.put_table(event)? {
             return Ok(());
         }
         if self.put_linked(event)? {

@@ -25,4 +25,6 @@ returns c =
     (c.in_ok-put_other.ensures.others
     ∙ ap (λ os. map (event_view text_of) os.items ++ e ∷ []) c.put_mark-2.ensures.others) in
     subst (λ (d : Digest). Adds d c.put_other.new.self e)
-    (c.in_ok-put_linked.ensures.not_done c.if-branch-2.false ∙ c.in_ok-put_worded.ensures.not_done c.if-branch.false) adds
+    (c.in_ok-put_linked.ensures.not_done c.if-branch-3.false
+    ∙ c.in_ok-put_table.ensures.not_done c.if-branch-2.false
+    ∙ c.in_ok-put_worded.ensures.not_done c.if-branch.false) adds
