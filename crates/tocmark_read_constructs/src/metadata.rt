@@ -1,6 +1,7 @@
 //! Metadata: the lines that open and close it, and where it begins.
 
 ghost use Rattle.std.specs.Prelude.{◌≡◌, OnOk};
+ghost use Rattle.tocmark_event.specs.declared.event.MetadataBlockKind.TheVariants as metadata;
 ghost use Rattle.tocmark_read_constructs.specs.Metadata.{is_triple, ends_line, is_blank_line, mark_of, has_dots, opens_metadata, closes_metadata, last_step, last_closing, known_of, begins_metadata, metadata_started, is_outside, is_front, metadata_in};
 ghost use Rattle.tocmark_read_lines.specs.Lines.{lines_of};
 ghost use Rattle.tocmark_read_page.specs.Pages.{page};
@@ -89,24 +90,31 @@ fn last_step(kind: MetadataBlockKind, text: &[u8], last: usize, line: Line) -> u
     }
 }
 
-/// The number of the last line of a text that closes metadata of a kind. 0 if none does.
+/// The numbers of the last lines of a text that close metadata, with dashes and with pluses. 0 if none does.
 #[tactic(auto, using(tocmark_read_lines::proofs::LineEnds::lines_by_places))]
-fn last_closing(kind: MetadataBlockKind, text: &[u8]) -> usize
-    ensures { result ≡ last_closing kind text.now (lines_of text.now) }
+fn last_closings(text: &[u8]) -> (usize, usize)
+    ensures yaml { result.0 ≡ last_closing metadata.YamlStyle text.now (lines_of text.now) }
+    ensures pluses { result.1 ≡ last_closing metadata.PlusesStyle text.now (lines_of text.now) }
 {
-    let mut last = 0;
+    let (dashes, plus) = (MetadataBlockKind::YamlStyle, MetadataBlockKind::PlusesStyle);
+    let mut yaml = 0;
+    let mut pluses = 0;
     let mut before = 0;
     let mut start = 0;
     for at in memchr2_iter(b'\n', b'\r', text) {
         if let Some(line) = line_ended(text, before, start, at) {
-            last = last_step(kind, text, last, line);
+            yaml = last_step(dashes, text, yaml, line);
+            pluses = last_step(plus, text, pluses, line);
             before = line.number;
             start = line.next;
         }
     }
     match line_left(before, start, text.len()) {
-        Some(line) => last_step(kind, text, last, line),
-        None => last,
+        Some(line) => (
+            last_step(dashes, text, yaml, line),
+            last_step(plus, text, pluses, line),
+        ),
+        None => (yaml, pluses),
     }
 }
 
@@ -115,20 +123,15 @@ fn last_closing(kind: MetadataBlockKind, text: &[u8]) -> usize
 pub fn known_of(syntax: Syntax, text: &[u8]) -> Known
     ensures { result ≡ known_of syntax text.now (lines_of text.now) }
 {
-    let yaml_end = if syntax.yaml_metadata {
-        last_closing(MetadataBlockKind::YamlStyle, text)
+    let (yaml, pluses) = if syntax.yaml_metadata || syntax.pluses_metadata {
+        last_closings(text)
     } else {
-        0
-    };
-    let pluses_end = if syntax.pluses_metadata {
-        last_closing(MetadataBlockKind::PlusesStyle, text)
-    } else {
-        0
+        (0, 0)
     };
     Known {
         syntax,
-        yaml_end,
-        pluses_end,
+        yaml_end: if syntax.yaml_metadata { yaml } else { 0 },
+        pluses_end: if syntax.pluses_metadata { pluses } else { 0 },
     }
 }
 
