@@ -425,6 +425,15 @@ impl PackedBlock {
         Ok(())
     }
 
+    /// The block, where that is seldom needed: its fields would make the callers long.
+    #[cold]
+    #[inline(never)]
+    fn unpacked(&self) -> Block
+        ensures { result ≡ self.now }
+    {
+        self.block()
+    }
+
     /// Ends the block, behind its last piece.
     pub fn finish(&mut self, alloc: Global, end: usize, last: usize) -> Result<(), AllocError>
         ensures { OnOk result (self.new ≡ record self.old { end = end; last = last }) }
@@ -432,7 +441,7 @@ impl PackedBlock {
         if set_end(&mut self.form, end) && set_last(&mut self.form, last) {
             return Ok(());
         }
-        let block = self.block();
+        let block = self.unpacked();
         self.replace(alloc, Block { end, last, ..block })
     }
 
@@ -443,7 +452,7 @@ impl PackedBlock {
         if self.start() == start {
             return Ok(());
         }
-        let block = self.block();
+        let block = self.unpacked();
         self.replace(alloc, Block { start, ..block })
     }
 
@@ -454,7 +463,7 @@ impl PackedBlock {
         if self.first() == first {
             return self.set_start(alloc, start);
         }
-        let block = self.block();
+        let block = self.unpacked();
         self.replace(
             alloc,
             Block {
@@ -472,7 +481,7 @@ impl PackedBlock {
         if set_end(&mut self.form, end) {
             return Ok(());
         }
-        let block = self.block();
+        let block = self.unpacked();
         self.replace(alloc, Block { end, ..block })
     }
 
