@@ -606,6 +606,8 @@ impl<R: PartReader> Formatter<'_, R> {
 /// `also` it has the same blocks as before (`also`): what they say is compared under `flags` alone. A byte order mark stays
 /// in front, and what stands behind it reads as before also without it.
 ///
+/// It fails if memory runs out, or if a line begins behind 4 GiB.
+///
 /// ```
 /// let answer = formatted(alloc, "a\n=\n -  b\n", &CoreReader, ParserOptions::empty(), Style::new(), &[])?;
 /// assert_eq!(rt; answer.text.as_str(), "# a\n\n- b\n");

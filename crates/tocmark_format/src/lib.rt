@@ -6,7 +6,7 @@
 //! by part. `printer` walks over the events; `page` has what is printed and the containers that are open; `leaf`, `table`,
 //! `container` and `definitions` print the blocks; `kept`, `spans`, `columns` and `dialect` say which keep their lines.
 //! `inline` makes `piece`s of events, and `lines` and `fill` make lines of these. `summary` and `shape` compare two texts.
-//! `blocks` and `numbers` keep in little memory what stands where.
+//! `line_starts`, `blocks` and `numbers` keep in little memory what stands where.
 //!
 //! What is printed is read again and compared, so all that stands between can be changed freely.
 #![tactic(auto)]
@@ -23,6 +23,7 @@ mod hazard;
 mod inline;
 mod kept;
 mod leaf;
+mod line_starts;
 mod lines;
 mod link;
 mod look;

@@ -2,19 +2,9 @@
 
 ghost use Rattle.std.specs.Prelude.{◌≡◌, IfOk};
 
+use crate::line_starts::LineStarts;
 use crate::spans::{Span, spans_of};
 use std::alloc::{AllocError, Global};
-
-/// How many bytes of a text share an entry of the index of its lines.
-const STRETCH: usize = 64;
-
-/// Where the lines of a text begin.
-#[derive(Drop)]
-struct LineStarts {
-    starts: Vec<usize>,
-    /// For each stretch of bytes the number of the line that its first byte stands on.
-    index: Vec<usize>,
-}
 
 /// A text, and where its lines begin.
 #[derive(Drop)]
@@ -40,64 +30,13 @@ pub(crate) fn without_blanks(text: &str) -> &str {
     without_end_blanks(text.trim_start_matches(&[' ', '\t']))
 }
 
-impl LineStarts {
-    fn of(alloc: Global, text: &str) -> Result<LineStarts, AllocError> {
-        let mut lines = LineStarts {
-            starts: Vec::new(alloc),
-            index: Vec::new(alloc),
-        };
-        lines.add_all(text)?;
-        Ok(lines)
-    }
-
-    /// Adds the lines of a text.
-    fn add_all(&mut self, text: &str) -> Result<(), AllocError> {
-        self.index
-            .reserve((text.len() / STRETCH).saturating_add(1))?;
-        let mut at = 0usize;
-        for line in text.split('\n') {
-            self.index_to(at)?;
-            self.starts.push(at)?;
-            at = at.saturating_add(line.len()).saturating_add(1);
-        }
-        self.index_to(at)
-    }
-
-    /// Indexes the bytes before a place: they stand on the last line, or are indexed already.
-    fn index_to(&mut self, at: usize) -> Result<(), AllocError> {
-        let line = self.starts.len().saturating_sub(1);
-        let count = at.saturating_add(STRETCH - 1) / STRETCH;
-        for _ in self.index.len()..count {
-            self.index.push(line)?;
-        }
-        Ok(())
-    }
-
-    /// The number of the line that a place stands on, counted from 0. The place stands in the text, or just behind it.
-    fn line_of(&self, at: usize) -> usize {
-        let mut line = self.index.get(at / STRETCH).copied().unwrap_or(0);
-        for _ in 0..STRETCH {
-            match self.starts.get(line.saturating_add(1)) {
-                Some(next) if *next <= at => line = line.saturating_add(1),
-                _ => break,
-            }
-        }
-        line
-    }
-
-    /// Where a line begins by its number.
-    fn start(&self, number: usize) -> Option<usize> {
-        self.starts.get(number).copied()
-    }
-}
-
 impl<'s> Source<'s> {
     /// A text whose lines end with line feeds.
     pub(crate) fn new(alloc: Global, text: &'s str) -> Result<Source<'s>, AllocError>
         ensures { IfOk result (λ source. source.text.now ≡ text.now) }
     {
         let lines = LineStarts::of(alloc, text)?;
-        let spans = spans_of(alloc, text, &lines.starts)?;
+        let spans = spans_of(alloc, text, &lines)?;
         Ok(Source { text, lines, spans })
     }
 

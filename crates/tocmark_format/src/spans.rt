@@ -2,6 +2,7 @@
 //! tables of pandoc, and what stands between a tag of Liquid, a shortcode of Hugo or a command of Doxygen and its closing one.
 
 use crate::columns::Columns;
+use crate::line_starts::LineStarts;
 use crate::source::{is_blank, without_end_blanks};
 use std::alloc::{AllocError, Global};
 
@@ -244,18 +245,19 @@ fn add_spans(
     alloc: Global,
     spans: &mut Vec<Span>,
     text: &str,
-    starts: &[usize],
+    starts: &LineStarts,
 ) -> Result<(), AllocError> {
     let mut open = Vec::new(alloc);
     let mut columns = Columns::new();
-    for (number, start) in starts.iter().enumerate() {
-        let next = starts.get(number.saturating_add(1)).copied();
+    for number in 0..starts.len() {
+        let start = starts.start(number).unwrap_or(text.len());
+        let next = starts.start(number.saturating_add(1));
         let end = next.map_or(text.len(), |next| next.saturating_sub(1));
-        let line = text.get(*start..end).unwrap_or("");
-        if let Some((from, to)) = columns.take(line, *start) {
+        let line = text.get(start..end).unwrap_or("");
+        if let Some((from, to)) = columns.take(line, start) {
             add_span(spans, Span { from, to })?;
         }
-        if let Some(span) = tagged(&mut open, line, *start)? {
+        if let Some(span) = tagged(&mut open, line, start)? {
             add_span(spans, span)?;
         }
     }
@@ -269,7 +271,7 @@ fn add_spans(
 pub(crate) fn spans_of(
     alloc: Global,
     text: &str,
-    starts: &[usize],
+    starts: &LineStarts,
 ) -> Result<Vec<Span>, AllocError> {
     let mut spans = Vec::new(alloc);
     if let Some(to) = front_end(text) {
