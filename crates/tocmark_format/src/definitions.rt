@@ -128,6 +128,7 @@ impl Printer<'_> {
         if are_white(source.bytes(from, end)) {
             return Ok(());
         }
+        self.keep_lazy_definitions(from, end);
         let text = self.gap_text(from, end)?;
         self.print_gap_text(text.as_str(), from, end)
     }

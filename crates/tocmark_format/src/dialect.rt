@@ -1,6 +1,7 @@
 //! Other dialects of Markdown. Their blocks are text to the reader; here they keep their lines, and what stands below them.
 
 use crate::page::{Kind, Place};
+use crate::part::{Mark, Part};
 use crate::printer::Printer;
 use crate::style::Wrap;
 use std::alloc::AllocError;
@@ -186,6 +187,19 @@ fn ends_with_box(line: &str) -> bool {
     }
 }
 
+/// Whether a line begins with the definition of a link, behind markers and signs of quotes.
+fn begins_link_definition(line: &str) -> bool {
+    let mut text = line;
+    for _ in 0..NEAR {
+        text = text.trim_start_matches(&[' ', '\t', '>']);
+        match behind_marker(text) {
+            Some(behind) => text = behind,
+            None => break,
+        }
+    }
+    text.starts_with('[') && text.contains("]:")
+}
+
 /// Whether a line could be the delimiter row of a table. One of a single column may have a colon in place of a bar.
 fn is_delimiter_row(line: &str) -> bool {
     let bytes = line.as_bytes();
@@ -238,10 +252,24 @@ impl Printer<'_> {
         false
     }
 
-    /// Whether a paragraph whose lines don't stay has a line that could be the delimiter row of a table. GitHub lets a table
-    /// begin anywhere in a paragraph, also below a header without a bar.
+    /// Whether a row of a table is one tag. To GitHub the table ends before it.
+    fn has_tag_row(&self, start: usize, end: usize) -> bool {
+        let source = self.source;
+        let third = source.line_of(start).saturating_add(2);
+        let last = source.line_of(end.saturating_sub(1));
+        for line in third..=last {
+            let row = self.bare_line(line);
+            if is_lone_tag(row) && row.rfind('<') == Some(0) {
+                return true;
+            }
+        }
+        false
+    }
+
+    /// Whether a paragraph has a line that could be the delimiter row of a table, and its lines don't stay, or one is indented
+    /// like code. GitHub lets a table begin anywhere in a paragraph, also below a header without a bar.
     fn has_table(&self, start: usize, end: usize) -> bool {
-        if self.look.wrap == Wrap::Keep {
+        if self.look.wrap == Wrap::Keep && !self.has_deep_row(start, end) {
             return false;
         }
         let source = self.source;
@@ -300,11 +328,79 @@ impl Printer<'_> {
         false
     }
 
-    /// Whether a list or a quote ends with the box of a task alone, and the next line isn't blank. To GitHub both lines are
-    /// text. Of both lines it looks at a few bytes, because many lists may end in one line.
-    fn ends_with_bare_task(&self, end: usize) -> bool {
+    /// Whether fenced code stands behind a tab that a list cuts with two columns or more left over. `cmark-gfm` puts blanks in
+    /// front of such code.
+    fn has_cut_tab(&self, start: usize) -> bool {
+        let source = self.source;
+        matches!(
+            source.bytes(start, start.saturating_add(1)).first(),
+            Some(b'`' | b'~')
+        ) && self.page.front(source, start).spare > 1
+    }
+
+    /// Whether what stands between two places goes on on a lazy line that begins with blanks.
+    fn goes_on_lazily(&self, from: usize, to: usize) -> bool {
+        let source = self.source;
+        let second = source.line_of(from).saturating_add(1);
+        let last = source.line_of(to);
+        for line in second..=last {
+            let place = self.page.stripped(source, source.start_of(line));
+            let text = source.past_blanks(place.at);
+            if !place.is_met && text > place.at && source.byte(text) != b'\n' {
+                return true;
+            }
+        }
+        false
+    }
+
+    /// Keeps the lines of the block at the top if a paragraph in it has a code span, a tag or a hard break that goes on on a
+    /// lazy line that begins with blanks: `cmark-gfm` shows these blanks.
+    pub(crate) fn keep_lazy_inlines(&mut self, part: &Part, events: (usize, usize)) {
+        if self.page.depth() == 0 {
+            return;
+        }
+        for event in events.0..events.1 {
+            if let Some(Mark::Code | Mark::Other | Mark::HardBreak) = part.event(event) {
+                let (from, to) = part.range(event);
+                if self.goes_on_lazily(from, to) {
+                    self.keep_top();
+                    return;
+                }
+            }
+        }
+    }
+
+    /// Keeps the lines of the block at the top if definitions of links between two places go on on a lazy line that begins
+    /// with blanks: to `cmark-gfm` that is text.
+    pub(crate) fn keep_lazy_definitions(&mut self, from: usize, end: usize) {
+        if self.page.depth() > 0 && self.goes_on_lazily(from, end.saturating_sub(1)) {
+            self.keep_top();
+        }
+    }
+
+    /// Lets the block at the top keep its lines, because other programs read something in it otherwise.
+    fn keep_top(&mut self) {
+        self.has_misread = true;
+        self.page.stop();
+    }
+
+    /// Whether other programs read a block in a container otherwise, so that the block at the top has to keep its lines.
+    fn is_misread(&self, kind: Kind, start: usize, end: usize) -> bool {
+        match kind {
+            Kind::Paragraph => self.has_lazy_tag(start, end),
+            Kind::Code => self.has_cut_tab(start),
+            _ => false,
+        }
+    }
+
+    /// Whether a line with text follows on a list or a quote that ends with the box of a task alone or with the definition of
+    /// a link. To GitHub the box and that line are text, and without a blank line the definition makes its list loose. Of
+    /// both lines it looks at a few bytes, because many lists may end in one line.
+    fn ends_openly(&self, end: usize) -> bool {
         let source = self.source;
         let front = source.line_start(end.saturating_sub(1));
+        let behind = source.text.floor_char_boundary(front.saturating_add(NEAR));
+        let first = source.slice(front, behind.min(end));
         let last = source.slice(front.max(end.saturating_sub(NEAR)), end);
         let next = source.line_end(end.saturating_sub(1)).saturating_add(1);
         let has_text = source
@@ -312,7 +408,7 @@ impl Printer<'_> {
             .iter()
             .take_while(|byte| **byte != b'\n')
             .any(|byte| !matches!(*byte, b' ' | b'\t' | b'>'));
-        has_text && ends_with_box(last)
+        has_text && (ends_with_box(last) || begins_link_definition(first))
     }
 
     /// Whether a list has a marker alone on its line, and a task in a list below it. On one line GitHub shows no box.
@@ -348,14 +444,18 @@ impl Printer<'_> {
                     || self.has_table(start, end)
                     || self.has_keys(start, end)
             }
-            Kind::Table => self.has_foreign_line(start, end, false),
+            Kind::Table => {
+                self.has_foreign_line(start, end, false)
+                    || self.has_tag_row(start, end)
+                    || self.is_read_otherwise(start, end)
+            }
             Kind::List | Kind::Quote if self.page.depth() == 0 => {
                 self.begins_fenced_quote(start)
                     || self.has_foreign_line(start, end, true)
                     || self.has_task_below_marker(start, end)
-                    || self.ends_with_bare_task(end)
+                    || self.ends_openly(end)
             }
-            Kind::List => self.ends_with_bare_task(end),
+            Kind::List => self.ends_openly(end),
             _ => false,
         }
     }
@@ -395,9 +495,8 @@ impl Printer<'_> {
 
     /// Whether a block belongs to another dialect: it has a line of that, or it stands below such a block, deeper indented.
     pub(crate) fn is_foreign(&mut self, kind: Kind, start: usize, end: usize) -> bool {
-        if kind == Kind::Paragraph && self.page.depth() > 0 && self.has_lazy_tag(start, end) {
-            self.has_tag = true;
-            self.page.stop();
+        if self.page.depth() > 0 && self.is_misread(kind, start, end) {
+            self.keep_top();
         }
         if self.is_below_foreign(start) {
             return true;
@@ -405,6 +504,9 @@ impl Printer<'_> {
         let depth = self.page.depth();
         let is_foreign = self.has_foreign(kind, start, end);
         if is_foreign {
+            if depth > 0 && self.goes_on_lazily(start, end.saturating_sub(1)) {
+                self.keep_top();
+            }
             self.begin_foreign(start);
         } else if self.foreign.is_some_and(|above| above.depth >= depth) {
             self.foreign = None;

@@ -316,6 +316,12 @@ impl<'d, 'p, 'g> Inlines<'d, 'p, 'g> {
         ends_with_address(source.slice(front.max(from), place))
     }
 
+    /// Whether emphasis with underscores ends with a link, an image or a code span, so that no bare address takes them.
+    fn ends_with_link(&self, start: usize, end: usize) -> bool {
+        let inner = self.context.source.slice(start, end).trim_end_matches('_');
+        inner.ends_with(&[')', ']', '>', '`'])
+    }
+
     /// Whether another sign than the source's can stand round a stretch of it.
     fn fits(&self, sign: u8, range: (usize, usize)) -> bool {
         let (start, end) = range;
@@ -333,7 +339,7 @@ impl<'d, 'p, 'g> Inlines<'d, 'p, 'g> {
         if sign == b'_' && (hinders_underscore(before) || hinders_underscore(behind)) {
             return false;
         }
-        if sign == b'_' && self.is_in_address(start, end) {
+        if self.is_in_address(start, end) && !(sign == b'*' && self.ends_with_link(start, end)) {
             return false;
         }
         let is_in_changed = match self.open.last() {

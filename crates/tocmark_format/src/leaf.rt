@@ -204,6 +204,7 @@ impl<'d> Printer<'d> {
         if let Some(text) = self.only_text(part, events, start) {
             return self.page.line(text);
         }
+        self.keep_lazy_inlines(part, events);
         let (pieces, _) = self.pieces_of(part, events, start)?;
         let printed = self.print_pieces(&pieces);
         self.keep_room(pieces);

@@ -56,8 +56,8 @@ pub(crate) struct Printer<'d> {
     pub(crate) kept: Option<Stretch>,
     /// Where the last code ends that has a tag of another program.
     pub(crate) code_end: usize,
-    /// Whether the block at the top has a tag that other programs read as a block of its own.
-    pub(crate) has_tag: bool,
+    /// Whether other programs read something in the block at the top otherwise, so that it keeps its lines.
+    pub(crate) has_misread: bool,
     /// The last block of another dialect, as long as only blocks below it came.
     pub(crate) foreign: Option<Foreign>,
 }
@@ -84,7 +84,7 @@ impl<'d> Printer<'d> {
             is_cut: false,
             kept: None,
             code_end: 0,
-            has_tag: false,
+            has_misread: false,
             foreign: None,
         }
     }
@@ -193,15 +193,15 @@ impl<'d> Printer<'d> {
 
     /// Prints the block at the top anew, by its lines of the source; what it is then.
     fn print_anew(&mut self, kind: Kind) -> Result<Kind, AllocError> {
-        let has_tag = self.has_tag;
-        self.has_tag = false;
+        let has_misread = self.has_misread;
+        self.has_misread = false;
         self.page.limit(usize::MAX);
         let Some(block) = self.blocks.last() else {
             return Ok(kind);
         };
         self.page.take_back(block.start);
         self.print_lines(block.range.0, block.range.1)?;
-        if has_tag {
+        if has_misread {
             self.begin_foreign(block.range.0);
             return Ok(Kind::Foreign);
         }

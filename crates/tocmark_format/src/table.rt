@@ -233,7 +233,7 @@ impl Printer<'_> {
     }
 
     /// Whether other programs read no table there, or a shorter one.
-    fn is_read_otherwise(&self, start: usize, end: usize) -> bool {
+    pub(crate) fn is_read_otherwise(&self, start: usize, end: usize) -> bool {
         self.has_row_like_item(start) || self.has_odd_dashes(start) || self.has_deep_row(start, end)
     }
 
@@ -332,14 +332,13 @@ impl Printer<'_> {
         self.page.line(line.as_str())
     }
 
-    /// Prints a table with columns of one width. It keeps its lines if a cell is in no event, and if other programs read no
-    /// table there.
+    /// Prints a table with columns of one width. It keeps its lines if a cell is in no event.
     fn print_with(&mut self, cells: &mut Cells, part: &Part, at: usize) -> Result<(), AllocError> {
         let range = part.range(at);
-        if self.is_read_otherwise(range.0, range.1) || !self.add_cells(cells, part, at)? {
-            self.print_lines(range.0, range.1)
-        } else {
+        if self.add_cells(cells, part, at)? {
             self.print_rows(cells, part.alignments(at), range)
+        } else {
+            self.print_lines(range.0, range.1)
         }
     }
 
