@@ -175,6 +175,9 @@ fn run(rt: &HostRuntime) -> io::Result<()> {
 fn main(rt: HostRuntime) -> ExitCode {
     match run(&rt) {
         Ok(()) => ExitCode::SUCCESS,
-        Err(_) => ExitCode::FAILURE,
+        Err(error) => {
+            let _ = eprintln!(rt; "test_texts: {error}");
+            ExitCode::FAILURE
+        }
     }
 }

@@ -24,7 +24,7 @@ pub enum Fault {
     NotOptions(OptionsTextError),
     #[error("standard input is not UTF-8")]
     NotUtf8,
-    #[error("standard input is no JSON: {0}")]
+    #[error("standard input is no JSON: {0} (--lines reads an event from each line)")]
     NotJson(serde_json::Error),
     #[error("{0}")]
     NotEvents(JsonError),
