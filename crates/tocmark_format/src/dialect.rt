@@ -197,7 +197,7 @@ fn begins_link_definition(line: &str) -> bool {
             None => break,
         }
     }
-    text.starts_with('[') && text.contains("]:")
+    text.starts_with('[') && !text.starts_with("[^") && text.contains("]:")
 }
 
 /// Whether a line could be the delimiter row of a table. One of a single column may have a colon in place of a bar.
@@ -393,9 +393,9 @@ impl Printer<'_> {
         }
     }
 
-    /// Whether a line with text follows on a list or a quote that ends with the box of a task alone or with the definition of
-    /// a link. To GitHub the box and that line are text, and without a blank line the definition makes its list loose. Of
-    /// both lines it looks at a few bytes, because many lists may end in one line.
+    /// Whether a line with text follows, in the same container, on a list or a quote that ends with the box of a task alone or
+    /// with the definition of a link. To GitHub the box and that line are text, and without a blank line the definition makes
+    /// its list loose. Of both lines it looks at a few bytes, because many lists may end in one line.
     fn ends_openly(&self, end: usize) -> bool {
         let source = self.source;
         let front = source.line_start(end.saturating_sub(1));
@@ -408,7 +408,9 @@ impl Printer<'_> {
             .iter()
             .take_while(|byte| **byte != b'\n')
             .any(|byte| !matches!(*byte, b' ' | b'\t' | b'>'));
-        has_text && (ends_with_box(last) || begins_link_definition(first))
+        has_text
+            && (ends_with_box(last) || begins_link_definition(first))
+            && self.page.stripped(source, next).is_met
     }
 
     /// Whether a list has a marker alone on its line, and a task in a list below it. On one line GitHub shows no box.
