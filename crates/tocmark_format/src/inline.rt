@@ -10,6 +10,7 @@ use crate::source::{Source, without_blanks};
 use crate::style::{HardBreak, Wrap};
 use std::alloc::{AllocError, Global};
 use tocmark_event::event::{LinkType, TagEnd};
+use unicode::properties::{GeneralCategory, GeneralCategoryGroup};
 
 /// What the inlines of a leaf are printed from.
 #[derive(Clone, Copy)]
@@ -90,6 +91,26 @@ fn hinders_underscore(character: Option<char>) -> bool {
     match character {
         Some(' ' | '\t' | '\n') | None => false,
         Some(character) => !character.is_ascii_punctuation(),
+    }
+}
+
+/// Whether a character is a symbol beyond ASCII. Programs that follow an older standard read no emphasis with underscores
+/// beside one, but they read it with stars.
+fn is_symbol(character: Option<char>) -> bool {
+    match character {
+        Some(character) if !character.is_ascii() => GeneralCategoryGroup::Symbol.contains(
+            GeneralCategory::for_char(character),
+        ),
+        _ => false,
+    }
+}
+
+/// Whether some program would read otherwise if another sign of emphasis became this one beside a character.
+fn is_hindered(sign: u8, character: Option<char>) -> bool {
+    if sign == b'_' {
+        hinders_underscore(character)
+    } else {
+        is_symbol(character)
     }
 }
 
@@ -336,7 +357,7 @@ impl<'d, 'p, 'g> Inlines<'d, 'p, 'g> {
             return false;
         }
         let (before, behind) = self.around(start, end);
-        if sign == b'_' && (hinders_underscore(before) || hinders_underscore(behind)) {
+        if is_hindered(sign, before) || is_hindered(sign, behind) {
             return false;
         }
         if self.is_in_address(start, end) && !(sign == b'*' && self.ends_with_link(start, end)) {

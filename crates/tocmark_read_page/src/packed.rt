@@ -3,7 +3,7 @@
 //!
 //! To a clause a `PackedBlock` is its `Block`, so that a list of them is a list of blocks.
 
-ghost use Rattle.std.specs.Prelude.{ℕ, ◌≡◌, ◌<◌, ◌≤◌, ◌-◌, ◌^◌, ◌++◌, ◌∷◌, [], true, false, None, OnOk, IfOk, slice_get, slice_set};
+ghost use Rattle.std.specs.Prelude.{ℕ, ◌≡◌, ◌<◌, ◌≤◌, ◌+◌, ◌-◌, ◌^◌, ◌++◌, ◌∷◌, [], true, false, None, OnOk, IfOk, slice_get, slice_set};
 ghost use Rattle.std.specs.Option.{IfSome, is_some, option_map_or};
 ghost use Rattle.tocmark_read_page.specs.declared.page.Block.{Block};
 ghost use Rattle.tocmark_read_page.specs.declared.page.BlockKind.TheVariants as kind;
@@ -29,6 +29,8 @@ enum SmallKind {
     Fenced(u8, u8),
     Html,
     Rule,
+    /// How many bytes behind the start of a table its delimiter row begins, and how many it has.
+    Table(u8, u8),
     TableHead,
     TableRow,
     TableCell,
@@ -89,6 +91,10 @@ fn kind_of(kind: SmallKind, start: u32) -> BlockKind
         }
         SmallKind::Html => BlockKind::Html,
         SmallKind::Rule => BlockKind::Rule,
+        SmallKind::Table(behind, length) => {
+            let from = start as usize + behind as usize;
+            BlockKind::Table(from, from + length as usize)
+        }
         SmallKind::TableHead => BlockKind::TableHead,
         SmallKind::TableRow => BlockKind::TableRow,
         SmallKind::TableCell => BlockKind::TableCell,
@@ -119,17 +125,36 @@ fn list_of(list: u32) -> Option<usize>
     }
 }
 
+/// How many bytes behind a block's start a range begins, and how many it has, if both are small.
+fn near(start: usize, from: usize, to: usize) -> Option<(u8, u8)>
+    ensures from { IfSome result (λ near. start + near.0 ≡ from) }
+    ensures to { IfSome result (λ near. start + near.0 + near.1 ≡ to) }
+{
+    if start <= from && from <= to && from - start < 256 && to - from < 256 {
+        Some(((from - start) as u8, (to - from) as u8))
+    } else {
+        None
+    }
+}
+
 /// The kind of a fenced code block whose info string is short and stands near its start.
 #[tactic(auto, unfolding(crate::specs::Packed::kind_in, crate::specs::Packed::is_loose_in))]
 fn fenced(start: usize, from: usize, to: usize) -> Option<SmallKind>
     ensures kind { IfSome result (λ small. kind_in start small ≡ kind.Fenced from to) }
     ensures loose { IfSome result (λ small. is_loose_in small ≡ false) }
 {
-    if start <= from && from <= to && from - start < 256 && to - from < 256 {
-        Some(SmallKind::Fenced((from - start) as u8, (to - from) as u8))
-    } else {
-        None
-    }
+    let (behind, length) = near(start, from, to)?;
+    Some(SmallKind::Fenced(behind, length))
+}
+
+/// The kind of a table whose delimiter row is short and stands near its start.
+#[tactic(auto, unfolding(crate::specs::Packed::kind_in, crate::specs::Packed::is_loose_in))]
+fn table(start: usize, from: usize, to: usize) -> Option<SmallKind>
+    ensures kind { IfSome result (λ small. kind_in start small ≡ kind.Table from to) }
+    ensures loose { IfSome result (λ small. is_loose_in small ≡ false) }
+{
+    let (behind, length) = near(start, from, to)?;
+    Some(SmallKind::Table(behind, length))
 }
 
 /// The kind of a list whose first number is small.
@@ -167,6 +192,7 @@ fn other(start: usize, kind: BlockKind) -> Option<SmallKind>
         BlockKind::Fenced(from, to) => fenced(start, from, to),
         BlockKind::Html => Some(SmallKind::Html),
         BlockKind::Rule => Some(SmallKind::Rule),
+        BlockKind::Table(from, to) => table(start, from, to),
         BlockKind::TableHead => Some(SmallKind::TableHead),
         BlockKind::TableRow => Some(SmallKind::TableRow),
         BlockKind::TableCell => Some(SmallKind::TableCell),

@@ -184,8 +184,9 @@ impl BlockReading<'_> {
         self.end_tree()
     }
 
-    /// Gives back the room of the blocks whose events are made, once that is half of the room: whoever takes
-    /// the events may need it. A block costs the same on average, since each time half of them are gone.
+    /// Gives back the room of the blocks whose events are made, once that is a quarter of the room: whoever
+    /// takes the events may need it. A block costs the same on average, since each time a quarter of them
+    /// are gone.
     /// Room for one stays: where a large list is let go of whole, the C library takes room for such lists
     /// from its heap from then on, and copies each as it grows.
     fn let_go_of_blocks(&mut self)
@@ -195,7 +196,7 @@ impl BlockReading<'_> {
     {
         let left = self.blocks.len();
         let room = self.blocks.capacity();
-        if room > FEW && left <= room / 2 {
+        if room > FEW && left <= room / 4 * 3 {
             self.blocks.shrink_to(left.max(1));
         }
         if left == 0 {
