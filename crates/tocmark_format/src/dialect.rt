@@ -393,9 +393,9 @@ impl Printer<'_> {
         }
     }
 
-    /// Whether a line with text follows, in the same container, on a list or a quote that ends with the box of a task alone or
-    /// with the definition of a link. To GitHub the box and that line are text, and without a blank line the definition makes
-    /// its list loose. Of both lines it looks at a few bytes, because many lists may end in one line.
+    /// Whether a line with text follows, in the same container, on a list, a quote or a footnote that ends with the box of a
+    /// task alone or with the definition of a link. To GitHub the box and that line are text, and without a blank line the
+    /// definition makes its list loose. Of both lines it looks at a few bytes, because many lists may end in one line.
     fn ends_openly(&self, end: usize) -> bool {
         let source = self.source;
         let front = source.line_start(end.saturating_sub(1));
@@ -458,6 +458,7 @@ impl Printer<'_> {
                     || self.ends_openly(end)
             }
             Kind::List => self.ends_openly(end),
+            Kind::Footnote => self.page.depth() == 0 && self.ends_openly(end),
             _ => false,
         }
     }

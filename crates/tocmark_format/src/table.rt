@@ -17,6 +17,9 @@ struct Cells {
     columns: usize,
 }
 
+/// Cells may take so many bytes in a table, and four for each byte of it.
+const FREE_CELLS: usize = 4096;
+
 /// The row of dashes below the head, for a column of this width.
 fn push_dashes(line: &mut String, alignment: Alignment, width: usize) -> Result<(), AllocError> {
     let (left, right) = match alignment {
@@ -148,6 +151,13 @@ impl Cells {
     /// Whether the last row has all of its cells.
     fn is_whole(&self) -> bool {
         self.ends.len() == self.rows().saturating_mul(self.columns)
+    }
+
+    /// Whether the cells would outgrow a table of so many bytes, because most of them stand in no row of it: each takes two
+    /// bytes or more.
+    fn outgrow(&self, size: usize) -> bool {
+        let least = self.ends.len().saturating_mul(2);
+        least > size.saturating_mul(4).saturating_add(FREE_CELLS)
     }
 
     /// The text of a cell.
@@ -332,13 +342,13 @@ impl Printer<'_> {
         self.page.line(line.as_str())
     }
 
-    /// Prints a table with columns of one width. It keeps its lines if a cell is in no event.
+    /// Prints a table with columns of one width. It keeps its lines if a cell is in no event, or if most cells are in no row.
     fn print_with(&mut self, cells: &mut Cells, part: &Part, at: usize) -> Result<(), AllocError> {
-        let range = part.range(at);
-        if self.add_cells(cells, part, at)? {
-            self.print_rows(cells, part.alignments(at), range)
+        let (start, end) = part.range(at);
+        if self.add_cells(cells, part, at)? && !cells.outgrow(end.saturating_sub(start)) {
+            self.print_rows(cells, part.alignments(at), (start, end))
         } else {
-            self.print_lines(range.0, range.1)
+            self.print_lines(start, end)
         }
     }
 
