@@ -17,7 +17,7 @@ struct Cells {
     columns: usize,
 }
 
-/// Cells may take so many bytes in a table, and four for each byte of it.
+/// The cells of a table may take this many bytes, whatever its size.
 const FREE_CELLS: usize = 4096;
 
 /// The row of dashes below the head, for a column of this width.
@@ -153,8 +153,8 @@ impl Cells {
         self.ends.len() == self.rows().saturating_mul(self.columns)
     }
 
-    /// Whether the cells would outgrow a table of so many bytes, because most of them stand in no row of it: each takes two
-    /// bytes or more.
+    /// Whether the cells would take more than four times the table's size in bytes, and 4 KiB more. Each takes at least two
+    /// bytes. Only the cells that its rows lack make a table so large.
     fn outgrow(&self, size: usize) -> bool {
         let least = self.ends.len().saturating_mul(2);
         least > size.saturating_mul(4).saturating_add(FREE_CELLS)
@@ -342,7 +342,8 @@ impl Printer<'_> {
         self.page.line(line.as_str())
     }
 
-    /// Prints a table with columns of one width. It keeps its lines if a cell is in no event, or if most cells are in no row.
+    /// Prints a table with columns of one width. It keeps its lines if one of its cells is in no event, or if its rows lack
+    /// so many cells that the output would be far longer.
     fn print_with(&mut self, cells: &mut Cells, part: &Part, at: usize) -> Result<(), AllocError> {
         let (start, end) = part.range(at);
         if self.add_cells(cells, part, at)? && !cells.outgrow(end.saturating_sub(start)) {

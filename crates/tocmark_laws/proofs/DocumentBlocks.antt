@@ -98,6 +98,7 @@ closed bs ps end number = record {
   header = Never;
   tried = 0;
   left = None;
+  filled = 0;
 }
 
 -- a page on which a paragraph began that has no line yet
@@ -115,6 +116,7 @@ fresh bs ps start end number = record {
   header = Never;
   tried = 0;
   left = None;
+  filled = 0;
 }
 
 -- a page with an open paragraph of one line
@@ -132,6 +134,7 @@ open_page bs ps p start end number = record {
   header = Never;
   tried = 0;
   left = None;
+  filled = 0;
 }
 
 pub last_place : {A : Type 0} (xs : List A) (x : A) → length (xs ++ x ∷ []) - 1 ≡ length xs
@@ -268,6 +271,7 @@ headed bs ps p level start end number = record {
   header = Never;
   tried = 0;
   left = None;
+  filled = 0;
 }
 
 abbrev unheaded : List Block → List Piece → HeadingLevel → ℕ → ℕ → ℕ → State
@@ -284,6 +288,7 @@ unheaded bs ps level start end number = record {
   header = Never;
   tried = 0;
   left = None;
+  filled = 0;
 }
 
 heading_finished : (bs : List Block) (ps : List Piece) (p : Piece) (level : HeadingLevel) (start end number : ℕ) → leaf_finished (headed bs ps p level start end number) ≡ closed (bs ++ block (kind.Heading level None) start end (length ps) (length (ps ++ p ∷ [])) ∷ []) (ps ++ p ∷ []) end number

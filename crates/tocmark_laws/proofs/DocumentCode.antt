@@ -411,6 +411,7 @@ coding bs n qs f k at end number = record {
   header = Never;
   tried = 0;
   left = None;
+  filled = 0;
 }
 
 pub fence_comes : (text : List ℕ) (cells : List Cell) (l : Line) (f : Fence) (k : BlockKind) (bs : List Block) (ps : List Piece) (end number : ℕ) → info_of cells front f l ≡ k → cell_place cells 0 l.end ≡ l.start → fence_started text cells l here f (closed bs ps end number) ≡ coding bs (length ps) ps f k l.start l.end l.number

@@ -47,6 +47,7 @@ open_lines bs ps new start end number = record {
   header = Never;
   tried = 0;
   left = None;
+  filled = 0;
 }
 
 started_before : (at : ℕ) (bs : List Block) (ps new : List Piece) (p : Piece) (start end number : ℕ) → text_started at (open_lines bs ps (p ∷ new) start end number) ≡ open_lines bs ps (p ∷ new) start end number

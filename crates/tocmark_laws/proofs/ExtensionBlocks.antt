@@ -179,6 +179,7 @@ paragraph header pieces start end number = record {
   header = header;
   tried = 0;
   left = None;
+  filled = 0;
 }
 
 piece_taken_whole : (l : Line) (s : State) → nat_lt l.start l.next ≡ true → piece_taken (line_piece l) l true s ≡ record s { pieces = s.pieces ++ line_piece l ∷ []; kept = length (s.pieces ++ line_piece l ∷ []); end = l.end; line = l.number }

@@ -180,6 +180,7 @@ metadata_page k header pieces end number = record {
   header = header;
   tried = 0;
   left = None;
+  filled = 0;
 }
 
 -- metadata that has ended

@@ -89,6 +89,7 @@ header_page l end number blocks = record {
   header = Always;
   tried = 0;
   left = None;
+  filled = 0;
 }
 
 -- behind a cell stand the others

@@ -80,6 +80,7 @@ paragraph pieces start end number = record {
   header = Never;
   tried = 0;
   left = None;
+  filled = 0;
 }
 
 -- the columns of a line, and that nothing begins with them

@@ -163,7 +163,7 @@ header_of cells cursor lazy =
 abbrev pub filled_up : Table → ℕ → Table
 filled_up t short = record t { filled = plus t.filled short }
 
--- a table in which a row of so many cells stands, if not too many are missing in all
+-- a table in which a row of so many cells stands, if not too many are missing in the text
 unfoldable pub lengthened : Table → ℕ → Option Table
 lengthened t count = if nat_lt 262144 (filled_up t (t.columns - count)).filled then None else Some (filled_up t (t.columns - count))
 
@@ -208,7 +208,7 @@ row_put text k columns start end s =
 
 -- the table that is open reaches to this line
 abbrev pub with_table : Table → Line → State → State
-with_table t line s = record s { leaf = leaf.Table t; end = line.end; line = line.number }
+with_table t line s = record s { leaf = leaf.Table t; end = line.end; line = line.number; filled = t.filled }
 
 -- a line is one more row of the open table
 unfoldable pub row_taken : List ℕ → List Cell → Line → Cursor → Table → State → State
@@ -278,7 +278,7 @@ abbrev pub table_from : List ℕ → Line → BlockKind → ℕ → Piece → St
 table_from text line k columns p s =
     let t = if is_sole_line s then paragraph_turned k p (without_header s) else table_begun text line k p (without_header s) in
     row_put text kind.TableHead columns p.start p.end
-    (with_table (record { block = length t.blocks - 1; columns = columns; filled = 0 }) line t)
+    (with_table (record { block = length t.blocks - 1; columns = columns; filled = t.filled }) line t)
 
 -- a table begins with the last line of the open paragraph, above a delimiter row
 unfoldable pub table_started : List ℕ → Line → BlockKind → ℕ → State → State

@@ -33,7 +33,7 @@ struct Column {
     pub dash: bool,
 }
 
-/// How many cells the rows of one table may lack in all.
+/// How many cells the rows of all tables of a text may lack.
 const MOST_FILLED: usize = 262_144;
 
 #[tactic(auto, unfolding(crate::specs::Tables::is_delimiter_byte))]
@@ -356,7 +356,7 @@ pub fn header_of(cells: &Cells, cursor: Cursor, lazy: bool) -> HeaderLine
     }
 }
 
-/// The table with one more row of so many cells; none if its rows would lack too many.
+/// The table with one more row of so many cells; none if the rows of the text would lack too many.
 #[tactic(auto, unfolding(crate::specs::Tables::lengthened))]
 fn lengthened(table: Table, count: usize) -> Option<Table>
     ensures { result ≡ lengthened table count }
@@ -498,6 +498,7 @@ fn reach(so_far: &mut BlocksSoFar, table: Table, line: Line)
     so_far.leaf = Leaf::Table(table);
     so_far.end = line.end;
     so_far.line = line.number;
+    so_far.filled = table.filled;
 }
 
 /// Takes a line as one more row of the open table, which is this one with it.
@@ -670,7 +671,7 @@ fn start_table(
     let table = Table {
         block: so_far.blocks.len().saturating_sub(1),
         columns,
-        filled: 0,
+        filled: so_far.filled,
     };
     reach(so_far, table, line);
     let head = BlockKind::TableHead;

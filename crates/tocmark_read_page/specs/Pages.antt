@@ -36,6 +36,7 @@ pub record State : Type 0 where
   pub header : HeaderLine
   pub tried : ℕ
   pub left : Option LeftList
+  pub filled : ℕ
 
 -- a page as plain values
 abbrev pub page : BlocksSoFar → State
@@ -52,11 +53,12 @@ page p = record {
   header = p.header;
   tried = p.tried;
   left = p.left;
+  filled = p.filled;
 }
 
 -- nothing is open and nothing was read
 abbrev pub first_page : State
-first_page = record { blocks = []; pieces = []; definitions = []; opened = []; quotes = []; leaf = leaf.Nothing; end = 0; line = 0; kept = 0; header = Never; tried = 0; left = None }
+first_page = record { blocks = []; pieces = []; definitions = []; opened = []; quotes = []; leaf = leaf.Nothing; end = 0; line = 0; kept = 0; header = Never; tried = 0; left = None; filled = 0 }
 
 -- the last of a list
 abbrev pub innermost : List Opened → Option Opened

@@ -14,7 +14,7 @@ pub struct Table {
     pub block: usize,
     /// How many cells each of its rows has.
     pub columns: usize,
-    /// How many cells its rows lack in all.
+    /// How many cells the rows of the tables up to here lack in all, its own among them.
     pub filled: usize,
 }
 

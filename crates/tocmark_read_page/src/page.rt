@@ -117,6 +117,8 @@ pub struct BlocksSoFar {
     pub tried: usize,
     /// The list of definitions that was left last, where definition lists are read.
     pub left: Option<LeftList>,
+    /// How many cells the rows of all tables lack so far.
+    pub filled: usize,
 }
 
 #[tactic(auto, unfolding(crate::specs::Pages::ended))]
@@ -348,6 +350,7 @@ impl BlocksSoFar {
             header: HeaderLine::Never,
             tried: 0,
             left: None,
+            filled: 0,
         }
     }
 

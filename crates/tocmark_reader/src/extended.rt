@@ -125,8 +125,8 @@ pub(crate) fn syntax_of(names: Names, flags: ParserOptions) -> Syntax
 /// until a blank line, a bar alone, or one that begins a quote, heading, fence, rule, item, HTML or the
 /// definition of a footnote. A bar
 /// divides cells if no backslash stands just before it; that backslash is no part of the cell. A row has as
-/// many cells as the header: further ones are dropped, missing ones are empty at its end, up to 262,144 in
-/// one table, which ends there.
+/// many cells as the header: further ones are dropped, missing ones are empty at its end. A table
+/// ends before a row with which all rows of the text would lack more than 262,144 cells.
 ///
 /// The kind of a block quote stands just behind the mark that begins it, and at most one space or tab:
 /// `[!NOTE]`, `[!TIP]`, `[!IMPORTANT]`, `[!WARNING]` or `[!CAUTION]` in any case, with nothing but spaces
