@@ -1,10 +1,8 @@
 //! Other dialects of Markdown. Their blocks are text to the reader; here they keep their lines, and what stands below them.
 
-use crate::hazard::is_hazard;
 use crate::page::{Kind, Place};
 use crate::part::{Mark, Part};
 use crate::printer::Printer;
-use crate::source::without_end_blanks;
 use crate::style::Wrap;
 use std::alloc::AllocError;
 
@@ -415,19 +413,6 @@ impl Printer<'_> {
             && self.page.stripped(source, next).is_met
     }
 
-    /// Whether a line of text stands directly below a table. The reader ends a table there only because the rows of the text would
-    /// lack too many cells. To other programs the line is one more row.
-    fn ends_early(&self, end: usize) -> bool {
-        let source = self.source;
-        let below = source.line_of(end.saturating_sub(1)).saturating_add(1);
-        let place = self.page.stripped(source, source.start_of(below));
-        let front = source.past_blanks(place.at);
-        let line = without_end_blanks(source.slice(front, source.line_end(front)));
-        let is_row = line.len() > 1 && line.starts_with('|');
-        let is_text = !line.is_empty() && !is_hazard(line);
-        (is_row || is_text) && place.is_met && self.indent_behind(place) < 4
-    }
-
     /// Whether a list has a marker alone on its line, and a task in a list below it. On one line GitHub shows no box.
     fn has_task_below_marker(&self, start: usize, end: usize) -> bool {
         let first = self.source.line_of(start);
@@ -465,7 +450,6 @@ impl Printer<'_> {
                 self.has_foreign_line(start, end, false)
                     || self.has_tag_row(start, end)
                     || self.is_read_otherwise(start, end)
-                    || self.ends_early(end)
             }
             Kind::List | Kind::Quote if self.page.depth() == 0 => {
                 self.begins_fenced_quote(start)

@@ -115,6 +115,8 @@ impl<'d> Printer<'d> {
             (Kind::Title, Kind::Title | Kind::Definition) => true,
             (Kind::Definitions, _) => self.look.is_literal || kind == Kind::Rule,
             (Kind::Foreign, _) | (_, Kind::Foreign) => true,
+            // the text lacks too many cells for one more row, but other programs go on with the table
+            (Kind::Table, Kind::Paragraph) => true,
             _ => false,
         };
         if is_apart || !is_pair {
