@@ -15,6 +15,7 @@
 //! - `@emphasis WORD`, `@strong WORD`, `@strike WORD`, `@link WORD` and `@code WORD` make each WORD one of these, after
 //!   neighbouring texts were joined; `@plain` takes the first three away. `@tick` ticks each box that isn't, and the other
 //!   way round.
+//! - `@EDIT then EDIT` makes one edit and then another. Both read `gfm` if one of them does.
 //!
 //! Behind `@definitions` there is a line for each definition of a label: what it says, and the ranges of all of it, its
 //! destination and its title. Behind `@blocks` a text, which may have tables, is read block by block: a line has how many
@@ -41,7 +42,7 @@ use tocmark_rewrite::{DefinitionReader, Fault, rewritten};
 #[derive(Clone, Copy)]
 enum Question<'l> {
     Three,
-    One(Edit<'l>),
+    Edits(Edits<'l>),
     Definitions,
     Blocks,
     Format(Looks),
@@ -61,17 +62,49 @@ fn rewritten_by<R: DefinitionReader>(
     Ok(answer.text)
 }
 
+/// An edit, and one after it.
+#[derive(Clone, Copy)]
+struct Edits<'l> {
+    first: Edit<'l>,
+    then: Edit<'l>,
+}
+
+impl<'l> Edits<'l> {
+    /// A single edit.
+    const fn one(edit: Edit<'l>) -> Self {
+        Self {
+            first: edit,
+            then: Edit::Nothing,
+        }
+    }
+
+    /// The edits that a name asks for.
+    fn named(name: &'l str) -> io::Result<Self> {
+        match name.split_once(" then ") {
+            Some((first, then)) => {
+                let first = edit_named(first)?;
+                Ok(Self {
+                    first,
+                    then: edit_named(then)?,
+                })
+            }
+            None => Ok(Self::one(edit_named(name)?)),
+        }
+    }
+}
+
 /// What a text becomes that a reader reads.
 fn edited_by<R: DefinitionReader>(
     alloc: Global,
     text: &str,
     reader: &R,
     flags: ParserOptions,
-    how: Edit<'_>,
+    edits: Edits<'_>,
 ) -> Result<String, Fault> {
     match reader.read(alloc, text, flags) {
         Ok(mut reading) => {
-            make_edit(alloc, &mut reading.events, how)?;
+            make_edit(alloc, &mut reading.events, edits.first)?;
+            make_edit(alloc, &mut reading.events, edits.then)?;
             rewritten_by(alloc, text, &reading, reader, flags)
         }
         Err(error) => Err(Fault::from(error)),
@@ -79,11 +112,11 @@ fn edited_by<R: DefinitionReader>(
 }
 
 /// What a text becomes.
-fn edited(alloc: Global, text: &str, how: Edit<'_>) -> Result<String, Fault> {
-    if has_extensions(how) {
-        edited_by(alloc, text, &ExtendedReader::new(), GFM, how)
+fn edited(alloc: Global, text: &str, edits: Edits<'_>) -> Result<String, Fault> {
+    if has_extensions(edits.first) || has_extensions(edits.then) {
+        edited_by(alloc, text, &ExtendedReader::new(), GFM, edits)
     } else {
-        edited_by(alloc, text, &CoreReader, ParserOptions::empty(), how)
+        edited_by(alloc, text, &CoreReader, ParserOptions::empty(), edits)
     }
 }
 
@@ -92,9 +125,9 @@ fn write_edited<W: Write>(
     alloc: Global,
     output: &mut W,
     text: &str,
-    how: Edit<'_>,
+    edits: Edits<'_>,
 ) -> io::Result<()> {
-    match edited(alloc, text, how) {
+    match edited(alloc, text, edits) {
         Ok(text) => {
             let value = Value::String(text);
             writeln!(output, "{value}")
@@ -105,7 +138,7 @@ fn write_edited<W: Write>(
 
 /// Whether a text stays as it is where no event was changed.
 fn stays(alloc: Global, text: &str) -> bool {
-    match edited(alloc, text, Edit::Nothing) {
+    match edited(alloc, text, Edits::one(Edit::Nothing)) {
         Ok(made) => made.as_str() == text,
         Err(_fault) => false,
     }
@@ -118,8 +151,8 @@ fn answer<W: Write>(alloc: Global, output: &mut W, text: &str) -> io::Result<()>
     } else {
         writeln!(output, "doesn't stay")?;
     }
-    write_edited(alloc, output, text, Edit::Secure)?;
-    write_edited(alloc, output, text, Edit::Lower)
+    write_edited(alloc, output, text, Edits::one(Edit::Secure))?;
+    write_edited(alloc, output, text, Edits::one(Edit::Lower))
 }
 
 /// How many texts there were, how many stayed, and of how many all headings moved.
@@ -139,8 +172,14 @@ fn counted(alloc: Global, counts: Counts, text: &str) -> Counts {
     Counts {
         texts: with_one(counts.texts, true),
         stayed: with_one(counts.stayed, stays(alloc, text)),
-        secured: with_one(counts.secured, edited(alloc, text, Edit::Secure).is_ok()),
-        lowered: with_one(counts.lowered, edited(alloc, text, Edit::Lower).is_ok()),
+        secured: with_one(
+            counts.secured,
+            edited(alloc, text, Edits::one(Edit::Secure)).is_ok(),
+        ),
+        lowered: with_one(
+            counts.lowered,
+            edited(alloc, text, Edits::one(Edit::Lower)).is_ok(),
+        ),
     }
 }
 
@@ -225,7 +264,7 @@ fn question_of(line: &str) -> io::Result<Option<Question<'_>>> {
         }
         Some("definitions") => Ok(Some(Question::Definitions)),
         Some("blocks") => Ok(Some(Question::Blocks)),
-        Some(name) => Ok(Some(Question::One(edit_named(name)?))),
+        Some(name) => Ok(Some(Question::Edits(Edits::named(name)?))),
     }
 }
 
@@ -240,7 +279,7 @@ fn answer_text<W: Write>(
     let text = text_of(alloc, line)?;
     match question {
         Question::Three => answer(alloc, output, text.as_str()),
-        Question::One(how) => write_edited(alloc, output, text.as_str(), how),
+        Question::Edits(edits) => write_edited(alloc, output, text.as_str(), edits),
         Question::Definitions => write_definitions(alloc, output, text.as_str()),
         Question::Blocks => write_blocks(alloc, output, text.as_str()),
         Question::Format(looks) => write_formatted(alloc, output, text.as_str(), looks),
@@ -298,7 +337,7 @@ pub fn answer_edit<W: Write>(
     for line in lines.split('\n') {
         if !line.is_empty() && !line.starts_with('#') {
             let text = text_of(alloc, line)?;
-            write_edited(alloc, output, text.as_str(), how)?;
+            write_edited(alloc, output, text.as_str(), Edits::one(how))?;
         }
     }
     Ok(())

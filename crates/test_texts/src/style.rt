@@ -2,7 +2,7 @@
 
 use std::io::{self, ErrorKind};
 use tocmark::event::ParserOptions;
-use tocmark_format::{
+use tocmark_print::{
     Bullet, Delimiter, Fence, HardBreak, ListIndent, Marker, Numbering, Rule, Style, Wrap,
 };
 use tocmark_reader::EXTENSIONS;

@@ -18,9 +18,11 @@ use Rattle.tocmark_reader.specs.Reading.{reading_of}
 use Rattle.tocmark_reader.specs.Flags.{syntax_of}
 use Rattle.tocmark_read_scan.specs.declared.syntax.Names.TheVariants.{All}
 use Rattle.tocmark_event.specs.Reading.{ReadingView}
-use Rattle.tocmark_format.specs.LinkDefinitions.{DefinedLink, unplaced}
-use Rattle.tocmark_format.specs.Same.{SaySame}
-use Rattle.tocmark_format.specs.Shape.{HaveSameShapes}
+use Rattle.tocmark_judge.specs.LinkDefinitions.{DefinedLink, unplaced}
+use Rattle.tocmark_judge.specs.Marks.{after_mark, has_mark}
+use Rattle.tocmark_judge.specs.Same.{SaySame}
+use Rattle.tocmark_judge.specs.Shape.{HaveSameShapes}
+use Rattle.tocmark_print.specs.Fills.{fills}
 use Rattle.tocmark_reader.specs.Definitions.{definitions_of}
 use Rattle.tocmark_c.specs.Style.{has_style, wrap_of}
 use Rattle.tocmark_c.specs.declared.style.TocmarkStyle.{TocmarkStyle}
@@ -49,16 +51,18 @@ read_under bits text = reading_of (syntax_of All (flags_of bits)) text
 abbrev pub defined_under : ℕ → List ℕ → List DefinedLink
 defined_under bits text = map unplaced (definitions_of (syntax_of All (flags_of bits)) text)
 
--- both texts say the same under a style, and have the same definitions of links
+-- both texts say the same under a style, and have the same definitions of links; a byte order mark at the front is no text,
+-- and both have one or neither
 abbrev pub IsSameDocument : ℕ → TocmarkStyle → List ℕ → List ℕ → Type 0
 IsSameDocument bits style text output =
-    SaySame (wrap_of style.wrap) (read_under bits output) (read_under bits text)
-    × (defined_under bits output ≡ defined_under bits text)
+    SaySame (fills (wrap_of style.wrap)) (read_under bits (after_mark output)) (read_under bits (after_mark text))
+    × (defined_under bits (after_mark output) ≡ defined_under bits (after_mark text))
+    × (has_mark output ≡ has_mark text)
 
 -- both texts have the same blocks under each of these flags
 abbrev pub HaveSameBlocks : List ℕ → List ℕ → List ℕ → Type 0
 HaveSameBlocks also text output =
-    HaveSameShapes (λ t flags. reading_of (syntax_of All flags) t) (map flags_of also) output text
+    HaveSameShapes (λ t flags. reading_of (syntax_of All flags) t) (map flags_of also) (after_mark output) (after_mark text)
 
 -- both texts say the same under a style, and have the same blocks under further flags
 abbrev pub IsSameToAll : ℕ → List ℕ → TocmarkStyle → List ℕ → List ℕ → Type 0

@@ -1,24 +1,24 @@
 -- The style that a struct of C stands for.
 use Rattle.std.specs.Prelude.{◌≡◌, ◌==◌, ◌&&◌, if◌then◌else◌, ℕ, Bool, Option, Some, None, is_some}
-use Rattle.tocmark_format.specs.declared.style.Bullet.{Bullet}
-use Rattle.tocmark_format.specs.declared.style.Bullet.TheVariants as bullet
-use Rattle.tocmark_format.specs.declared.style.Delimiter.{Delimiter}
-use Rattle.tocmark_format.specs.declared.style.Delimiter.TheVariants as delimiter
-use Rattle.tocmark_format.specs.declared.style.Fence.{Fence}
-use Rattle.tocmark_format.specs.declared.style.Fence.TheVariants as fence
-use Rattle.tocmark_format.specs.declared.style.HardBreak.{HardBreak}
-use Rattle.tocmark_format.specs.declared.style.HardBreak.TheVariants as break
-use Rattle.tocmark_format.specs.declared.style.Marker.{Marker}
-use Rattle.tocmark_format.specs.declared.style.Marker.TheVariants as marker
-use Rattle.tocmark_format.specs.declared.style.Numbering.{Numbering}
-use Rattle.tocmark_format.specs.declared.style.Numbering.TheVariants as numbering
-use Rattle.tocmark_format.specs.declared.style.Rule.{Rule}
-use Rattle.tocmark_format.specs.declared.style.Rule.TheVariants as rule
-use Rattle.tocmark_format.specs.declared.style.ListIndent.{ListIndent}
-use Rattle.tocmark_format.specs.declared.style.ListIndent.TheVariants as indent
-use Rattle.tocmark_format.specs.declared.style.Style.{Style}
-use Rattle.tocmark_format.specs.declared.style.Wrap.{Wrap}
-use Rattle.tocmark_format.specs.declared.style.Wrap.TheVariants as wrap
+use Rattle.tocmark_print.specs.declared.style.Bullet.{Bullet}
+use Rattle.tocmark_print.specs.declared.style.Bullet.TheVariants as bullet
+use Rattle.tocmark_print.specs.declared.style.Delimiter.{Delimiter}
+use Rattle.tocmark_print.specs.declared.style.Delimiter.TheVariants as delimiter
+use Rattle.tocmark_print.specs.declared.style.Fence.{Fence}
+use Rattle.tocmark_print.specs.declared.style.Fence.TheVariants as fence
+use Rattle.tocmark_print.specs.declared.style.HardBreak.{HardBreak}
+use Rattle.tocmark_print.specs.declared.style.HardBreak.TheVariants as break
+use Rattle.tocmark_print.specs.declared.style.Marker.{Marker}
+use Rattle.tocmark_print.specs.declared.style.Marker.TheVariants as marker
+use Rattle.tocmark_print.specs.declared.style.Numbering.{Numbering}
+use Rattle.tocmark_print.specs.declared.style.Numbering.TheVariants as numbering
+use Rattle.tocmark_print.specs.declared.style.Rule.{Rule}
+use Rattle.tocmark_print.specs.declared.style.Rule.TheVariants as rule
+use Rattle.tocmark_print.specs.declared.style.ListIndent.{ListIndent}
+use Rattle.tocmark_print.specs.declared.style.ListIndent.TheVariants as indent
+use Rattle.tocmark_print.specs.declared.style.Style.{Style}
+use Rattle.tocmark_print.specs.declared.style.Wrap.{Wrap}
+use Rattle.tocmark_print.specs.declared.style.Wrap.TheVariants as wrap
 use Rattle.tocmark_c.specs.declared.style.TocmarkStyle.{TocmarkStyle}
 
 -- each character stands for itself, and 0 for what the source has

@@ -244,7 +244,8 @@ pub extern "C" fn tocmark_rewrite(
     }
 }
 
-/// Formats Markdown in a style, and writes the result into `out`. It parses to the events of the text that is given.
+/// Formats Markdown in a style, and writes the result into `out`. It parses to the events of the text that is given. A byte
+/// order mark at the front stays there and is no text.
 #[unsafe(no_mangle)]
 #[tactic(auto, using(crate::proofs::Answers::answered))]
 pub extern "C" fn tocmark_format(

@@ -3,7 +3,7 @@
 ghost use Rattle.std.specs.Prelude.{◌≡◌, IfSome, is_some};
 ghost use Rattle.tocmark_c.specs.Style.{bullet_of, delimiter_of, fence_of, hard_break_of, has_style, list_indent_of, marker_of, numbering_of, rule_of, table_width_of, wrap_of, IsStyleOf};
 
-use tocmark_format::{
+use tocmark_print::{
     Bullet, Delimiter, Fence, HardBreak, ListIndent, Marker, Numbering, Rule, Style, Wrap,
 };
 

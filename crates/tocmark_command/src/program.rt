@@ -6,6 +6,7 @@ use clap::error::ErrorKind;
 use std::io::Write;
 use std::process::ExitCode;
 use std::{env, fmt, io};
+use tocmark_files::quoted::OneLine;
 
 /// A program, by the name that its lines on standard error begin with.
 #[derive(Clone, Copy)]
@@ -15,9 +16,10 @@ pub struct Program {
 }
 
 impl Program {
-    /// Writes a line about what went wrong: the program's name, and the fault. One that can't be written changes nothing.
+    /// Writes a line about what went wrong: the program's name, and the fault, in which control characters are escaped. One that
+    /// can't be written changes nothing.
     pub fn complain<F: Write, E: fmt::Display>(self, faults: &mut F, fault: &E) {
-        let name = self.name;
+        let (name, fault) = (self.name, OneLine(fault));
         let _ = writeln!(faults, "{name}: {fault}");
     }
 

@@ -6,7 +6,8 @@ ghost use Rattle.tocmark_events_program.specs.Events.{IsAnswer};
 use crate::answer::Answer;
 use crate::arguments::Job;
 use crate::fault::Fault;
-use tocmark_command::replace::Replacement;
+use tocmark_files::quoted::in_quotes;
+use tocmark_files::replace::Replacement;
 
 /// A file's text, and the answer that takes its place.
 #[derive(Drop)]
@@ -41,7 +42,7 @@ impl<'e> Edited<'e> {
         match replacement.put(rt, file) {
             Ok(()) => Ok(()),
             Err(error) => {
-                let name = String::from_str(rt.alloc(), file)?;
+                let name = in_quotes(rt.alloc(), file)?;
                 Err(Fault::NotReplaced(name, error))
             }
         }

@@ -7,8 +7,8 @@ ghost use Rattle.tocmark_events_program.specs.declared.fault.Fault.TheVariants.{
 use std::alloc::{AllocError, AllocFailed};
 use std::io;
 use thiserror::Error;
-use tocmark_command::replace::ReplaceError;
 use tocmark_command::streams::InputError;
+use tocmark_files::replace::ReplaceError;
 use tocmark_interchange::{DocumentError, OptionsTextError, RewriteError, StreamError, WriteError};
 use tocmark_json::fault::JsonError;
 

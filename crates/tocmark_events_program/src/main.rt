@@ -31,6 +31,7 @@ use tocmark::event::ParserOptions;
 use tocmark_command::program::{Program, words_of};
 use tocmark_command::streams::text_in;
 use tocmark_command::syntax::syntax_help;
+use tocmark_files::quoted::in_quotes;
 use tocmark_interchange::{
     StreamError, options_in_json, stream_lines, stream_located_lines, write_bytes,
 };
@@ -182,7 +183,7 @@ fn text_of(rt: &HostRuntime, file: &str) -> Result<String, Fault> {
     match fs::read_to_string(rt, file) {
         Ok(text) => Ok(text),
         Err(error) => {
-            let name = String::from_str(rt.alloc(), file)?;
+            let name = in_quotes(rt.alloc(), file)?;
             Err(Fault::Unreadable(name, error))
         }
     }

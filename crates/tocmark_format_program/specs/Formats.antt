@@ -3,15 +3,17 @@ use Rattle.std.specs.Prelude.{ℕ, List, Option, IfSome, string_bytes}
 use Rattle.std.specs.Io.KnownBytes.{Appends}
 use Rattle.tocmark_event.specs.declared.event.ParserOptions.{ParserOptions}
 use Rattle.tocmark_event.specs.Reading.{ReadingView}
-use Rattle.tocmark_format.specs.Same.{SaySame}
-use Rattle.tocmark_format.specs.declared.style.Wrap.{Wrap}
+use Rattle.tocmark_judge.specs.Marks.{after_mark}
+use Rattle.tocmark_judge.specs.Same.{SaySame}
+use Rattle.tocmark_print.specs.Fills.{fills}
+use Rattle.tocmark_print.specs.declared.style.Wrap.{Wrap}
 use Rattle.tocmark_format_program.specs.declared.decide.Decision.{Decision}
 use Rattle.tocmark_format_program.specs.declared.fault.Fault.{Fault}
 use Rattle.tocmark_format_program.specs.declared.fault.Fault.TheVariants as fault
 
--- a reader finds in both texts what counts as the same under a style
+-- a reader finds in both texts what counts as the same under a style; a byte order mark at the front is no text
 abbrev pub SaysTheSame : Wrap → (List ℕ → ReadingView) → List ℕ → List ℕ → Type 0
-SaysTheSame wrap reading old new = SaySame wrap (reading new) (reading old)
+SaysTheSame wrap reading old new = SaySame (fills wrap) (reading (after_mark new)) (reading (after_mark old))
 
 -- what a decision writes says the same as the text that was read
 abbrev pub KeepsWhatItSays : (List ℕ → ParserOptions → ReadingView) → Decision → Type 0

@@ -2,12 +2,12 @@
 
 use crate::lookup::{Refused, whole_path};
 use crate::outcome::Terms;
-use crate::rules::Rules;
 use crate::settings::{KEYS, Key, Setting, Settings, set_all};
 use clap::{Arg, ArgAction, ArgMatches, Command};
 use std::alloc::{AllocError, Global};
 use tocmark_command::options::{CommandOption, Takes, with_options};
 use tocmark_command::syntax::with_syntax;
+use tocmark_files::rules::Rules;
 
 /// What becomes of formatted texts.
 #[derive(Clone, Copy)]

@@ -1,11 +1,12 @@
 //! Configuration files: TOML, whose keys are the long options of formatting, `exclude`, `include` and `overrides`.
 
-use crate::rules::{Entry, Rules};
 use crate::settings::{Key, Setting, Settings, key_named, set_all};
 use crate::text::{line_behind, text_of};
 use std::alloc::{AllocError, AllocFailed, Global};
 use std::fmt;
 use std::fmt::Write;
+use tocmark_files::quoted::Quoted;
+use tocmark_files::rules::{Entry, Rules};
 use toml::{Table, Value};
 
 /// What a configuration file says.
@@ -47,7 +48,9 @@ struct Source<'t> {
     text: &'t str,
     /// The folder of the file.
     folder: &'t str,
-    /// How many lines are skipped.
+    /// The lines in which a key is looked for.
+    rest: &'t str,
+    /// How many lines are before them.
     passed: usize,
 }
 
@@ -91,7 +94,9 @@ impl fmt::Display for ConfigError {
             }
             ConfigError::UnknownKey(key, line) => {
                 place(f, *line)?;
-                if is_among(&GENERAL, key.as_str()) {
+                let is_general = is_among(&GENERAL, key.as_str());
+                let key = Quoted(key.as_str());
+                if is_general {
                     write!(f, "{key} must stand above [[overrides]]")
                 } else {
                     write!(f, "there is no option {key}")
@@ -137,16 +142,27 @@ fn is_list(key: Key) -> bool {
 }
 
 impl<'t> Source<'t> {
-    /// The first line that begins with this key, counted from 1.
-    fn line_of(self, key: &str) -> Option<usize> {
-        let mut number = 0usize;
-        for line in self.text.lines() {
-            number = number.saturating_add(1);
-            if number > self.passed && names(line, key) {
-                return Some(number);
+    /// The source from behind the first line that begins with this key, if one does.
+    fn behind(self, key: &str) -> Option<Source<'t>> {
+        let (mut passed, mut at) = (self.passed, 0usize);
+        for line in self.rest.split_inclusive('\n') {
+            passed = passed.saturating_add(1);
+            at = at.saturating_add(line.len());
+            if names(line, key) {
+                let rest = self.rest.get(at..).unwrap_or("");
+                return Some(Source {
+                    rest,
+                    passed,
+                    ..self
+                });
             }
         }
         None
+    }
+
+    /// The first line that begins with this key, counted from 1.
+    fn line_of(self, key: &str) -> Option<usize> {
+        Some(self.behind(key)?.passed)
     }
 
     fn wrong(self, key: &'static str, wanted: &'static str) -> ConfigError {
@@ -274,10 +290,12 @@ impl<'t> Source<'t> {
         Ok(())
     }
 
-    /// The source from the next line on that names `overrides`, if there is one.
+    /// The source from behind the next line that names `overrides`. If none does, no key is looked for any more.
     fn next_override(self) -> Source<'t> {
-        let passed = self.line_of("overrides").unwrap_or(self.passed);
-        Source { passed, ..self }
+        match self.behind("overrides") {
+            Some(next) => next,
+            None => Source { rest: "", ..self },
+        }
     }
 
     /// The settings that the keys of a table name.
@@ -374,6 +392,7 @@ impl Configuration {
             alloc,
             text: text.as_str(),
             folder,
+            rest: text.as_str(),
             passed: 0,
         };
         let table = source.table()?;

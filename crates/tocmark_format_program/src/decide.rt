@@ -1,13 +1,15 @@
 //! What is written for a text.
 
 ghost use Rattle.std.specs.Prelude.{◌≡◌, ◌≢◌, IfOk, IfSome, string_bytes};
-ghost use Rattle.tocmark_format.specs.Shape.{HaveSameShapes};
+ghost use Rattle.tocmark_judge.specs.Marks.{after_mark, has_mark};
+ghost use Rattle.tocmark_judge.specs.Shape.{HaveSameShapes};
 ghost use Rattle.tocmark_format_program.specs.AlsoRead.{also_flags};
 ghost use Rattle.tocmark_format_program.specs.Formats.{KeepsWhatItSays};
 
 use crate::settings::Settings;
 use std::alloc::{AllocError, Global};
-use tocmark_format::{Formatted, Left, PartReader, formatted};
+use tocmark_format::{Formatted, Left, formatted};
+use tocmark_judge::PartReader;
 
 /// What becomes of a text.
 #[derive(Drop)]
@@ -23,7 +25,8 @@ pub struct Decision {
 }
 
 /// What becomes of a text that was read. The reader finds in what is written what counts as the same as in the text, and the
-/// same link definitions. Under the flags of `also` it finds the same blocks.
+/// same link definitions. Under the flags of `also` it finds the same blocks. A byte order mark at the front stays there and
+/// is no text.
 pub fn decided<R: PartReader>(
     alloc: Global,
     text: String,
@@ -36,11 +39,13 @@ pub fn decided<R: PartReader>(
     ensures changed { IfOk result (λ decision. IfSome decision.new (λ new.
         string_bytes new ≢ string_bytes decision.old)) }
     ensures definitions { IfOk result (λ decision. IfSome decision.new (λ new.
-        R.definitions reader.now (string_bytes new) settings.flags
-        ≡ R.definitions reader.now (string_bytes decision.old) settings.flags)) }
+        R.definitions reader.now (after_mark (string_bytes new)) settings.flags
+        ≡ R.definitions reader.now (after_mark (string_bytes decision.old)) settings.flags)) }
     ensures also { IfOk result (λ decision. IfSome decision.new (λ new. HaveSameShapes
         (R.reading reader.now) (also_flags settings.also)
-        (string_bytes new) (string_bytes decision.old))) }
+        (after_mark (string_bytes new)) (after_mark (string_bytes decision.old)))) }
+    ensures mark { IfOk result (λ decision. IfSome decision.new (λ new.
+        has_mark (string_bytes new) ≡ has_mark (string_bytes decision.old))) }
 {
     let Settings { flags, style, also } = settings;
     let also = also.flags(alloc)?;

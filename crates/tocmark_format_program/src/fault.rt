@@ -7,7 +7,8 @@ ghost use Rattle.tocmark_format_program.specs.declared.fault.Fault.TheVariants.{
 use std::alloc::{AllocError, AllocFailed};
 use std::io;
 use thiserror::Error;
-use tocmark_command::replace::ReplaceError;
+use tocmark_files::replace::ReplaceError;
+use tocmark_files::trust::Distrust;
 
 /// What is wrong with one file. The message stands behind its name.
 #[derive(Debug, Drop, Error)]
@@ -27,8 +28,8 @@ pub enum Fault {
     NotRegular,
     #[error("is not formatted: no glob of include matches it; if it is Markdown, pass --include GLOB")]
     NotIncluded,
-    #[error("a .gitignore that holds in it cannot be read: {0}")]
-    Ignores(io::Error),
+    #[error("{0}; no file below it is formatted, unless --no-ignore is passed")]
+    Ignores(Distrust),
     #[error("{0}")]
     Replace(ReplaceError),
     #[error("standard output cannot be written: {0}")]

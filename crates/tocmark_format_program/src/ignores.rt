@@ -1,9 +1,10 @@
 //! The `.gitignore` files that hold in a folder.
 
-use crate::rules::{Entry, Rules};
+use crate::lookup::{Refused, is_top, joined};
 use std::alloc::{AllocError, Global};
-use std::path::{Path, PathBuf};
-use std::{fs, io};
+use std::path::Path;
+use tocmark_files::rules::{Entry, Rules};
+use tocmark_files::trust::{Caller, Distrust};
 
 /// The rules of a file, and which rules hold above it.
 #[derive(Drop)]
@@ -15,47 +16,43 @@ struct Level {
 /// All files that were read.
 #[derive(Drop)]
 pub struct Ignores {
+    caller: Caller,
     levels: Vec<Level>,
 }
 
-/// What a file has, with U+FFFD for what isn't UTF-8. `Ok(None)`: there is no such file.
-fn lines_in(rt: &HostRuntime, path: Path<'_>) -> io::Result<Option<String>> {
-    match fs::read(rt, path) {
-        Ok(bytes) => Ok(Some(String::from_utf8_lossy(rt.alloc(), &bytes)?)),
-        Err(error) => match error.kind() {
-            io::ErrorKind::NotFound | io::ErrorKind::NotADirectory => Ok(None),
-            io::ErrorKind::IsADirectory => Ok(None),
-            _ => Err(error),
-        },
+/// The rules of the file of a folder. As Git does, it follows no link. `Ok(None)`: there is no such file.
+fn rules_in(rt: &HostRuntime, caller: Caller, folder: &str) -> Result<Option<Rules>, Refused> {
+    let path = joined(rt.alloc(), folder, ".gitignore")?;
+    let bytes = match caller.read(rt, path.as_str(), false) {
+        Ok(Some(bytes)) => bytes,
+        Ok(None) => return Ok(None),
+        Err(why) => return Err(Refused::Untrusted(path, why)),
+    };
+    let text = String::from_utf8_lossy(rt.alloc(), &bytes)?;
+    let mut rules = Rules::new(rt.alloc(), folder)?;
+    match rules.add_lines(rt.alloc(), text.as_str())? {
+        Some(line) => Err(Refused::Untrusted(path, Distrust::LongLine(line))),
+        None => Ok(Some(rules)),
     }
 }
 
-/// The rules of the file of a folder. `Ok(None)`: there is no such file.
-fn rules_in(rt: &HostRuntime, folder: &str) -> io::Result<Option<Rules>> {
-    let path: PathBuf = Path::new(folder).join(rt.alloc(), ".gitignore")?;
-    let Some(text) = lines_in(rt, path.as_path())? else {
-        return Ok(None);
-    };
-    let mut rules = Rules::new(rt.alloc(), folder)?;
-    rules.add_lines(rt.alloc(), text.as_str())?;
-    Ok(Some(rules))
-}
-
 impl Ignores {
-    pub fn new(alloc: Global) -> Ignores {
+    pub fn new(rt: &HostRuntime) -> Ignores {
         Ignores {
-            levels: Vec::new(alloc),
+            caller: Caller::new(rt),
+            levels: Vec::new(rt.alloc()),
         }
     }
 
     /// Reads the file of a folder, whose path goes from the root on, below what holds there, and says what holds in it.
+    /// `Refused::Untrusted` is a file that doesn't count.
     pub fn enter(
         &mut self,
         rt: &HostRuntime,
         folder: &str,
         above: Option<usize>,
-    ) -> io::Result<Option<usize>> {
-        let Some(rules) = rules_in(rt, folder)? else {
+    ) -> Result<Option<usize>, Refused> {
+        let Some(rules) = rules_in(rt, self.caller, folder)? else {
             return Ok(above);
         };
         let level = self.levels.len();
@@ -64,13 +61,16 @@ impl Ignores {
     }
 
     /// Reads the files above a folder, up to the top of its repository, if it is in one.
-    pub fn enter_above(&mut self, rt: &HostRuntime, folder: &str) -> io::Result<Option<usize>> {
+    pub fn enter_above(
+        &mut self,
+        rt: &HostRuntime,
+        folder: &str,
+    ) -> Result<Option<usize>, Refused> {
         let mut above = Vec::new(rt.alloc());
         let mut is_found = false;
         for it in Path::new(folder).ancestors() {
             above.push(it)?;
-            let git: PathBuf = it.join(rt.alloc(), ".git")?;
-            if git.as_path().exists(rt) {
+            if is_top(rt, it)? {
                 is_found = true;
                 break;
             }

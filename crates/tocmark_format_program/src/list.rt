@@ -2,10 +2,10 @@
 
 use crate::fault::Fault;
 use crate::lookup::{MISSING, Refused};
-use crate::quoted::unquoted;
 use crate::search::Search;
 use std::io::Read;
 use std::{fs, io, str};
+use tocmark_files::unquoted::unquoted;
 
 /// What is wrong with a line that ends as on Windows.
 const RETURN: &str = "the name ends with a carriage return; end lines with a line feed alone";

@@ -1,21 +1,19 @@
 //! The configuration of each folder: the nearest file in it or above. Each file is read once.
 
 use crate::configuration::{ConfigError, Configuration};
-use crate::quoted::Quoted;
 use crate::settings::Settings;
 use std::alloc::{AllocError, AllocFailed, Global};
 use std::collections::HashMap;
 use std::path::{Path, PathBuf};
 use std::{fmt, fs, io};
+use tocmark_files::quoted::Quoted;
+use tocmark_files::trust::{Caller, Distrust};
 
 /// The name of configuration files.
 const NAME: &str = ".tocmark.toml";
 
 /// What is said of a file that isn't there.
 pub const MISSING: &str = "no such file";
-
-/// What is said of a configuration file that isn't there, though something has its name.
-const DANGLING: &str = "is a link to a file that isn't there";
 
 /// Why a call is refused before anything is done.
 #[derive(Drop)]
@@ -30,6 +28,8 @@ pub enum Refused {
     Unreadable(String, io::Error),
     /// A list of files, a line of it, and what is wrong there.
     ListLine(String, usize, &'static str),
+    /// A configuration or ignore file that was looked for and doesn't count, and why.
+    Untrusted(String, Distrust),
     /// A configuration file, and what is wrong in it.
     Wrong(String, ConfigError),
     OutOfMemory,
@@ -54,6 +54,7 @@ impl Refused {
             Refused::File(path, _) => Some(path.as_str()),
             Refused::Unreadable(path, _) => Some(path.as_str()),
             Refused::ListLine(path, _, _) => Some(path.as_str()),
+            Refused::Untrusted(path, _) => Some(path.as_str()),
             Refused::Wrong(path, _) => Some(path.as_str()),
             _ => None,
         }
@@ -72,6 +73,7 @@ impl fmt::Display for Refused {
             Refused::File(_, why) => write!(f, ": {why}"),
             Refused::Unreadable(_, error) => write!(f, ": cannot be read: {error}"),
             Refused::ListLine(_, line, why) => write!(f, ":{line}: {why}"),
+            Refused::Untrusted(_, why) => write!(f, ": {why}; --config FILE names another one"),
             Refused::Wrong(_, error) => write!(f, "{error}"),
             Refused::OutOfMemory => f.write_str("out of memory"),
         }
@@ -119,19 +121,15 @@ pub fn whole_path(rt: &HostRuntime, path: &str) -> Result<String, Refused> {
     Ok(whole.into_string())
 }
 
-/// The configuration that a file is. `Ok(None)`: there is no such file.
-fn configuration_in(rt: &HostRuntime, path: &str) -> Result<Option<Configuration>, Refused> {
-    let bytes = match fs::read(rt, path) {
-        Ok(bytes) => bytes,
-        Err(error) if is_absence(&error) => return Ok(None),
-        Err(error) => {
-            let path = String::from_str(rt.alloc(), path)?;
-            return Err(Refused::Unreadable(path, error));
-        }
-    };
+/// The configuration in a file that has these bytes.
+fn configuration_in(
+    rt: &HostRuntime,
+    path: &str,
+    bytes: Vec<u8>,
+) -> Result<Configuration, Refused> {
     let folder = whole_path(rt, folder_of(path))?;
     match Configuration::parse(rt.alloc(), bytes, folder.as_str()) {
-        Ok(configuration) => Ok(Some(configuration)),
+        Ok(configuration) => Ok(configuration),
         Err(error) => {
             let path = String::from_str(rt.alloc(), path)?;
             Err(Refused::Wrong(path, error))
@@ -139,27 +137,65 @@ fn configuration_in(rt: &HostRuntime, path: &str) -> Result<Option<Configuration
     }
 }
 
-/// The configuration in a file that has to be there.
+/// The configuration in a file that is named, whoever it belongs to.
 fn named_configuration(rt: &HostRuntime, path: &str) -> Result<Configuration, Refused> {
-    match configuration_in(rt, path)? {
-        Some(configuration) => Ok(configuration),
-        None => Err(Refused::File(String::from_str(rt.alloc(), path)?, MISSING)),
+    match fs::read(rt, path) {
+        Ok(bytes) => configuration_in(rt, path, bytes),
+        Err(error) => {
+            let path = String::from_str(rt.alloc(), path)?;
+            if is_absence(&error) {
+                return Err(Refused::File(path, MISSING));
+            }
+            Err(Refused::Unreadable(path, error))
+        }
     }
 }
 
 /// The configuration of a folder itself. `Ok(None)`: it has none.
-fn configuration_of(rt: &HostRuntime, folder: Path<'_>) -> Result<Option<Configuration>, Refused> {
+fn configuration_of(
+    rt: &HostRuntime,
+    caller: Caller,
+    folder: Path<'_>,
+) -> Result<Option<Configuration>, Refused> {
     let path: PathBuf = folder.join(rt.alloc(), NAME)?;
-    let found = configuration_in(rt, path.as_path().as_str())?;
-    if found.is_none() && fs::symlink_metadata(rt, path.as_path()).is_ok() {
-        return Err(Refused::File(path.into_string(), DANGLING));
+    let path = path.into_string();
+    match caller.read(rt, path.as_str(), true) {
+        Ok(Some(bytes)) => configuration_in(rt, path.as_str(), bytes).map(Some),
+        Ok(None) => Ok(None),
+        Err(why) => Err(Refused::Untrusted(path, why)),
     }
-    Ok(found)
+}
+
+/// Whether a folder is the top of a Git repository.
+pub fn is_top(rt: &HostRuntime, folder: Path<'_>) -> Result<bool, AllocError> {
+    let git: PathBuf = folder.join(rt.alloc(), ".git")?;
+    Ok(git.as_path().exists(rt))
+}
+
+/// Whether a configuration above a folder can count: not above the top of its Git repository; and outside of one, neither on
+/// another file system nor in the folder of another user.
+fn goes_on(rt: &HostRuntime, caller: Caller, folder: Path<'_>) -> Result<bool, Refused> {
+    let Some(above) = folder.parent() else {
+        return Ok(false);
+    };
+    if is_top(rt, folder)? {
+        return Ok(false);
+    }
+    if caller.is_near(rt, folder.as_str(), above.as_str()) {
+        return Ok(true);
+    }
+    for it in above.ancestors() {
+        if is_top(rt, it)? {
+            return Ok(true);
+        }
+    }
+    Ok(false)
 }
 
 /// The configurations that were read, and which folder has which.
 #[derive(Drop)]
 pub struct Configurations {
+    caller: Caller,
     /// The first holds where there is no file, or is that of `--config`.
     all: Vec<Configuration>,
     /// Whether the first is for all folders.
@@ -177,6 +213,7 @@ impl Configurations {
         let mut all = Vec::new(rt.alloc());
         all.push(first)?;
         Ok(Configurations {
+            caller: Caller::new(rt),
             all,
             is_one: path.is_some(),
             by_folder: HashMap::new(rt.alloc()),
@@ -196,9 +233,12 @@ impl Configurations {
                 break;
             }
             passed = passed.saturating_add(1);
-            if let Some(configuration) = configuration_of(rt, above)? {
+            if let Some(configuration) = configuration_of(rt, self.caller, above)? {
                 nearest = self.all.len();
                 self.all.push(configuration)?;
+                break;
+            }
+            if !goes_on(rt, self.caller, above)? {
                 break;
             }
         }

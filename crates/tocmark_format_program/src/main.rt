@@ -2,31 +2,27 @@
 //! compared, so a document never says anything else afterwards (the clause `same` of `decided`). `docs/FORMAT.md` has the
 //! options.
 //!
-//! It stands on `tocmark_format`, and on `tocmark_command`, which has what it shares with `tocmark-events`. Enter at `main`.
+//! It uses `tocmark_format`, `tocmark_files`, which matches names, shows what changed and replaces files, and
+//! `tocmark_command`, which has what it shares with `tocmark-events`. Enter at `main`.
 //!
 //! What a call asks for: `words` has its words, `arguments` the command line, `settings` what the options and the keys of a
 //! configuration name, `configuration` reads such a file, and `lookup` finds that of each folder. Which texts are meant:
-//! `search` finds them, `walk` those below a folder, and `list` those of a list; `glob` matches names, `rules` says what globs
-//! mean, and `ignores` has those of `.gitignore`. What is done: `decide` has what is written for a text, `text` reads one,
-//! `stream` answers standard input, `changes` and `diff` show what would change, and `replace` replaces a file. What is
-//! printed: `outcome` has what became of a text and the status, `report`, `fault` and `quoted` have the messages.
+//! `search` finds them, `walk` those below a folder, and `list` those of a list; `ignores` has the rules of `.gitignore`.
+//! What is done: `decide` has what is written for a text, `text` reads one, `stream` answers standard input, and `replace`
+//! replaces a file. What is printed: `outcome` has what became of a text and the status, `report` and `fault` have the
+//! messages.
 #![tactic(auto)]
 
 mod arguments;
-mod changes;
 mod configuration;
 mod decide;
-mod diff;
 mod fault;
-mod glob;
 mod ignores;
 mod list;
 mod lookup;
 mod outcome;
-mod quoted;
 mod replace;
 mod report;
-mod rules;
 mod search;
 mod settings;
 mod stream;
@@ -37,26 +33,27 @@ mod words;
 use arguments::{Color, NAME, Task, Voice, choice_of, color_of, command, task_of, voice_of};
 use clap::ArgMatches;
 use decide::{Decision, decided};
-use diff::{Look, unified_diff};
 use fault::Fault;
 use list::add_list;
 use lookup::Refused;
 use outcome::{Outcome, outcome_of, status_of};
-use quoted::Quoted;
 use replace::{Change, replace_text};
 use report::Report;
 use search::{Found, Origin, Search, Target};
 use settings::Settings;
 use std::alloc::{AllocError, Global};
+use std::env;
 use std::io::{BufWriter, IsTerminal, Read, Stderr, Write};
 use std::process::ExitCode;
-use std::{env, fs};
 use stream::{Passed, READER, format_stream};
 use text::text_in;
 use tocmark_command::program::Program;
-use tocmark_command::replace::remove_left;
 use tocmark_command::streams::write_out;
 use tocmark_command::syntax::syntax_help;
+use tocmark_files::diff::{Look, unified_diff};
+use tocmark_files::place::{OpenFile, Place};
+use tocmark_files::quoted::Quoted;
+use tocmark_files::replace::remove_left;
 use words::{Words, words_of};
 
 /// This program.
@@ -131,7 +128,7 @@ fn format_file(
     rt: &HostRuntime,
     work: Work,
     settings: Settings,
-    path: &str,
+    file: &mut OpenFile,
     text: String,
 ) -> Result<Passed, Fault> {
     let decision = decided(rt.alloc(), text, &READER, settings)?;
@@ -140,14 +137,19 @@ fn format_file(
         decision: &decision,
         syncs: work.task.syncs,
     };
-    replace_text(rt, path, &change).map_err(Fault::Replace)?;
+    replace_text(rt, file, &change).map_err(Fault::Replace)?;
     Ok(passed_by(decision))
 }
 
-/// The text of a file.
-fn text_of(rt: &HostRuntime, path: &str) -> Result<String, Fault> {
-    let mut file = fs::open(rt, path).map_err(Fault::Read)?;
-    text_in(rt.alloc(), &mut file)
+/// Formats a file that was found, or shows what would change in it.
+fn done_in(rt: &HostRuntime, work: Work, target: &Target, place: &Place) -> Result<Passed, Fault> {
+    let mut file = place.open(rt).map_err(Fault::Read)?;
+    let text = text_in(rt.alloc(), &mut file.file)?;
+    if work.task.is_dry() {
+        preview(rt, work, target.settings, target.path.as_str(), text)
+    } else {
+        format_file(rt, work, target.settings, &mut file, text)
+    }
 }
 
 /// Formats standard input to standard output.
@@ -175,21 +177,14 @@ fn copy_through(rt: &HostRuntime, work: Work) -> Result<Passed, Fault> {
 fn done(rt: &HostRuntime, work: Work, target: &Target) -> Result<Passed, Fault> {
     let (path, settings) = (target.path.as_str(), target.settings);
     let is_dry = work.task.is_dry();
-    match target.origin {
+    match &target.origin {
         Origin::ExcludedInput => copy_through(rt, work),
         Origin::Input if is_dry => {
             let text = text_in(rt.alloc(), &mut rt.stdin())?;
             preview(rt, work, settings, path, text)
         }
         Origin::Input => pass_through(rt, settings),
-        Origin::File => {
-            let text = text_of(rt, path)?;
-            if is_dry {
-                preview(rt, work, settings, path, text)
-            } else {
-                format_file(rt, work, settings, path, text)
-            }
-        }
+        Origin::File(place) => done_in(rt, work, target, place),
     }
 }
 
@@ -267,8 +262,8 @@ fn has_summary(found: &Found) -> bool {
     }
     match found.targets.as_slice() {
         [] => found.empty.is_empty(),
-        [only] => match only.origin {
-            Origin::File => true,
+        [only] => match &only.origin {
+            Origin::File(_) => true,
             _ => false,
         },
         _ => true,
@@ -383,8 +378,10 @@ fn perform(
     }
     do_all(rt, work, &found.targets, report, &mut outcomes)?;
     if !work.task.is_dry() {
-        for path in &found.left_behind {
-            remove_left(rt, path.as_str());
+        for left in &found.left_behind {
+            if remove_left(rt, &left.place) {
+                report.note(left.path.as_str(), "removed: an interrupted call left it");
+            }
         }
     }
     if has_summary(found) {

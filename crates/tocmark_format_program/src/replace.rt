@@ -3,8 +3,9 @@
 ghost use Rattle.tocmark_format_program.specs.Formats.{KeepsWhatItSays};
 
 use crate::decide::Decision;
-use tocmark_command::replace::{ReplaceError, Replacement};
 use tocmark_event::reader::Reader;
+use tocmark_files::place::OpenFile;
+use tocmark_files::replace::{ReplaceError, Replacement};
 
 /// A decision that is carried out, and the reader of its texts.
 #[derive(Drop)]
@@ -15,11 +16,11 @@ pub struct Change<'c, R> {
     pub syncs: bool,
 }
 
-/// Replaces a file's text by the new text of a decision, if there is one. Both say the same. A link is followed. After an
-/// `Err` the file is as it was.
+/// Replaces a file's text by the new text of a decision, if there is one. Both say the same. After an `Err` the file is as it
+/// was.
 pub fn replace_text<R: Reader>(
     rt: &HostRuntime,
-    path: &str,
+    file: &mut OpenFile,
     change: &Change<'_, R>,
 ) -> Result<(), ReplaceError>
     requires { KeepsWhatItSays (R.reading change.now.reader.now) change.now.decision.now }
@@ -32,5 +33,5 @@ pub fn replace_text<R: Reader>(
         new: new.as_str(),
         syncs: change.syncs,
     };
-    replacement.put(rt, path)
+    replacement.put_in(rt, file)
 }

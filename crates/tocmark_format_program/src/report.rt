@@ -3,9 +3,9 @@
 use crate::arguments::Voice;
 use crate::fault::Fault;
 use crate::outcome::Outcome;
-use crate::quoted::Quoted;
 use std::fmt;
 use std::io::Write;
+use tocmark_files::quoted::{OneLine, Quoted};
 use tocmark_format::{Left, Reason};
 
 /// How many texts there were, and what became of them.
@@ -186,9 +186,10 @@ impl<E: Write + Drop> Report<E> {
         }
     }
 
-    /// Writes a line.
+    /// Writes a line, in which control characters are escaped.
     fn say<L: fmt::Display>(&mut self, line: &L) {
         self.clear();
+        let line = OneLine(line);
         let _ = writeln!(self.out, "{line}");
         let _ = self.out.flush();
     }

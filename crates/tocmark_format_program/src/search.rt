@@ -4,15 +4,17 @@ use crate::arguments::Choice;
 use crate::fault::Fault;
 use crate::ignores::Ignores;
 use crate::lookup::{Configurations, Refused, folder_of, joined, whole_path};
-use crate::rules::{Entry, Rules, name_of};
 use crate::settings::{Settings, set_all};
 use std::collections::{HashMap, HashSet};
 use std::{fs, io};
+use tocmark_files::place::Place;
+use tocmark_files::rules::{Entry, Rules, name_of};
 
 /// Where a text comes from, and what becomes of it.
-#[derive(Clone, Copy)]
+#[derive(Drop)]
 pub enum Origin {
-    File,
+    /// The file that was found here, whatever has its name later.
+    File(Place),
     Input,
     /// Standard input that is excluded, by the name that it has.
     ExcludedInput,
@@ -25,6 +27,14 @@ pub struct Target {
     pub path: String,
     pub origin: Origin,
     pub settings: Settings,
+}
+
+/// A file below a folder that looks as if an interrupted call left it behind.
+#[derive(Drop)]
+pub struct Left {
+    /// The path as it is shown.
+    pub path: String,
+    pub place: Place,
 }
 
 /// A path that gives no text, and why.
@@ -44,7 +54,7 @@ pub struct Found {
     /// Folders that are named and have no files to format.
     pub empty: Vec<String>,
     /// Files below folders that look as if an interrupted call left them behind.
-    pub left_behind: Vec<String>,
+    pub left_behind: Vec<Left>,
 }
 
 /// The search for the texts of a call.
@@ -109,7 +119,7 @@ impl Search {
         Ok(Search {
             choice,
             configurations,
-            ignores: Ignores::new(rt.alloc()),
+            ignores: Ignores::new(rt),
             folders: HashMap::new(rt.alloc()),
             seen: HashSet::new(rt.alloc()),
             found: Found {
@@ -241,6 +251,7 @@ impl Search {
         configuration: usize,
         path: &str,
         whole: String,
+        place: Place,
     ) -> Result<Option<Target>, Refused> {
         let settings = self.settings(rt, configuration, Some(whole.as_str()))?;
         let path = String::from_str(rt.alloc(), path)?;
@@ -249,7 +260,7 @@ impl Search {
         }
         Ok(Some(Target {
             path,
-            origin: Origin::File,
+            origin: Origin::File(place),
             settings,
         }))
     }
@@ -277,7 +288,11 @@ impl Search {
         if !self.includes(rt, configuration, whole.as_str())? {
             return self.fail(rt, path, Fault::NotIncluded);
         }
-        if let Some(target) = self.target(rt, configuration, path, whole)? {
+        let place = match Place::find(rt, path) {
+            Ok(place) => place,
+            Err(error) => return self.fail(rt, path, Fault::Read(error)),
+        };
+        if let Some(target) = self.target(rt, configuration, path, whole, place)? {
             self.found.targets.push(target)?;
         }
         Ok(())

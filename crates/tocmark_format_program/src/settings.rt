@@ -6,7 +6,7 @@ ghost use Rattle.tocmark_format_program.specs.AlsoRead.{also_flags, asked_flags}
 use std::alloc::{AllocError, Global};
 use tocmark_command::syntax::{extended, syntax_named};
 use tocmark_event::event::ParserOptions;
-use tocmark_format::{
+use tocmark_print::{
     Bullet, Delimiter, Fence, HardBreak, ListIndent, Marker, Numbering, Rule, Style, Wrap,
 };
 use tocmark_reader::{EXTENSIONS, GFM};

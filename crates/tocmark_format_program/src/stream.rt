@@ -12,7 +12,8 @@ use crate::text::text_in;
 use std::alloc::Global;
 use std::io::{Read, Write};
 use tocmark_command::streams::write_out;
-use tocmark_format::{Left, PartReader};
+use tocmark_format::Left;
+use tocmark_judge::PartReader;
 use tocmark_reader::{ExtendedReader, Names};
 
 /// The reader of all documents.

@@ -2,12 +2,13 @@
 
 use crate::fault::Fault;
 use crate::lookup::{Refused, joined, whole_path};
-use crate::rules::Entry;
-use crate::search::{Search, Target, is_markdown};
+use crate::search::{Failure, Left, Search, Target, is_markdown};
 use std::cmp::Ordering;
 use std::fs::DirEntry;
 use std::{fs, io};
-use tocmark_command::replace::replaced_by;
+use tocmark_files::place::{Identity, OpenFolder, Place};
+use tocmark_files::replace::replaced_by;
+use tocmark_files::rules::Entry;
 
 /// A folder that is still to be searched.
 #[derive(Drop)]
@@ -16,6 +17,8 @@ struct Folder {
     path: String,
     /// The path from the root on, without links.
     whole: String,
+    /// Which folder was found.
+    identity: Identity,
     /// What is ignored in it by the folders above.
     ignores: Option<usize>,
 }
@@ -23,9 +26,21 @@ struct Folder {
 /// What holds in a folder.
 #[derive(Clone, Copy)]
 struct Scope<'f> {
+    path: &'f str,
     whole: &'f str,
+    identity: Identity,
     configuration: usize,
     ignores: Option<usize>,
+}
+
+/// Something that is found in a folder.
+#[derive(Drop)]
+struct Item {
+    /// The path as it is shown.
+    path: String,
+    /// The path from the root on, without links.
+    whole: String,
+    identity: Identity,
 }
 
 /// The files found below a folder, and the folders that are still to be searched.
@@ -39,17 +54,16 @@ struct Walk {
 
 impl Walk {
     /// Adds a folder that is still to be searched.
-    fn add_folder(
-        &mut self,
-        rt: &HostRuntime,
-        path: &str,
-        whole: String,
-        ignores: Option<usize>,
-    ) -> Result<(), Refused> {
-        let path = String::from_str(rt.alloc(), path)?;
+    fn add_folder(&mut self, item: Item, ignores: Option<usize>) -> Result<(), Refused> {
+        let Item {
+            path,
+            whole,
+            identity,
+        } = item;
         self.folders.push(Folder {
             path,
             whole,
+            identity,
             ignores,
         })?;
         Ok(())
@@ -69,21 +83,37 @@ fn entry_fault(error: io::Error) -> Fault {
     }
 }
 
+/// Which folder a path leads to. A link is followed.
+fn identity_of(rt: &HostRuntime, path: &str) -> io::Result<Identity> {
+    OpenFolder::open(rt, path)?.identity()
+}
+
 impl Search {
     /// Adds the files below a folder that is named, in the order of their paths' bytes.
     pub(crate) fn add_below(&mut self, rt: &HostRuntime, path: &str) -> Result<(), Refused> {
+        let identity = match identity_of(rt, path) {
+            Ok(identity) => identity,
+            Err(error) => return self.fail(rt, path, Fault::Read(error)),
+        };
         let whole = whole_path(rt, path)?;
         if self.is_excluded_folder(rt, whole.as_str())? {
             return self.exclude(rt, path);
         }
-        let ignores = self.ignores_above(rt, path, whole.as_str())?;
+        let Some(ignores) = self.ignores_above(rt, whole.as_str())? else {
+            return Ok(());
+        };
         let mut walk = Walk {
             folders: Vec::new(rt.alloc()),
             targets: Vec::new(rt.alloc()),
             has_files: false,
         };
         let failures = self.found.failures.len();
-        walk.add_folder(rt, path, whole, ignores)?;
+        let item = Item {
+            path: String::from_str(rt.alloc(), path)?,
+            whole,
+            identity,
+        };
+        walk.add_folder(item, ignores)?;
         self.walk(rt, &mut walk)?;
         let Walk {
             targets,
@@ -118,40 +148,47 @@ impl Search {
         Ok(())
     }
 
+    /// What is ignored. `Ok(None)`: a file that says so doesn't count, which is noted.
+    fn counted(
+        &mut self,
+        entered: Result<Option<usize>, Refused>,
+    ) -> Result<Option<Option<usize>>, Refused> {
+        match entered {
+            Ok(ignores) => Ok(Some(ignores)),
+            Err(Refused::Untrusted(path, why)) => {
+                let fault = Fault::Ignores(why);
+                self.found.failures.push(Failure { path, fault })?;
+                Ok(None)
+            }
+            Err(refused) => Err(refused),
+        }
+    }
+
     /// What is ignored in a folder by those above it.
     fn ignores_above(
         &mut self,
         rt: &HostRuntime,
-        path: &str,
         whole: &str,
-    ) -> Result<Option<usize>, Refused> {
+    ) -> Result<Option<Option<usize>>, Refused> {
         if !self.respects_ignores() {
-            return Ok(None);
+            return Ok(Some(None));
         }
-        match self.ignores.enter_above(rt, whole) {
-            Ok(ignores) => Ok(ignores),
-            Err(error) => {
-                self.fail(rt, path, Fault::Ignores(error))?;
-                Ok(None)
-            }
-        }
+        let entered = self.ignores.enter_above(rt, whole);
+        self.counted(entered)
     }
 
     /// What is ignored in a folder.
-    fn ignores_in(&mut self, rt: &HostRuntime, folder: &Folder) -> Result<Option<usize>, Refused> {
+    fn ignores_in(
+        &mut self,
+        rt: &HostRuntime,
+        folder: &Folder,
+    ) -> Result<Option<Option<usize>>, Refused> {
         if !self.respects_ignores() {
-            return Ok(None);
+            return Ok(Some(None));
         }
-        match self
-            .ignores
-            .enter(rt, folder.whole.as_str(), folder.ignores)
-        {
-            Ok(ignores) => Ok(ignores),
-            Err(error) => {
-                self.fail(rt, folder.path.as_str(), Fault::Ignores(error))?;
-                Ok(folder.ignores)
-            }
-        }
+        let whole = folder.whole.as_str();
+        let entered = self.ignores.enter(rt, whole, folder.ignores);
+        self.counted(entered)
     }
 
     /// Adds the entries of a folder.
@@ -162,15 +199,23 @@ impl Search {
         folder: &Folder,
     ) -> Result<(), Refused> {
         let path = folder.path.as_str();
-        let entries = match fs::read_dir(rt, path) {
+        let opened = match OpenFolder::open_known(rt, path, folder.identity) {
+            Ok(opened) => opened,
+            Err(error) => return self.fail(rt, path, Fault::Read(error)),
+        };
+        let entries = match fs::read_dir(rt, opened.reach()) {
             Ok(entries) => entries,
             Err(error) => return self.fail(rt, path, Fault::Read(error)),
         };
         let whole = folder.whole.as_str();
-        let ignores = self.ignores_in(rt, folder)?;
+        let Some(ignores) = self.ignores_in(rt, folder)? else {
+            return Ok(());
+        };
         let configuration = self.nearest(rt, whole)?;
         let scope = Scope {
+            path,
             whole,
+            identity: folder.identity,
             configuration,
             ignores,
         };
@@ -191,45 +236,70 @@ impl Search {
         scope: Scope<'_>,
         entry: &DirEntry,
     ) -> Result<(), Refused> {
-        if replaced_by(entry.file_name()).is_some_and(is_markdown) {
-            let path = String::from_str(rt.alloc(), entry.path().as_str())?;
-            self.found.left_behind.push(path)?;
+        let name = entry.file_name();
+        let is_left = replaced_by(name).is_some_and(is_markdown);
+        if !is_left && self.passes_by(scope.configuration, name) {
             return Ok(());
         }
-        if self.passes_by(scope.configuration, entry.file_name()) {
-            return Ok(());
-        }
-        let path = entry.path();
-        let kind = match entry.file_type() {
-            Ok(kind) => kind,
+        let path = joined(rt.alloc(), scope.path, name)?;
+        let metadata = match entry.metadata() {
+            Ok(metadata) => metadata,
             Err(error) => return self.fail(rt, path.as_str(), Fault::Read(error)),
         };
-        let whole = joined(rt.alloc(), scope.whole, entry.file_name())?;
-        if kind.is_file() {
-            self.look_at_file(rt, walk, scope, path.as_str(), whole)
-        } else if kind.is_dir() && self.is_walked(rt, scope, whole.as_str(), true)? {
-            walk.add_folder(rt, path.as_str(), whole, scope.ignores)
+        let item = Item {
+            path,
+            whole: joined(rt.alloc(), scope.whole, name)?,
+            identity: Identity::of(&metadata),
+        };
+        if is_left {
+            self.add_left(rt, scope, item)
+        } else if metadata.is_file() {
+            self.look_at_file(rt, walk, scope, item)
+        } else if metadata.is_dir() && self.is_walked(rt, scope, item.whole.as_str(), true)? {
+            walk.add_folder(item, scope.ignores)
         } else {
             Ok(())
         }
     }
 
-    /// Adds a file of a folder with this path and this whole path, if it is one of those that are formatted.
+    /// Adds a file of a folder that looks as if an interrupted call left it behind.
+    fn add_left(&mut self, rt: &HostRuntime, scope: Scope<'_>, item: Item) -> Result<(), Refused> {
+        let Item { path, identity, .. } = item;
+        let place = Place::new(
+            String::from_str(rt.alloc(), path.as_str())?,
+            scope.identity,
+            identity,
+        );
+        self.found.left_behind.push(Left { path, place })?;
+        Ok(())
+    }
+
+    /// Adds a file of a folder, if it is one of those that are formatted.
     fn look_at_file(
         &mut self,
         rt: &HostRuntime,
         walk: &mut Walk,
         scope: Scope<'_>,
-        path: &str,
-        whole: String,
+        item: Item,
     ) -> Result<(), Refused> {
-        let is_found = self.includes(rt, scope.configuration, whole.as_str())?
-            && self.is_walked(rt, scope, whole.as_str(), false)?;
+        let whole = item.whole.as_str();
+        let is_found = self.includes(rt, scope.configuration, whole)?
+            && self.is_walked(rt, scope, whole, false)?;
         if !is_found {
             return Ok(());
         }
         walk.has_files = true;
-        if let Some(target) = self.target(rt, scope.configuration, path, whole)? {
+        let Item {
+            path,
+            whole,
+            identity,
+        } = item;
+        let place = Place::new(
+            String::from_str(rt.alloc(), path.as_str())?,
+            scope.identity,
+            identity,
+        );
+        if let Some(target) = self.target(rt, scope.configuration, path.as_str(), whole, place)? {
             walk.targets.push(target)?;
         }
         Ok(())

@@ -13,6 +13,7 @@ pub mod Whole
 pub mod Inverse
 pub mod Passing
 pub mod Adding
+pub mod Plain
 pub mod Shallow
 pub mod Refusals
 pub mod Forms

@@ -1,9 +1,7 @@
--- What a writer of JSON text has taken, and lines of JSON.
+-- What printing adds to bytes, and lines of JSON.
 use Rattle.std.specs.Prelude.{◌≡◌, ℕ, List, [], ◌∷◌, ◌++◌, Option, Some}
 use Rattle.std.specs.List.{flat_map}
-use Rattle.json.specs.Token.{Token, key}
-use Rattle.json.specs.Tree.{json_tokens}
-use Rattle.json.specs.Written.{Written}
+use Rattle.json.specs.Tree.{HasNumbers}
 use Rattle.serde_json.specs.Data.{Data}
 use Rattle.serde_json.specs.Read.{of_json}
 use Rattle.serde_json.specs.Written.{outline, blank, compact_text}
@@ -11,22 +9,32 @@ use Rattle.tocmark_event.specs.View.{EventView}
 use Rattle.tocmark_json.specs.Json.{located_json, pair_json}
 use Rattle.tocmark_json.specs.declared.positions.Span.{Span}
 
--- these tokens stand behind what stood there
-pub record Grows (ts : List Token) (old new : Written) : Type 0 where
-  pub before : new.before ≡ old.before
-  pub tokens : new.tokens ≡ old.tokens ++ ts
+-- these bytes stand behind what stood there
+abbrev pub Grows : List ℕ → List ℕ → List ℕ → Type 0
+Grows bytes old new = new ≡ old ++ bytes
 
--- the tokens of a value do, each of its numbers reads as itself, and all reads as the value
-pub record Adds (d : Data) (old new : Written) : Type 0 where
-  pub grows : Grows (json_tokens (outline d)) old new
+-- the text of a value reads as the value: so do its numbers, and its keys stand in their order
+pub record IsSound (d : Data) : Type 0 where
   pub whole : blank (outline d) ≡ outline d
   pub reads : of_json (outline d) ≡ Some d
+  pub numbers : HasNumbers (outline d)
 
--- a key and its value stand behind what stood there
-pub record AddsMember (name : List ℕ) (d : Data) (old new : Written) : Type 0 where
-  pub grows : Grows (key name ∷ json_tokens (outline d)) old new
-  pub whole : blank (outline d) ≡ outline d
-  pub reads : of_json (outline d) ≡ Some d
+-- these bytes do, and the value's text reads as the value
+pub record Brings (bytes : List ℕ) (d : Data) (old new : List ℕ) : Type 0 where
+  pub grows : Grows bytes old new
+  pub sound : IsSound d
+
+-- the value's text
+abbrev pub Adds : Data → List ℕ → List ℕ → Type 0
+Adds d = Brings (compact_text d) d
+
+-- the value's text, and a closing brace
+abbrev pub Closes : Data → List ℕ → List ℕ → Type 0
+Closes d = Brings (compact_text d ++ 125 ∷ []) d
+
+-- the text of the second of two values in an array: a comma, the value's text, and the closing bracket
+abbrev pub Follows : Data → List ℕ → List ℕ → Type 0
+Follows d = Brings (44 ∷ (compact_text d ++ 93 ∷ [])) d
 
 -- the JSON texts of events with their ranges, each with a line feed behind it
 abbrev pub lines_text : List (EventView × Option (ℕ × ℕ)) → List ℕ

@@ -4,67 +4,65 @@ ghost use Rattle.std.specs.Prelude.{◌≡◌, IfOk, OnOk, Some, map, string_byt
 ghost use Rattle.serde_json.specs.Read.{read};
 ghost use Rattle.serde_json.specs.Written.{IsInOrder, compact_text};
 ghost use Rattle.tocmark_event.specs.View.{event_view};
-ghost use Rattle.tocmark_json.specs.Json.{listed, located_json, located_view, size_json, spanned_json};
+ghost use Rattle.tocmark_json.specs.Json.{listed, located_json, located_view, spanned_json};
 ghost use Rattle.tocmark_json.specs.Positions.{IsIndex};
-ghost use Rattle.tocmark_json.specs.Printed.{Adds, AddsMember, located_lines};
+ghost use Rattle.tocmark_json.specs.Printed.{Adds, Follows, located_lines};
 
 use crate::positions::{Positions, Span};
-use crate::printing::{print_event, print_size, print_token, push_line, text_of};
-use json::{Token, Writer};
+use crate::printing::{print_event, print_size, push, push_comma, text_of};
 use std::alloc::{AllocError, Global};
 use tocmark_event::event::{EventOf, Words};
 
-#[tactic(auto, using(crate::proofs::Adding::member_added_at))]
-fn print_key_and_size(out: &mut Writer, key: &str, size: usize) -> Result<(), AllocError>
-    ensures { OnOk result (AddsMember key.now (size_json size) out.old out.new) }
+/// Prints a range with lines and columns as the second of two values in an array, and closes that.
+fn print_spanned(out: &mut Vec<u8>, range: (usize, usize), span: Span) -> Result<(), AllocError>
+    ensures { OnOk result (Follows (spanned_json range span) out.old.items out.new.items) }
 {
-    print_token(out, Token::Key(key))?;
-    print_size(out, size as u64)
+    push(out, b",{\"end\":")?;
+    print_size(out, range.1 as u64)?;
+    push(out, b",\"end_column\":")?;
+    print_size(out, span.end.column as u64)?;
+    push(out, b",\"end_line\":")?;
+    print_size(out, span.end.line as u64)?;
+    push(out, b",\"start\":")?;
+    print_size(out, range.0 as u64)?;
+    push(out, b",\"start_column\":")?;
+    print_size(out, span.start.column as u64)?;
+    push(out, b",\"start_line\":")?;
+    print_size(out, span.start.line as u64)?;
+    push(out, b"}]")
 }
 
-fn print_spanned(out: &mut Writer, range: (usize, usize), span: Span) -> Result<(), AllocError>
-    ensures { OnOk result (Adds (spanned_json range span) out.old out.new) }
-{
-    print_token(out, Token::BeginObject)?;
-    print_key_and_size(out, "end", range.1)?;
-    print_key_and_size(out, "end_column", span.end.column)?;
-    print_key_and_size(out, "end_line", span.end.line)?;
-    print_key_and_size(out, "start", range.0)?;
-    print_key_and_size(out, "start_column", span.start.column)?;
-    print_key_and_size(out, "start_line", span.start.line)?;
-    print_token(out, Token::EndObject)
-}
-
-#[tactic(auto, using(crate::proofs::Adding::both_added))]
 fn print_located<T: Words>(
-    out: &mut Writer,
+    out: &mut Vec<u8>,
     pair: &(EventOf<T>, (usize, usize)),
     positions: &Positions<'_>,
 ) -> Result<(), AllocError>
     requires { IsIndex positions.now }
     ensures { OnOk result (Adds (located_json
-        (located_view T.bytes positions.now.bytes.now pair.now)) out.old out.new) }
+        (located_view T.bytes positions.now.bytes.now pair.now)) out.old.items out.new.items) }
 {
-    print_token(out, Token::BeginArray)?;
+    push(out, b"[")?;
     print_event(out, &pair.0)?;
-    print_spanned(out, pair.1, positions.span(pair.1))?;
-    print_token(out, Token::EndArray)
+    print_spanned(out, pair.1, positions.span(pair.1))
 }
 
 fn print_all_located<T: Words>(
-    out: &mut Writer,
+    out: &mut Vec<u8>,
     pairs: &[(EventOf<T>, (usize, usize))],
     positions: &Positions<'_>,
 ) -> Result<(), AllocError>
     requires { IsIndex positions.now }
     ensures { OnOk result (Adds (listed located_json
-        (map (located_view T.bytes positions.now.bytes.now) pairs.now)) out.old out.new) }
+        (map (located_view T.bytes positions.now.bytes.now) pairs.now)) out.old.items out.new.items) }
 {
-    print_token(out, Token::BeginArray)?;
+    push(out, b"[")?;
+    let mut later = false;
     for pair in pairs {
+        push_comma(out, later)?;
         print_located(out, pair, positions)?;
+        later = true;
     }
-    print_token(out, Token::EndArray)
+    push(out, b"]")
 }
 
 fn indexed_to_text<T: Words>(
@@ -80,7 +78,7 @@ fn indexed_to_text<T: Words>(
     ensures reads_back { IfOk result (λ text. read (string_bytes text) ≡ Some (listed located_json
         (map (located_view T.bytes positions.now.bytes.now) pairs.now))) }
 {
-    let mut out = Writer::new(Vec::new(alloc));
+    let mut out = Vec::new(alloc);
     print_all_located(&mut out, pairs, positions)?;
     text_of(out)
 }
@@ -105,20 +103,6 @@ pub fn located_to_text<T: Words>(
     indexed_to_text(alloc, pairs, &positions)
 }
 
-fn located_line<T: Words>(
-    alloc: Global,
-    pair: &(EventOf<T>, (usize, usize)),
-    positions: &Positions<'_>,
-) -> Result<String, AllocError>
-    requires { IsIndex positions.now }
-    ensures { IfOk result (λ text. string_bytes text ≡ compact_text (located_json
-        (located_view T.bytes positions.now.bytes.now pair.now))) }
-{
-    let mut out = Writer::new(Vec::new(alloc));
-    print_located(&mut out, pair, positions)?;
-    text_of(out)
-}
-
 /// `located_to_lines` over an index of the source's places, which serves many calls.
 ///
 /// It fails if memory runs out.
@@ -131,12 +115,12 @@ pub fn indexed_to_lines<T: Words>(
     ensures { IfOk result (λ text. string_bytes text
         ≡ located_lines (map (located_view T.bytes positions.now.bytes.now) pairs.now)) }
 {
-    let mut text = String::new(alloc);
+    let mut out = Vec::new(alloc);
     for pair in pairs {
-        let line = located_line(alloc, pair, positions)?;
-        push_line(&mut text, &line)?;
+        print_located(&mut out, pair, positions)?;
+        push(&mut out, b"\n")?;
     }
-    Ok(text)
+    text_of(out)
 }
 
 /// The JSON texts of events with their ranges in a source, as a reader gives them: `[event, range]` on a line for each

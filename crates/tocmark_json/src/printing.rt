@@ -1,231 +1,227 @@
-//! The JSON text of events, token by token: no value of it is made.
+//! The JSON text of events, piece by piece: no value of it is made.
 
 ghost use Rattle.std.specs.Prelude.{◌≡◌, [], ◌∷◌, ◌++◌, IfOk, OnOk, Some, codes, map, string_bytes};
 ghost use Rattle.std.specs.Option.{option_map};
-ghost use Rattle.json.specs.Lex.{tokens};
-ghost use Rattle.json.specs.Print.{IsPrintable, print};
-ghost use Rattle.json.specs.Reads.{token_of};
-ghost use Rattle.json.specs.Token.{begin_object, key};
+ghost use Rattle.json.specs.Print.{escape};
 ghost use Rattle.serde_json.specs.Data.{boolean, null, string};
 ghost use Rattle.serde_json.specs.Read.{read};
-ghost use Rattle.serde_json.specs.Written.{IsInOrder, compact_text};
+ghost use Rattle.serde_json.specs.Written.{IsInOrder, comma_if, compact_text};
 ghost use Rattle.tocmark_event.specs.View.{attribute_view, code_view, event_view, tag_view};
 ghost use Rattle.tocmark_json.specs.Json.{alignment_json, attribute_json, code_json, end_json, event_json, events_json, heading_json, level_json, link_json, link_type_json, listed, metadata_json, optional, pair_json, pair_view, pairs_json, quote_json, range_json, ranged_view, size_json, tag_json, tagged};
-ghost use Rattle.tocmark_json.specs.Printed.{Adds, Grows, lines_text};
+ghost use Rattle.tocmark_json.specs.Printed.{Adds, Closes, Follows, Grows, lines_text};
 
+use crate::escaping::push_string;
 use crate::names::{alignment_name, level_name, metadata_name, quote_name};
-use json::{Token, Writer};
 use std::alloc::{AllocError, Global};
 use tocmark_event::event::{
     Alignment, BlockQuoteKind, CodeBlockKindOf, EventOf, HeadingLevel, LinkType, MetadataBlockKind,
     TagEnd, TagOf, Words,
 };
 
-#[tactic(auto, using(crate::proofs::Adding::grown))]
-pub(crate) fn print_token(out: &mut Writer, token: Token<'_>) -> Result<(), AllocError>
-    requires { IsPrintable (token_of token) }
-    ensures { OnOk result (Grows (token_of token.entry ∷ []) out.old out.new) }
+/// Adds bytes.
+#[inline(always)]
+pub(crate) fn push(out: &mut Vec<u8>, piece: &[u8]) -> Result<(), AllocError>
+    ensures { OnOk result (Grows piece.now out.old.items out.new.items) }
 {
-    out.token(token)
+    out.extend_from_slice(piece)
 }
 
-#[tactic(auto, using(crate::proofs::Adding::null_added))]
-fn print_null(out: &mut Writer) -> Result<(), AllocError>
-    ensures { OnOk result (Adds null out.old out.new) }
+/// Adds the comma before an item, unless it is the first one.
+pub(crate) fn push_comma(out: &mut Vec<u8>, later: bool) -> Result<(), AllocError>
+    ensures { OnOk result (Grows (comma_if later) out.old.items out.new.items) }
 {
-    out.null()
+    if later { push(out, b",") } else { Ok(()) }
 }
 
-#[tactic(auto, using(crate::proofs::Adding::boolean_added))]
-fn print_truth(out: &mut Writer, truth: bool) -> Result<(), AllocError>
-    ensures { OnOk result (Adds (boolean truth) out.old out.new) }
+pub(crate) fn print_size(out: &mut Vec<u8>, size: u64) -> Result<(), AllocError>
+    ensures { OnOk result (Adds (size_json size) out.old.items out.new.items) }
 {
-    out.boolean(truth)
+    let mut digits = itoa::Buffer::new();
+    push(out, digits.format(size).as_bytes())
 }
 
-#[tactic(auto, using(crate::proofs::Adding::string_added))]
-fn print_name(out: &mut Writer, name: &str) -> Result<(), AllocError>
-    ensures { OnOk result (Adds (string name.now) out.old out.new) }
+fn print_truth(out: &mut Vec<u8>, truth: bool) -> Result<(), AllocError>
+    ensures { OnOk result (Grows (compact_text (boolean truth)) out.old.items out.new.items) }
 {
-    out.string(name)
+    if truth {
+        push(out, b"true")
+    } else {
+        push(out, b"false")
+    }
 }
 
-#[tactic(auto, using(crate::proofs::Adding::size_added))]
-pub(crate) fn print_size(out: &mut Writer, size: u64) -> Result<(), AllocError>
-    ensures { OnOk result (Adds (size_json size) out.old out.new) }
+/// Adds a truth value between two pieces.
+fn push_truth(out: &mut Vec<u8>, before: &[u8], truth: bool, after: &[u8]) -> Result<(), AllocError>
+    ensures { OnOk result (Grows (before.now ++ (compact_text (boolean truth) ++ after.now))
+        out.old.items out.new.items) }
 {
-    out.u64(size)
+    push(out, before)?;
+    print_truth(out, truth)?;
+    push(out, after)
 }
 
-fn print_text<T: Words>(out: &mut Writer, text: &T) -> Result<(), AllocError>
-    ensures { OnOk result (Adds (string (T.bytes text.now)) out.old out.new) }
+fn print_name(out: &mut Vec<u8>, name: &str) -> Result<(), AllocError>
+    ensures { OnOk result (Adds (string name.now) out.old.items out.new.items) }
+{
+    push_string(out, b"\"", name, b"\"")
+}
+
+fn print_text<T: Words>(out: &mut Vec<u8>, text: &T) -> Result<(), AllocError>
+    ensures { OnOk result (Adds (string (T.bytes text.now)) out.old.items out.new.items) }
 {
     print_name(out, text.words())
 }
 
-/// The beginning of a variant that holds something.
-#[tactic(auto, using(crate::proofs::Adding::opened))]
-fn open_tagged(out: &mut Writer, name: &str) -> Result<(), AllocError>
-    ensures { OnOk result (Grows (begin_object ∷ key name.now ∷ []) out.old out.new) }
+/// Adds a text with its escapes between two pieces.
+#[inline(always)]
+fn push_text<T: Words>(
+    out: &mut Vec<u8>,
+    before: &[u8],
+    text: &T,
+    after: &[u8],
+) -> Result<(), AllocError>
+    ensures { OnOk result (Grows (before.now ++ (escape (T.bytes text.now) ++ after.now))
+        out.old.items out.new.items) }
 {
-    print_token(out, Token::BeginObject)?;
-    print_token(out, Token::Key(name))
+    push_string(out, before, text.words(), after)
 }
 
-#[tactic(auto, using(crate::proofs::Adding::tagged_added))]
-fn print_tagged_name(out: &mut Writer, name: &str, content: &str) -> Result<(), AllocError>
-    ensures { OnOk result (Adds (tagged name.now (string content.now)) out.old out.new) }
-{
-    open_tagged(out, name)?;
-    print_name(out, content)?;
-    print_token(out, Token::EndObject)
-}
-
-fn print_tagged_text<T: Words>(out: &mut Writer, name: &str, text: &T) -> Result<(), AllocError>
-    ensures { OnOk result (Adds (tagged name.now (string (T.bytes text.now))) out.old out.new) }
-{
-    print_tagged_name(out, name, text.words())
-}
-
-#[tactic(auto, using(crate::proofs::Adding::tagged_added))]
-fn print_tagged_truth(out: &mut Writer, name: &str, truth: bool) -> Result<(), AllocError>
-    ensures { OnOk result (Adds (tagged name.now (boolean truth)) out.old out.new) }
-{
-    open_tagged(out, name)?;
-    print_truth(out, truth)?;
-    print_token(out, Token::EndObject)
-}
-
-fn print_optional_text<T: Words>(out: &mut Writer, text: &Option<T>) -> Result<(), AllocError>
-    ensures { OnOk result (Adds (optional string (option_map T.bytes text.now)) out.old out.new) }
+fn print_optional_text<T: Words>(out: &mut Vec<u8>, text: &Option<T>) -> Result<(), AllocError>
+    ensures { OnOk result
+        (Adds (optional string (option_map T.bytes text.now)) out.old.items out.new.items) }
 {
     match text {
-        None => print_null(out),
+        None => push(out, b"null"),
         Some(text) => print_text(out, text),
     }
 }
 
-fn print_quote_kind(out: &mut Writer, kind: Option<BlockQuoteKind>) -> Result<(), AllocError>
-    ensures { OnOk result (Adds (optional quote_json kind) out.old out.new) }
+fn print_quote(out: &mut Vec<u8>, kind: Option<BlockQuoteKind>) -> Result<(), AllocError>
+    ensures { OnOk result
+        (Closes (tagged (codes "BlockQuote") (optional quote_json kind))
+        out.old.items out.new.items) }
 {
     match kind {
-        None => print_null(out),
-        Some(kind) => print_name(out, quote_name(kind)),
+        None => push(out, b"{\"BlockQuote\":null}}"),
+        Some(kind) => push_string(out, b"{\"BlockQuote\":\"", quote_name(kind), b"\"}}"),
     }
 }
 
-fn print_quote(out: &mut Writer, kind: Option<BlockQuoteKind>) -> Result<(), AllocError>
+fn print_code_block<T: Words>(
+    out: &mut Vec<u8>,
+    kind: &CodeBlockKindOf<T>,
+) -> Result<(), AllocError>
     ensures { OnOk result
-        (Adds (tagged (codes "BlockQuote") (optional quote_json kind)) out.old out.new) }
-{
-    open_tagged(out, "BlockQuote")?;
-    print_quote_kind(out, kind)?;
-    print_token(out, Token::EndObject)
-}
-
-fn print_code_kind<T: Words>(out: &mut Writer, kind: &CodeBlockKindOf<T>) -> Result<(), AllocError>
-    ensures { OnOk result (Adds (code_json (code_view T.bytes kind.now)) out.old out.new) }
+        (Closes (tagged (codes "CodeBlock") (code_json (code_view T.bytes kind.now)))
+        out.old.items out.new.items) }
 {
     match kind {
-        CodeBlockKindOf::Indented => print_name(out, "Indented"),
-        CodeBlockKindOf::Fenced(info) => print_tagged_text(out, "Fenced", info),
+        CodeBlockKindOf::Indented => push(out, b"{\"CodeBlock\":\"Indented\"}}"),
+        CodeBlockKindOf::Fenced(info) => push_text(
+            out,
+            b"{\"CodeBlock\":{\"Fenced\":\"",
+            info,
+            b"\"}}}",
+        ),
     }
 }
 
-fn print_code_block<T: Words>(out: &mut Writer, kind: &CodeBlockKindOf<T>) -> Result<(), AllocError>
-    ensures { OnOk result
-        (Adds (tagged (codes "CodeBlock") (code_json (code_view T.bytes kind.now)))
-        out.old out.new) }
-{
-    open_tagged(out, "CodeBlock")?;
-    print_code_kind(out, kind)?;
-    print_token(out, Token::EndObject)
-}
-
-fn print_first_number(out: &mut Writer, start: Option<u64>) -> Result<(), AllocError>
-    ensures { OnOk result (Adds (optional size_json start) out.old out.new) }
+fn print_first_number(out: &mut Vec<u8>, start: Option<u64>) -> Result<(), AllocError>
+    ensures { OnOk result (Adds (optional size_json start) out.old.items out.new.items) }
 {
     match start {
-        None => print_null(out),
+        None => push(out, b"null"),
         Some(start) => print_size(out, start),
     }
 }
 
-#[tactic(auto, using(crate::proofs::Adding::tagged_added))]
-fn print_list(out: &mut Writer, start: Option<u64>) -> Result<(), AllocError>
+fn print_list(out: &mut Vec<u8>, start: Option<u64>) -> Result<(), AllocError>
     ensures { OnOk result
-        (Adds (tagged (codes "List") (optional size_json start)) out.old out.new) }
+        (Closes (tagged (codes "List") (optional size_json start)) out.old.items out.new.items) }
 {
-    open_tagged(out, "List")?;
+    push(out, b"{\"List\":")?;
     print_first_number(out, start)?;
-    print_token(out, Token::EndObject)
+    push(out, b"}}")
 }
 
-fn print_alignment(out: &mut Writer, alignment: &Alignment) -> Result<(), AllocError>
-    ensures { OnOk result (Adds (alignment_json alignment.now) out.old out.new) }
+fn print_alignment(out: &mut Vec<u8>, alignment: Alignment) -> Result<(), AllocError>
+    ensures { OnOk result (Adds (alignment_json alignment) out.old.items out.new.items) }
 {
-    print_name(out, alignment_name(*alignment))
+    print_name(out, alignment_name(alignment))
 }
 
 #[tactic(auto, using(crate::proofs::Adding::copied_added, crate::proofs::Adding::copied_added_as))]
-fn print_alignments(out: &mut Writer, alignments: &[Alignment]) -> Result<(), AllocError>
-    ensures { OnOk result (Adds (listed alignment_json alignments.now) out.old out.new) }
+fn print_alignments(out: &mut Vec<u8>, alignments: &[Alignment]) -> Result<(), AllocError>
+    ensures { OnOk result
+        (Adds (listed alignment_json alignments.now) out.old.items out.new.items) }
 {
-    print_token(out, Token::BeginArray)?;
+    push(out, b"[")?;
+    let mut later = false;
     for alignment in alignments {
-        print_alignment(out, alignment)?;
+        push_comma(out, later)?;
+        print_alignment(out, *alignment)?;
+        later = true;
     }
-    print_token(out, Token::EndArray)
+    push(out, b"]")
 }
 
-#[tactic(auto, using(crate::proofs::Adding::tagged_added))]
-fn print_table(out: &mut Writer, alignments: &[Alignment]) -> Result<(), AllocError>
+fn print_table(out: &mut Vec<u8>, alignments: &[Alignment]) -> Result<(), AllocError>
     ensures { OnOk result
-        (Adds (tagged (codes "Table") (listed alignment_json alignments.now)) out.old out.new) }
+        (Closes (tagged (codes "Table") (listed alignment_json alignments.now))
+        out.old.items out.new.items) }
 {
-    open_tagged(out, "Table")?;
+    push(out, b"{\"Table\":")?;
     print_alignments(out, alignments)?;
-    print_token(out, Token::EndObject)
+    push(out, b"}}")
 }
 
-fn print_classes<T: Words>(out: &mut Writer, classes: &[T]) -> Result<(), AllocError>
-    ensures { OnOk result (Adds (listed string (map T.bytes classes.now)) out.old out.new) }
-{
-    print_token(out, Token::BeginArray)?;
-    for class in classes {
-        print_text(out, class)?;
-    }
-    print_token(out, Token::EndArray)
-}
-
-#[tactic(auto, using(crate::proofs::Adding::both_added))]
-fn print_attribute<T: Words>(out: &mut Writer, attribute: &(T, Option<T>)) -> Result<(), AllocError>
+fn print_classes<T: Words>(out: &mut Vec<u8>, classes: &[T]) -> Result<(), AllocError>
     ensures { OnOk result
-        (Adds (attribute_json (attribute_view T.bytes attribute.now)) out.old out.new) }
+        (Adds (listed string (map T.bytes classes.now)) out.old.items out.new.items) }
 {
-    print_token(out, Token::BeginArray)?;
-    print_text(out, &attribute.0)?;
+    push(out, b"[")?;
+    let mut later = false;
+    for class in classes {
+        push_comma(out, later)?;
+        print_text(out, class)?;
+        later = true;
+    }
+    push(out, b"]")
+}
+
+fn print_attribute<T: Words>(
+    out: &mut Vec<u8>,
+    attribute: &(T, Option<T>),
+) -> Result<(), AllocError>
+    ensures { OnOk result
+        (Adds (attribute_json (attribute_view T.bytes attribute.now))
+        out.old.items out.new.items) }
+{
+    push_text(out, b"[\"", &attribute.0, b"\",")?;
     print_optional_text(out, &attribute.1)?;
-    print_token(out, Token::EndArray)
+    push(out, b"]")
 }
 
 fn print_attributes<T: Words>(
-    out: &mut Writer,
+    out: &mut Vec<u8>,
     attributes: &[(T, Option<T>)],
 ) -> Result<(), AllocError>
     ensures { OnOk result
         (Adds (listed attribute_json (map (attribute_view T.bytes) attributes.now))
-        out.old out.new) }
+        out.old.items out.new.items) }
 {
-    print_token(out, Token::BeginArray)?;
+    push(out, b"[")?;
+    let mut later = false;
     for attribute in attributes {
+        push_comma(out, later)?;
         print_attribute(out, attribute)?;
+        later = true;
     }
-    print_token(out, Token::EndArray)
+    push(out, b"]")
 }
 
 fn print_heading_content<T: Words>(
-    out: &mut Writer,
+    out: &mut Vec<u8>,
     level: HeadingLevel,
     id: &Option<T>,
     classes: &[T],
@@ -233,66 +229,58 @@ fn print_heading_content<T: Words>(
 ) -> Result<(), AllocError>
     ensures { OnOk result
         (Adds (heading_json level (option_map T.bytes id.now) (map T.bytes classes.now)
-        (map (attribute_view T.bytes) attrs.now)) out.old out.new) }
+        (map (attribute_view T.bytes) attrs.now)) out.old.items out.new.items) }
 {
-    print_token(out, Token::BeginObject)?;
-    print_token(out, Token::Key("attrs"))?;
+    push(out, b"{\"attrs\":")?;
     print_attributes(out, attrs)?;
-    print_token(out, Token::Key("classes"))?;
+    push(out, b",\"classes\":")?;
     print_classes(out, classes)?;
-    print_token(out, Token::Key("id"))?;
+    push(out, b",\"id\":")?;
     print_optional_text(out, id)?;
-    print_token(out, Token::Key("level"))?;
-    print_name(out, level_name(level))?;
-    print_token(out, Token::EndObject)
+    push_string(out, b",\"level\":\"", level_name(level), b"\"}")
 }
 
-#[tactic(auto, using(crate::proofs::Adding::tagged_added))]
 fn print_heading<T: Words>(
-    out: &mut Writer,
+    out: &mut Vec<u8>,
     level: HeadingLevel,
     id: &Option<T>,
     classes: &[T],
     attrs: &[(T, Option<T>)],
 ) -> Result<(), AllocError>
     ensures { OnOk result
-        (Adds (tagged (codes "Heading") (heading_json level (option_map T.bytes id.now)
-        (map T.bytes classes.now) (map (attribute_view T.bytes) attrs.now))) out.old out.new) }
+        (Closes (tagged (codes "Heading") (heading_json level (option_map T.bytes id.now)
+        (map T.bytes classes.now) (map (attribute_view T.bytes) attrs.now)))
+        out.old.items out.new.items) }
 {
-    open_tagged(out, "Heading")?;
+    push(out, b"{\"Heading\":")?;
     print_heading_content(out, level, id, classes, attrs)?;
-    print_token(out, Token::EndObject)
+    push(out, b"}}")
 }
 
-fn print_wiki_link(out: &mut Writer, has_pothole: bool) -> Result<(), AllocError>
-    ensures { OnOk result
-        (Adds (tagged (codes "WikiLink") (tagged (codes "has_pothole") (boolean has_pothole)))
-        out.old out.new) }
-{
-    open_tagged(out, "WikiLink")?;
-    print_tagged_truth(out, "has_pothole", has_pothole)?;
-    print_token(out, Token::EndObject)
-}
-
-fn print_link_type(out: &mut Writer, link_type: LinkType) -> Result<(), AllocError>
-    ensures { OnOk result (Adds (link_type_json link_type) out.old out.new) }
+fn print_link_type(out: &mut Vec<u8>, link_type: LinkType) -> Result<(), AllocError>
+    ensures { OnOk result (Adds (link_type_json link_type) out.old.items out.new.items) }
 {
     match link_type {
-        LinkType::Inline => print_name(out, "Inline"),
-        LinkType::Reference => print_name(out, "Reference"),
-        LinkType::ReferenceUnknown => print_name(out, "ReferenceUnknown"),
-        LinkType::Collapsed => print_name(out, "Collapsed"),
-        LinkType::CollapsedUnknown => print_name(out, "CollapsedUnknown"),
-        LinkType::Shortcut => print_name(out, "Shortcut"),
-        LinkType::ShortcutUnknown => print_name(out, "ShortcutUnknown"),
-        LinkType::Autolink => print_name(out, "Autolink"),
-        LinkType::Email => print_name(out, "Email"),
-        LinkType::WikiLink { has_pothole } => print_wiki_link(out, has_pothole),
+        LinkType::Inline => push(out, b"\"Inline\""),
+        LinkType::Reference => push(out, b"\"Reference\""),
+        LinkType::ReferenceUnknown => push(out, b"\"ReferenceUnknown\""),
+        LinkType::Collapsed => push(out, b"\"Collapsed\""),
+        LinkType::CollapsedUnknown => push(out, b"\"CollapsedUnknown\""),
+        LinkType::Shortcut => push(out, b"\"Shortcut\""),
+        LinkType::ShortcutUnknown => push(out, b"\"ShortcutUnknown\""),
+        LinkType::Autolink => push(out, b"\"Autolink\""),
+        LinkType::Email => push(out, b"\"Email\""),
+        LinkType::WikiLink { has_pothole } => push_truth(
+            out,
+            b"{\"WikiLink\":{\"has_pothole\":",
+            has_pothole,
+            b"}}",
+        ),
     }
 }
 
 fn print_target<T: Words>(
-    out: &mut Writer,
+    out: &mut Vec<u8>,
     link_type: LinkType,
     dest_url: &T,
     title: &T,
@@ -300,23 +288,17 @@ fn print_target<T: Words>(
 ) -> Result<(), AllocError>
     ensures { OnOk result
         (Adds (link_json link_type (T.bytes dest_url.now) (T.bytes title.now) (T.bytes id.now))
-        out.old out.new) }
+        out.old.items out.new.items) }
 {
-    print_token(out, Token::BeginObject)?;
-    print_token(out, Token::Key("dest_url"))?;
-    print_text(out, dest_url)?;
-    print_token(out, Token::Key("id"))?;
-    print_text(out, id)?;
-    print_token(out, Token::Key("link_type"))?;
+    push_text(out, b"{\"dest_url\":\"", dest_url, b"\"")?;
+    push_text(out, b",\"id\":\"", id, b"\"")?;
+    push(out, b",\"link_type\":")?;
     print_link_type(out, link_type)?;
-    print_token(out, Token::Key("title"))?;
-    print_text(out, title)?;
-    print_token(out, Token::EndObject)
+    push_text(out, b",\"title\":\"", title, b"\"}")
 }
 
-#[tactic(auto, using(crate::proofs::Adding::tagged_added))]
 fn print_link<T: Words>(
-    out: &mut Writer,
+    out: &mut Vec<u8>,
     name: &str,
     link_type: LinkType,
     dest_url: &T,
@@ -324,54 +306,71 @@ fn print_link<T: Words>(
     id: &T,
 ) -> Result<(), AllocError>
     ensures { OnOk result
-        (Adds (tagged name.now (link_json link_type (T.bytes dest_url.now) (T.bytes title.now)
-        (T.bytes id.now))) out.old out.new) }
+        (Closes (tagged name.now (link_json link_type (T.bytes dest_url.now) (T.bytes title.now)
+        (T.bytes id.now))) out.old.items out.new.items) }
 {
-    open_tagged(out, name)?;
+    push_string(out, b"{\"", name, b"\":")?;
     print_target(out, link_type, dest_url, title, id)?;
-    print_token(out, Token::EndObject)
+    push(out, b"}}")
 }
 
-fn print_metadata(out: &mut Writer, kind: MetadataBlockKind) -> Result<(), AllocError>
+fn print_metadata(out: &mut Vec<u8>, kind: MetadataBlockKind) -> Result<(), AllocError>
     ensures { OnOk result
-        (Adds (tagged (codes "MetadataBlock") (metadata_json kind)) out.old out.new) }
+        (Closes (tagged (codes "MetadataBlock") (metadata_json kind))
+        out.old.items out.new.items) }
 {
-    print_tagged_name(out, "MetadataBlock", metadata_name(kind))
+    push_string(out, b"{\"MetadataBlock\":\"", metadata_name(kind), b"\"}}")
 }
 
-fn print_end(out: &mut Writer, end: TagEnd) -> Result<(), AllocError>
-    ensures { OnOk result (Adds (end_json end) out.old out.new) }
+fn print_heading_end(out: &mut Vec<u8>, level: HeadingLevel) -> Result<(), AllocError>
+    ensures { OnOk result
+        (Closes (tagged (codes "Heading") (level_json level)) out.old.items out.new.items) }
+{
+    push_string(out, b"{\"Heading\":\"", level_name(level), b"\"}}")
+}
+
+/// Prints the end of a tag, and the closing brace of the object that it stands in.
+fn print_end(out: &mut Vec<u8>, end: TagEnd) -> Result<(), AllocError>
+    ensures { OnOk result (Closes (end_json end) out.old.items out.new.items) }
 {
     match end {
-        TagEnd::Paragraph => print_name(out, "Paragraph"),
-        TagEnd::Heading(level) => print_tagged_name(out, "Heading", level_name(level)),
+        TagEnd::Paragraph => push(out, b"\"Paragraph\"}"),
+        TagEnd::Heading(level) => print_heading_end(out, level),
         TagEnd::BlockQuote(kind) => print_quote(out, kind),
-        TagEnd::CodeBlock => print_name(out, "CodeBlock"),
-        TagEnd::HtmlBlock => print_name(out, "HtmlBlock"),
-        TagEnd::List(ordered) => print_tagged_truth(out, "List", ordered),
-        TagEnd::Item => print_name(out, "Item"),
-        TagEnd::FootnoteDefinition => print_name(out, "FootnoteDefinition"),
-        TagEnd::DefinitionList => print_name(out, "DefinitionList"),
-        TagEnd::DefinitionListTitle => print_name(out, "DefinitionListTitle"),
-        TagEnd::DefinitionListDefinition => print_name(out, "DefinitionListDefinition"),
-        TagEnd::Table => print_name(out, "Table"),
-        TagEnd::TableHead => print_name(out, "TableHead"),
-        TagEnd::TableRow => print_name(out, "TableRow"),
-        TagEnd::TableCell => print_name(out, "TableCell"),
-        TagEnd::Emphasis => print_name(out, "Emphasis"),
-        TagEnd::Strong => print_name(out, "Strong"),
-        TagEnd::Strikethrough => print_name(out, "Strikethrough"),
-        TagEnd::Superscript => print_name(out, "Superscript"),
-        TagEnd::Subscript => print_name(out, "Subscript"),
-        TagEnd::Link => print_name(out, "Link"),
-        TagEnd::Image => print_name(out, "Image"),
+        TagEnd::CodeBlock => push(out, b"\"CodeBlock\"}"),
+        TagEnd::HtmlBlock => push(out, b"\"HtmlBlock\"}"),
+        TagEnd::List(ordered) => push_truth(out, b"{\"List\":", ordered, b"}}"),
+        TagEnd::Item => push(out, b"\"Item\"}"),
+        TagEnd::FootnoteDefinition => push(out, b"\"FootnoteDefinition\"}"),
+        TagEnd::DefinitionList => push(out, b"\"DefinitionList\"}"),
+        TagEnd::DefinitionListTitle => push(out, b"\"DefinitionListTitle\"}"),
+        TagEnd::DefinitionListDefinition => push(out, b"\"DefinitionListDefinition\"}"),
+        TagEnd::Table => push(out, b"\"Table\"}"),
+        TagEnd::TableHead => push(out, b"\"TableHead\"}"),
+        TagEnd::TableRow => push(out, b"\"TableRow\"}"),
+        TagEnd::TableCell => push(out, b"\"TableCell\"}"),
+        TagEnd::Emphasis => push(out, b"\"Emphasis\"}"),
+        TagEnd::Strong => push(out, b"\"Strong\"}"),
+        TagEnd::Strikethrough => push(out, b"\"Strikethrough\"}"),
+        TagEnd::Superscript => push(out, b"\"Superscript\"}"),
+        TagEnd::Subscript => push(out, b"\"Subscript\"}"),
+        TagEnd::Link => push(out, b"\"Link\"}"),
+        TagEnd::Image => push(out, b"\"Image\"}"),
         TagEnd::MetadataBlock(kind) => print_metadata(out, kind),
     }
 }
 
-/// Prints a tag. One that holds nothing prints as its end does.
-fn print_tag<T: Words>(out: &mut Writer, tag: &TagOf<T>) -> Result<(), AllocError>
-    ensures { OnOk result (Adds (tag_json (tag_view T.bytes tag.now)) out.old out.new) }
+fn print_footnote<T: Words>(out: &mut Vec<u8>, label: &T) -> Result<(), AllocError>
+    ensures { OnOk result
+        (Closes (tagged (codes "FootnoteDefinition") (string (T.bytes label.now)))
+        out.old.items out.new.items) }
+{
+    push_text(out, b"{\"FootnoteDefinition\":\"", label, b"\"}}")
+}
+
+/// Prints a tag, and the closing brace of the object that it stands in. A tag that holds nothing prints as its end does.
+fn print_tag<T: Words>(out: &mut Vec<u8>, tag: &TagOf<T>) -> Result<(), AllocError>
+    ensures { OnOk result (Closes (tag_json (tag_view T.bytes tag.now)) out.old.items out.new.items) }
 {
     match tag {
         TagOf::Heading {
@@ -382,7 +381,7 @@ fn print_tag<T: Words>(out: &mut Writer, tag: &TagOf<T>) -> Result<(), AllocErro
         } => print_heading(out, *level, id, classes, attrs),
         TagOf::CodeBlock(kind) => print_code_block(out, kind),
         TagOf::List(start) => print_list(out, *start),
-        TagOf::FootnoteDefinition(label) => print_tagged_text(out, "FootnoteDefinition", label),
+        TagOf::FootnoteDefinition(label) => print_footnote(out, label),
         TagOf::Table(alignments) => print_table(out, alignments),
         TagOf::Link {
             link_type,
@@ -400,126 +399,134 @@ fn print_tag<T: Words>(out: &mut Writer, tag: &TagOf<T>) -> Result<(), AllocErro
     }
 }
 
-#[tactic(auto, using(crate::proofs::Adding::tagged_added))]
-fn print_started<T: Words>(out: &mut Writer, tag: &TagOf<T>) -> Result<(), AllocError>
+fn print_started<T: Words>(out: &mut Vec<u8>, tag: &TagOf<T>) -> Result<(), AllocError>
     ensures { OnOk result
-        (Adds (tagged (codes "Start") (tag_json (tag_view T.bytes tag.now))) out.old out.new) }
+        (Adds (tagged (codes "Start") (tag_json (tag_view T.bytes tag.now)))
+        out.old.items out.new.items) }
 {
-    open_tagged(out, "Start")?;
-    print_tag(out, tag)?;
-    print_token(out, Token::EndObject)
+    push(out, b"{\"Start\":")?;
+    print_tag(out, tag)
 }
 
-#[tactic(auto, using(crate::proofs::Adding::tagged_added))]
-fn print_ended(out: &mut Writer, end: TagEnd) -> Result<(), AllocError>
-    ensures { OnOk result (Adds (tagged (codes "End") (end_json end)) out.old out.new) }
+fn print_ended(out: &mut Vec<u8>, end: TagEnd) -> Result<(), AllocError>
+    ensures { OnOk result
+        (Adds (tagged (codes "End") (end_json end)) out.old.items out.new.items) }
 {
-    open_tagged(out, "End")?;
-    print_end(out, end)?;
-    print_token(out, Token::EndObject)
+    push(out, b"{\"End\":")?;
+    print_end(out, end)
 }
 
-pub(crate) fn print_event<T: Words>(out: &mut Writer, event: &EventOf<T>) -> Result<(), AllocError>
-    ensures { OnOk result (Adds (event_json (event_view T.bytes event.now)) out.old out.new) }
+pub(crate) fn print_event<T: Words>(out: &mut Vec<u8>, event: &EventOf<T>) -> Result<(), AllocError>
+    ensures { OnOk result
+        (Adds (event_json (event_view T.bytes event.now)) out.old.items out.new.items) }
 {
     match event {
         EventOf::Start(tag) => print_started(out, tag),
         EventOf::End(end) => print_ended(out, *end),
-        EventOf::Text(text) => print_tagged_text(out, "Text", text),
-        EventOf::Code(text) => print_tagged_text(out, "Code", text),
-        EventOf::InlineMath(text) => print_tagged_text(out, "InlineMath", text),
-        EventOf::DisplayMath(text) => print_tagged_text(out, "DisplayMath", text),
-        EventOf::Html(text) => print_tagged_text(out, "Html", text),
-        EventOf::InlineHtml(text) => print_tagged_text(out, "InlineHtml", text),
-        EventOf::FootnoteReference(label) => print_tagged_text(out, "FootnoteReference", label),
-        EventOf::SoftBreak => print_name(out, "SoftBreak"),
-        EventOf::HardBreak => print_name(out, "HardBreak"),
-        EventOf::Rule => print_name(out, "Rule"),
-        EventOf::TaskListMarker(checked) => print_tagged_truth(out, "TaskListMarker", *checked),
+        EventOf::Text(text) => push_text(out, b"{\"Text\":\"", text, b"\"}"),
+        EventOf::Code(text) => push_text(out, b"{\"Code\":\"", text, b"\"}"),
+        EventOf::InlineMath(text) => push_text(out, b"{\"InlineMath\":\"", text, b"\"}"),
+        EventOf::DisplayMath(text) => push_text(out, b"{\"DisplayMath\":\"", text, b"\"}"),
+        EventOf::Html(text) => push_text(out, b"{\"Html\":\"", text, b"\"}"),
+        EventOf::InlineHtml(text) => push_text(out, b"{\"InlineHtml\":\"", text, b"\"}"),
+        EventOf::FootnoteReference(label) => {
+            push_text(out, b"{\"FootnoteReference\":\"", label, b"\"}")
+        }
+        EventOf::SoftBreak => push(out, b"\"SoftBreak\""),
+        EventOf::HardBreak => push(out, b"\"HardBreak\""),
+        EventOf::Rule => push(out, b"\"Rule\""),
+        EventOf::TaskListMarker(checked) => {
+            push_truth(out, b"{\"TaskListMarker\":", *checked, b"}")
+        }
     }
 }
 
-fn print_range(out: &mut Writer, range: (usize, usize)) -> Result<(), AllocError>
-    ensures { OnOk result (Adds (range_json range) out.old out.new) }
+/// Prints a range as the second of two values in an array, and closes that.
+fn print_range(out: &mut Vec<u8>, range: (usize, usize)) -> Result<(), AllocError>
+    ensures { OnOk result (Follows (range_json range) out.old.items out.new.items) }
 {
-    print_token(out, Token::BeginObject)?;
-    print_token(out, Token::Key("end"))?;
+    push(out, b",{\"end\":")?;
     print_size(out, range.1 as u64)?;
-    print_token(out, Token::Key("start"))?;
+    push(out, b",\"start\":")?;
     print_size(out, range.0 as u64)?;
-    print_token(out, Token::EndObject)
+    push(out, b"}]")
 }
 
-fn print_place(out: &mut Writer, range: Option<(usize, usize)>) -> Result<(), AllocError>
-    ensures { OnOk result (Adds (optional range_json range) out.old out.new) }
+fn print_place(out: &mut Vec<u8>, range: Option<(usize, usize)>) -> Result<(), AllocError>
+    ensures { OnOk result (Follows (optional range_json range) out.old.items out.new.items) }
 {
     match range {
-        None => print_null(out),
+        None => push(out, b",null]"),
         Some(range) => print_range(out, range),
     }
 }
 
-#[tactic(auto, using(crate::proofs::Adding::both_added))]
 fn print_pair<T: Words>(
-    out: &mut Writer,
+    out: &mut Vec<u8>,
     event: &EventOf<T>,
     range: Option<(usize, usize)>,
 ) -> Result<(), AllocError>
     ensures { OnOk result
-        (Adds (pair_json (event_view T.bytes event.now, range)) out.old out.new) }
+        (Adds (pair_json (event_view T.bytes event.now, range)) out.old.items out.new.items) }
 {
-    print_token(out, Token::BeginArray)?;
+    push(out, b"[")?;
     print_event(out, event)?;
-    print_place(out, range)?;
-    print_token(out, Token::EndArray)
+    print_place(out, range)
 }
 
-fn print_events<T: Words>(out: &mut Writer, events: &[EventOf<T>]) -> Result<(), AllocError>
+fn print_events<T: Words>(out: &mut Vec<u8>, events: &[EventOf<T>]) -> Result<(), AllocError>
     ensures { OnOk result
-        (Adds (events_json (map (event_view T.bytes) events.now)) out.old out.new) }
+        (Adds (events_json (map (event_view T.bytes) events.now)) out.old.items out.new.items) }
 {
-    print_token(out, Token::BeginArray)?;
+    push(out, b"[")?;
+    let mut later = false;
     for event in events {
+        push_comma(out, later)?;
         print_event(out, event)?;
+        later = true;
     }
-    print_token(out, Token::EndArray)
+    push(out, b"]")
 }
 
 fn print_pairs<T: Words>(
-    out: &mut Writer,
+    out: &mut Vec<u8>,
     pairs: &[(EventOf<T>, Option<(usize, usize)>)],
 ) -> Result<(), AllocError>
     ensures { OnOk result
-        (Adds (pairs_json (map (pair_view T.bytes) pairs.now)) out.old out.new) }
+        (Adds (pairs_json (map (pair_view T.bytes) pairs.now)) out.old.items out.new.items) }
 {
-    print_token(out, Token::BeginArray)?;
+    push(out, b"[")?;
+    let mut later = false;
     for pair in pairs {
+        push_comma(out, later)?;
         print_pair(out, &pair.0, pair.1)?;
+        later = true;
     }
-    print_token(out, Token::EndArray)
+    push(out, b"]")
 }
 
 fn print_ranged_events<T: Words>(
-    out: &mut Writer,
+    out: &mut Vec<u8>,
     pairs: &[(EventOf<T>, (usize, usize))],
 ) -> Result<(), AllocError>
     ensures { OnOk result
-        (Adds (pairs_json (map (ranged_view T.bytes) pairs.now)) out.old out.new) }
+        (Adds (pairs_json (map (ranged_view T.bytes) pairs.now)) out.old.items out.new.items) }
 {
-    print_token(out, Token::BeginArray)?;
+    push(out, b"[")?;
+    let mut later = false;
     for pair in pairs {
+        push_comma(out, later)?;
         print_pair(out, &pair.0, Some(pair.1))?;
+        later = true;
     }
-    print_token(out, Token::EndArray)
+    push(out, b"]")
 }
 
-/// The text of a writer that began with nothing.
-pub(crate) fn text_of(out: Writer) -> Result<String, AllocError>
-    requires { out.before ≡ [] }
-    ensures text { IfOk result (λ text. string_bytes text ≡ print out.tokens) }
-    ensures reads_back { tokens (print out.tokens) ≡ out.tokens }
+/// The text of bytes.
+pub(crate) fn text_of(out: Vec<u8>) -> Result<String, AllocError>
+    ensures { IfOk result (λ text. string_bytes text ≡ out.items) }
 {
-    match String::from_utf8(out.into_inner()) {
+    match String::from_utf8(out) {
         Ok(text) => Ok(text),
         Err(_error) => Err(AllocError),
     }
@@ -534,7 +541,7 @@ pub fn events_to_text<T: Words>(alloc: Global, events: &[EventOf<T>]) -> Result<
     ensures reads_back { IfOk result (λ text. read (string_bytes text)
         ≡ Some (events_json (map (event_view T.bytes) events.now))) }
 {
-    let mut out = Writer::new(Vec::new(alloc));
+    let mut out = Vec::new(alloc);
     print_events(&mut out, events)?;
     text_of(out)
 }
@@ -552,7 +559,7 @@ pub fn pairs_to_text<T: Words>(
     ensures reads_back { IfOk result (λ text. read (string_bytes text)
         ≡ Some (pairs_json (map (pair_view T.bytes) pairs.now))) }
 {
-    let mut out = Writer::new(Vec::new(alloc));
+    let mut out = Vec::new(alloc);
     print_pairs(&mut out, pairs)?;
     text_of(out)
 }
@@ -569,31 +576,9 @@ pub fn ranged_to_text<T: Words>(
     ensures reads_back { IfOk result (λ text. read (string_bytes text)
         ≡ Some (pairs_json (map (ranged_view T.bytes) pairs.now))) }
 {
-    let mut out = Writer::new(Vec::new(alloc));
+    let mut out = Vec::new(alloc);
     print_ranged_events(&mut out, pairs)?;
     text_of(out)
-}
-
-/// The JSON text of an event with its range, without spaces.
-fn ranged_event_to_text<T: Words>(
-    alloc: Global,
-    pair: &(EventOf<T>, (usize, usize)),
-) -> Result<String, AllocError>
-    ensures { IfOk result (λ text. string_bytes text
-        ≡ compact_text (pair_json (ranged_view T.bytes pair.now))) }
-{
-    let mut out = Writer::new(Vec::new(alloc));
-    print_pair(&mut out, &pair.0, Some(pair.1))?;
-    text_of(out)
-}
-
-/// Adds a line and a line feed.
-pub(crate) fn push_line(text: &mut String, line: &String) -> Result<(), AllocError>
-    ensures { OnOk result (string_bytes text.new
-        ≡ string_bytes text.old ++ (string_bytes line.now ++ 10 ∷ [])) }
-{
-    text.push_str(line.as_str())?;
-    text.push('\n')
 }
 
 /// The JSON texts of events that all have a range: `[event, range]` on a line for each event.
@@ -604,10 +589,10 @@ pub fn ranged_to_lines<T: Words>(
     ensures { IfOk result (λ text. string_bytes text
         ≡ lines_text (map (ranged_view T.bytes) pairs.now)) }
 {
-    let mut text = String::new(alloc);
+    let mut out = Vec::new(alloc);
     for pair in pairs {
-        let line = ranged_event_to_text(alloc, pair)?;
-        push_line(&mut text, &line)?;
+        print_pair(&mut out, &pair.0, Some(pair.1))?;
+        push(&mut out, b"\n")?;
     }
-    Ok(text)
+    text_of(out)
 }

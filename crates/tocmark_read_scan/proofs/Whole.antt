@@ -5,7 +5,7 @@ use Rattle.std.proofs.lemmas.Bool.Decides.{nat_tests}
 use Rattle.std.proofs.lemmas.Bool.{false≢true}
 use Rattle.std.proofs.lemmas.Option.{none-some}
 use Rattle.std.specs.List.{fold, list_any}
-use Rattle.std.proofs.lemmas.List.{take-append-le, drop-drop, length-drop, length-take}
+use Rattle.std.proofs.lemmas.List.{take-append-le, drop_more, drop-drop, length-drop, length-take}
 use Rattle.std.proofs.lemmas.List.Folds.{list_any-append}
 use Rattle.tocmark_read_scan.specs.Basic.{plus, byte_at, bytes_between}
 use Rattle.tocmark_read_scan.specs.Class.{is_in}
@@ -42,6 +42,16 @@ ranges_append start (x ∷ xs) ys fits =
     let same : plus (plus start 1) (length xs) ≡ plus start (suc (length xs)) = omega arith in
     ap (λ ps. (start, plus start 1) ∷ ps) (ranges_append (plus start 1) xs ys (omega arith) ∙ ap (λ n. ranges_of (plus start 1) xs ++ ranges_of n ys) same)
 
+-- one more range, and those of the bytes that are left
+pub ranges_more : (ps qs : List (ℕ × ℕ)) (place next i : ℕ) (xs : List ℕ) (whole : List (ℕ × ℕ)) → i < length xs → next ≡ plus place 1 → qs ≡ ps ++ (place, next) ∷ [] → ps ++ ranges_of place (drop i xs) ≡ whole → qs ++ ranges_of next (drop (i + 1) xs) ≡ whole
+ranges_more ps qs place next i xs whole h e q w =
+    let rest : List ℕ = drop (i + 1) xs in
+    ap (λ (l : List (ℕ × ℕ)). l ++ ranges_of next rest) q
+    ∙ append_assoc ps ((place, next) ∷ []) (ranges_of next rest)
+    ∙ ap (λ n. ps ++ (place, n) ∷ ranges_of n rest) e
+    ∙ ap (λ (l : List ℕ). ps ++ ranges_of place l) (sym (drop_more xs i 0 h))
+    ∙ w
+
 take_ranges : (start n : ℕ) (xs : List ℕ) → take n (ranges_of start xs) ≡ ranges_of start (take n xs)
 take_ranges start zero xs = refl
 take_ranges start (suc n) [] = refl
@@ -56,12 +66,12 @@ both : (a b : Bool) → (a && b) ≡ true → (a ≡ true) × (b ≡ true)
 both true b h = (refl, h)
 both false b h = absurd (false≢true h)
 
-or_none : (a b : Bool) → (a || b) ≡ false → (a ≡ false) × (b ≡ false)
+pub or_none : (a b : Bool) → (a || b) ≡ false → (a ≡ false) × (b ≡ false)
 or_none false b h = (refl, h)
 or_none true b h = absurd (false≢true (sym h))
 
 -- bytes without a zero are put as they are
-bytes_put : (start : ℕ) (s : State) (xs : List ℕ) → HasNoZero xs → put_bytes start s xs ≡ record { bytes = s.bytes ++ xs; places = s.places ++ ranges_of start xs }
+pub bytes_put : (start : ℕ) (s : State) (xs : List ℕ) → HasNoZero xs → put_bytes start s xs ≡ record { bytes = s.bytes ++ xs; places = s.places ++ ranges_of start xs }
 unfolding put_byte put
 bytes_put start s [] h = rw (append-nil s.bytes, append-nil s.places) refl
 bytes_put start s (x ∷ xs) h =

@@ -18,8 +18,10 @@ cell_step source (place, s) b = (plus place 1, if is_left_out source place b the
 abbrev pub cell_to : List ℕ → ℕ → ℕ → ℕ
 cell_to source from end = end - length (take_while (λ b. (b == 32) || (b == 9)) (reverse (bytes_between source from end)))
 
+-- the bytes between two places, without each backslash just before a bar
+abbrev pub cell_bytes : List ℕ → ℕ → ℕ → State
+cell_bytes source from to = (fold (cell_step source) (from, record { bytes = []; places = [] }) (bytes_between source from to)).1
+
 -- the bytes of a cell without blanks round them, and without each backslash just before a bar
 unfoldable pub cell_content : List ℕ → ℕ → ℕ → State
-cell_content source start end =
-    let from = run_end source start Blank in
-    (fold (cell_step source) (from, record { bytes = []; places = [] }) (bytes_between source from (cell_to source from end))).1
+cell_content source start end = let from = run_end source start Blank in cell_bytes source from (cell_to source from end)

@@ -1,6 +1,6 @@
 //! The text of a paragraph or a heading, with the places in the source that it stands for.
 
-ghost use Rattle.std.specs.Prelude.{◌≡◌, OnOk, IfOk, IfSome, drop, length, slice_get, unwrap_or};
+ghost use Rattle.std.specs.Prelude.{◌≡◌, ◌++◌, OnOk, IfOk, IfSome, drop, length, slice_get, unwrap_or};
 ghost use Rattle.tocmark_read_scan.specs.Repeat.{iterated};
 ghost use Rattle.tocmark_read_scan.specs.Content.{pasted_view, content_view, ranges_of, put, put_byte, put_bytes, put_line, before_white, inked, room_of, joined, is_behind, end_within, end_behind, content_of};
 
@@ -104,8 +104,8 @@ impl Pasted {
         self.put(b'\n', line.end, line.next)
     }
 
-    /// Writes bytes that stand in the source from a place on.
-    fn put_bytes(&mut self, bytes: &[u8], start: usize) -> Result<(), AllocError>
+    /// Writes bytes that stand in the source from a place on, U+FFFD for each zero.
+    fn put_each(&mut self, bytes: &[u8], start: usize) -> Result<(), AllocError>
         ensures { OnOk result (pasted_view self.new
             ≡ put_bytes start (pasted_view self.old) bytes.now) }
     {
@@ -115,6 +115,37 @@ impl Pasted {
             place = place.saturating_add(1);
         }
         Ok(())
+    }
+
+    /// Writes bytes that stand in the source from a place on, zeros as they are.
+    fn put_whole(&mut self, bytes: &[u8], start: usize) -> Result<(), AllocError>
+        ensures { OnOk result (pasted_view self.new
+            ≡ record {
+              bytes = (pasted_view self.old).bytes ++ bytes.now;
+              places = (pasted_view self.old).places ++ ranges_of start bytes.now;
+            }) }
+    {
+        self.bytes.extend_from_slice(bytes)?;
+        let mut place = start;
+        for _byte in bytes {
+            let next = place.saturating_add(1);
+            self.places.push((place, next))?;
+            place = next;
+        }
+        Ok(())
+    }
+
+    /// Writes bytes that stand in the source from a place on.
+    #[tactic(auto, using(crate::proofs::Whole::bytes_put))]
+    fn put_bytes(&mut self, bytes: &[u8], start: usize) -> Result<(), AllocError>
+        ensures { OnOk result (pasted_view self.new
+            ≡ put_bytes start (pasted_view self.old) bytes.now) }
+    {
+        if has_byte(bytes, 0) {
+            self.put_each(bytes, start)
+        } else {
+            self.put_whole(bytes, start)
+        }
     }
 }
 

@@ -1,12 +1,12 @@
 //! The content of a table's cell, with the places in the source that it stands for.
 
-ghost use Rattle.std.specs.Prelude.{◌≡◌, ◌==◌, ◌||◌, IfOk, OnOk, length, reverse, take_while};
-ghost use Rattle.tocmark_read_scan.specs.Content.{pasted_view};
-ghost use Rattle.tocmark_read_scan.specs.TableCell.{is_left_out, cell_step, cell_to, cell_content};
+ghost use Rattle.std.specs.Prelude.{◌≡◌, ◌==◌, ◌||◌, IfOk, IfSome, length, reverse, take_while};
+ghost use Rattle.tocmark_read_scan.specs.Content.{pasted_view, content_view};
+ghost use Rattle.tocmark_read_scan.specs.TableCell.{is_left_out, cell_step, cell_to, cell_bytes, cell_content};
 
 use crate::basic::{byte_at, bytes_between};
-use crate::class::{Class, run_end};
-use crate::content::Pasted;
+use crate::class::{Class, has_byte, run_end};
+use crate::content::{Content, Pasted};
 use std::alloc::{AllocError, Global};
 
 /// Whether a byte is a backslash just before a bar.
@@ -52,19 +52,11 @@ fn cell_to(source: &[u8], from: usize, end: usize) -> usize
     end.saturating_sub(trailing_blanks(bytes_between(source, from, end)))
 }
 
-/// The content of the cell between two places of a source, without blanks round it and without each
-/// backslash just before a bar; U+FFFD stands for U+0000.
-#[tactic(auto, unfolding(crate::specs::TableCell::cell_content))]
-pub fn cell_content(
-    alloc: Global,
-    source: &[u8],
-    start: usize,
-    end: usize,
-) -> Result<Pasted, AllocError>
-    ensures { IfOk result (λ c. pasted_view c ≡ cell_content source.now start end) }
+/// The bytes of a range of a source, without each backslash just before a bar; U+FFFD stands for
+/// U+0000.
+fn pasted_cell(alloc: Global, source: &[u8], from: usize, to: usize) -> Result<Pasted, AllocError>
+    ensures { IfOk result (λ c. pasted_view c ≡ cell_bytes source.now from to) }
 {
-    let from = run_end(source, start, Class::Blank);
-    let to = cell_to(source, from, end);
     let mut content = Pasted {
         bytes: Vec::new(alloc),
         places: Vec::new(alloc),
@@ -74,4 +66,36 @@ pub fn cell_content(
         place = put_cell_byte(&mut content, source, place, *byte)?;
     }
     Ok(content)
+}
+
+/// The same, if the bytes stand so in the source: with no backslash and no U+0000.
+#[tactic(auto, using(crate::proofs::Cells::whole_bytes))]
+fn whole_cell<'a>(source: &'a [u8], from: usize, to: usize) -> Option<Content<'a>>
+    ensures { IfSome result (λ c. content_view c ≡ cell_bytes source.now from to) }
+{
+    let bytes = bytes_between(source, from, to);
+    if has_byte(bytes, 0) || has_byte(bytes, b'\\') {
+        None
+    } else {
+        Some(Content::Whole(bytes, from))
+    }
+}
+
+/// The content of the cell between two places of a source, without blanks round it and without each
+/// backslash just before a bar; U+FFFD stands for U+0000.
+#[tactic(auto, unfolding(crate::specs::TableCell::cell_content))]
+pub fn cell_content<'a>(
+    alloc: Global,
+    source: &'a [u8],
+    start: usize,
+    end: usize,
+) -> Result<Content<'a>, AllocError>
+    ensures { IfOk result (λ c. content_view c ≡ cell_content source.now start end) }
+{
+    let from = run_end(source, start, Class::Blank);
+    let to = cell_to(source, from, end);
+    match whole_cell(source, from, to) {
+        Some(content) => Ok(content),
+        None => Ok(Content::Pasted(pasted_cell(alloc, source, from, to)?)),
+    }
 }

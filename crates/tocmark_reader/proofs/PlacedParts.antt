@@ -92,12 +92,17 @@ moved_nodes bytes at d p q o u (Referred c bs ∷ parts) r e h k =
 moved_nodes bytes at d p q o u (Feed ∷ parts) r e h k =
     moved_then bytes at d o u p q _ _ r e h (omega arith) (moved_leaf bytes at d _ p (p + 1) q (q + 1) _ _ e (omega (arith, e)) (omega arith) (omega arith) (moved_nodes bytes at d (p + 1) (q + 1) None None parts tt (omega (arith, e)) tt (omega arith)))
 
--- the inlines of such a leaf, whose content stands at a place of the source
-pub parts_inlines_at : (parts : List Part) (at depth : ℕ) (defs : List ℕ → Option Entry) (t : inlines.State) → AreRead (spelled parts) (known (spelled parts)) defs 0 parts → length (spelled parts) < 2 ^ 64 → inlines.read_inlines (record { bytes = spelled parts; places = places_of at (spelled parts) }) depth defs t ≡ record t { nodes = t.nodes ++ nodes_of depth at None parts }
+-- the inlines of such a leaf, whose bytes have these ranges
+pub parts_inlines_placed : (parts : List Part) (places : List (ℕ × ℕ)) (depth : ℕ) (defs : List ℕ → Option Entry) (t : inlines.State) → AreRead (spelled parts) (known (spelled parts)) defs 0 parts → length (spelled parts) < 2 ^ 64 → inlines.read_inlines (record { bytes = spelled parts; places = places }) depth defs t ≡ record t { nodes = t.nodes ++ map (w.moved places) (nodes_of depth 0 None parts) }
 unfolding inlines.read_inlines_in scan_start
-parts_inlines_at parts at depth defs t h fits =
-    let leaf : content.State = record { bytes = spelled parts; places = places_of at (spelled parts) } in
+parts_inlines_placed parts places depth defs t h fits =
+    let leaf : content.State = record { bytes = spelled parts; places = places } in
     let read = scanned_parts parts defs t.targets t.texts t.missed h fits in
     ap (λ after. inlines.inlines_from leaf depth after t) (read.1)
-    ∙ ap (λ (ns : List Node). (record t { nodes = t.nodes ++ map (w.moved leaf.places) ns })) (written_parts parts depth fits)
+    ∙ ap (λ (ns : List Node). (record t { nodes = t.nodes ++ map (w.moved places) ns })) (written_parts parts depth fits)
+
+-- the inlines of such a leaf, whose content stands at a place of the source
+pub parts_inlines_at : (parts : List Part) (at depth : ℕ) (defs : List ℕ → Option Entry) (t : inlines.State) → AreRead (spelled parts) (known (spelled parts)) defs 0 parts → length (spelled parts) < 2 ^ 64 → inlines.read_inlines (record { bytes = spelled parts; places = places_of at (spelled parts) }) depth defs t ≡ record t { nodes = t.nodes ++ nodes_of depth at None parts }
+parts_inlines_at parts at depth defs t h fits =
+    parts_inlines_placed parts (places_of at (spelled parts)) depth defs t h fits
     ∙ ap (λ (ns : List Node). (record t { nodes = t.nodes ++ ns })) (moved_nodes (spelled parts) at depth 0 at None None parts tt (omega arith) tt (omega arith))

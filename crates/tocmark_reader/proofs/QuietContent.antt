@@ -1,17 +1,15 @@
--- The content of lines that have no mark in any reading, and stand one just behind the other.
-use Rattle.std.proofs.Common.{◌≡◌, ℕ, ◌+◌, ◌-◌, ◌^◌, ◌<◌, ◌≤◌, Bool, true, false, not, ◌==◌, ◌&&◌, nat_lt, nat_le, List, [], ◌∷◌, ◌++◌, length, map, take, drop, refl, ap, sym, ◌∙◌, arith, append_assoc, append-nil, true≢false}
+-- The content of lines that have no mark in any reading, each after the one before.
+use Rattle.std.proofs.Common.{◌≡◌, ℕ, suc, ◌+◌, ◌-◌, ◌^◌, ◌<◌, ◌≤◌, Bool, true, false, not, ◌==◌, ◌&&◌, nat_lt, nat_le, List, [], ◌∷◌, ◌++◌, length, map, take, drop, refl, ap, sym, ◌∙◌, arith, append_assoc, append-nil, length-append, true≢false}
 use Rattle.std.proofs.lemmas.Bool.Decides.{nat_tests}
 use Rattle.std.proofs.lemmas.List.{length-drop, length-take}
 use Rattle.std.specs.List.{AllByRecursion, fold, list_all}
-use Rattle.tocmark_read_scan.specs.Basic.{plus, byte_at, bytes_between}
+use Rattle.tocmark_read_scan.specs.Basic.{bytes_between}
 use Rattle.tocmark_read_scan.specs.Class.{is_in}
 use Rattle.tocmark_read_scan.specs.Content as content
-use Rattle.tocmark_read_scan.specs.Content.{is_behind}
 use Rattle.tocmark_read_scan.specs.PlainParts.{Part, Bare, Feed, spelled, last_byte}
 use Rattle.tocmark_read_scan.specs.declared.class.Class.TheVariants.{White}
 use Rattle.tocmark_read_scan.proofs.PlainContent.{places_of, put_bytes_plain, trimmed_feed, length_places}
-use Rattle.tocmark_read_scan.proofs.PlainPieces.{places_append}
-use Rattle.tocmark_read_scan.proofs.PlainTests.{eq_of, both_true, is_not, all_from}
+use Rattle.tocmark_read_scan.proofs.PlainTests.{both_true, is_not, all_from}
 use Rattle.tocmark_read_page.specs.declared.piece.Piece.{Piece}
 use Rattle.tocmark_read_inlines.specs.Scan.{is_quiet}
 use Rattle.tocmark_reader.specs.Pages.{content_line}
@@ -27,12 +25,6 @@ pub record IsQuietLine (text : List ℕ) (l : Piece) : Type 0 where
   pub ink : is_in White (last_byte 10 (bytes_of text l)) ≡ false
   pub width : l.start + length (bytes_of text l) ≡ l.end
   pub within : l.end ≤ length text
-
--- what is known of a line with another just behind it
-pub record IsFed (text : List ℕ) (l n : Piece) : Type 0 where
-  pub after : l.next ≡ l.end + 1
-  pub fits : l.end + 1 < 2 ^ 64
-  pub joins : n.start ≡ l.next
 
 -- no line of white space ends in ink
 white_feed : is_in White 10 ≡ true
@@ -84,37 +76,17 @@ quiet_line text l h =
       within = range.within;
     }
 
-pub fed : (text : List ℕ) (l n : Piece) → is_behind text (content_line l) (content_line n) ≡ true → IsFed text l n
-unfolding is_behind content_line
-fed text l n h =
-    let above : Bool = nat_lt l.end l.next in
-    let one : Bool = l.next == plus l.end 1 in
-    let feed : Bool = byte_at text l.end == 10 in
-    let forth : Bool = nat_le l.start l.end in
-    let joins : Bool = n.start == l.next in
-    let p : ((((above && one) && feed) && forth) ≡ true) × (joins ≡ true) = both_true (((above && one) && feed) && forth) joins h in
-    let q : (((above && one) && feed) ≡ true) × (forth ≡ true) = both_true ((above && one) && feed) forth (p.0) in
-    let r : ((above && one) ≡ true) × (feed ≡ true) = both_true (above && one) feed (q.0) in
-    let s : (above ≡ true) × (one ≡ true) = both_true above one (r.0) in
-    let is_above : l.end < l.next = below_from l.end l.next (s.0) in
-    let is_one : l.next ≡ plus l.end 1 = eq_of l.next (plus l.end 1) (s.1) in
-    record {
-      after = omega (arith, is_above, is_one);
-      fits = omega (arith, is_above, is_one);
-      joins = eq_of n.start l.next (p.1);
-    }
-
--- lines that are quiet, one just behind the other
+-- lines that are quiet, each after the one before
 abbrev pub AreQuiet : List ℕ → Piece → List Piece → Type 0
 AreQuiet text l [] = IsQuietLine text l
-AreQuiet text l (n ∷ ns) = IsQuietLine text l × IsFed text l n × AreQuiet text n ns
+AreQuiet text l (n ∷ ns) = IsQuietLine text l × (l.end < n.start) × AreQuiet text n ns
 
 pub are_quiet : (text : List ℕ) (l : Piece) (ls : List Piece) → are_quiet_from text l ls ≡ true → AreQuiet text l ls
 are_quiet text l [] h = quiet_line text l h
 are_quiet text l (n ∷ ns) h =
-    let all = both_true (is_quiet_line text l && is_behind text (content_line l) (content_line n)) (are_quiet_from text n ns) h in
-    let both = both_true (is_quiet_line text l) (is_behind text (content_line l) (content_line n)) (all.0) in
-    (quiet_line text l (both.0), fed text l n (both.1), are_quiet text n ns (all.1))
+    let all = both_true (is_quiet_line text l && nat_lt l.end n.start) (are_quiet_from text n ns) h in
+    let both = both_true (is_quiet_line text l) (nat_lt l.end n.start) (all.0) in
+    (quiet_line text l (both.0), below_from l.end n.start (both.1), are_quiet text n ns (all.1))
 
 -- bytes that stand for themselves, and what is behind them
 abbrev pub bares : List ℕ → List Part → List Part
@@ -139,6 +111,20 @@ pub spelled_lines : (text : List ℕ) (l : Piece) (ls : List Piece) → spelled 
 spelled_lines text l [] = spelled_bares (bytes_of text l) [] ∙ append-nil (bytes_of text l)
 spelled_lines text l (n ∷ ns) = spelled_bares (bytes_of text l) (Feed ∷ line_parts text n ns) ∙ ap (λ (xs : List ℕ). bytes_of text l ++ 10 ∷ xs) (spelled_lines text n ns)
 
+-- the ranges of these bytes
+abbrev pub joined_places : List ℕ → Piece → List Piece → List (ℕ × ℕ)
+joined_places text l [] = places_of l.start (bytes_of text l)
+joined_places text l (n ∷ ns) = places_of l.start (bytes_of text l) ++ (l.end, l.next) ∷ joined_places text n ns
+
+length_joined : (text : List ℕ) (l : Piece) (ls : List Piece) → length (joined_places text l ls) ≡ length (joined text l ls)
+length_joined text l [] = length_places l.start (bytes_of text l)
+length_joined text l (n ∷ ns) =
+    let xs : List ℕ = bytes_of text l in
+    length-append (places_of l.start xs) ((l.end, l.next) ∷ joined_places text n ns)
+    ∙ ap (λ k. k + suc (length (joined_places text n ns))) (length_places l.start xs)
+    ∙ ap (λ k. length xs + suc k) (length_joined text n ns)
+    ∙ sym (length-append xs (10 ∷ joined text n ns))
+
 -- where the last line ends, and what follows it begins
 abbrev last_feed : Piece → List Piece → ℕ × ℕ
 last_feed l [] = (l.end, l.next)
@@ -161,32 +147,23 @@ line_put text l s h fits =
     ap (λ (t : content.State). content.put 10 l.end l.next t) (put_bytes_plain l.start s xs (all_no_zeros xs h.bytes) (let q : l.start + length xs < 2 ^ 64 = omega (arith, width, within, fits) in q))
     ∙ rw (append_assoc s.bytes xs (10 ∷ []), append_assoc s.places (places_of l.start xs) ((l.end, l.next) ∷ [])) refl
 
-lines_put : (text : List ℕ) (l : Piece) (ls : List Piece) (s : content.State) → AreQuiet text l ls → length text < 2 ^ 64 → fold (content.put_line text) s (map content_line (l ∷ ls)) ≡ record { bytes = s.bytes ++ (joined text l ls ++ 10 ∷ []); places = s.places ++ (places_of l.start (joined text l ls) ++ last_feed l ls ∷ []) }
+lines_put : (text : List ℕ) (l : Piece) (ls : List Piece) (s : content.State) → AreQuiet text l ls → length text < 2 ^ 64 → fold (content.put_line text) s (map content_line (l ∷ ls)) ≡ record { bytes = s.bytes ++ (joined text l ls ++ 10 ∷ []); places = s.places ++ (joined_places text l ls ++ last_feed l ls ∷ []) }
 lines_put text l [] s h fits = line_put text l s h fits
 lines_put text l (n ∷ ns) s h fits =
     let xs : List ℕ = bytes_of text l in
     let more : List ℕ = joined text n ns in
-    let one : content.State = record { bytes = s.bytes ++ (xs ++ 10 ∷ []); places = s.places ++ (places_of l.start xs ++ (l.end, l.next) ∷ []) } in
-    let width : l.start + length xs ≡ l.end = (h.0).width in
-    let after : l.next ≡ l.end + 1 = (h.1).after in
-    let joins : n.start ≡ l.next = (h.1).joins in
-    let begins : l.end + 1 ≡ n.start = omega (arith, after, joins) in
-    let ranges : places_of l.start (xs ++ 10 ∷ more) ≡ places_of l.start xs ++ (l.end, l.next) ∷ places_of n.start more =
-    places_append l.start xs (10 ∷ more)
-    ∙ ap (λ i. places_of l.start xs ++ (i, i + 1) ∷ places_of (i + 1) more) width
-    ∙ ap (λ i. places_of l.start xs ++ (l.end, i) ∷ places_of i more) begins
-    ∙ ap (λ i. places_of l.start xs ++ (l.end, i) ∷ places_of n.start more) joins
-    in
+    let ps : List (ℕ × ℕ) = places_of l.start xs in
+    let qs : List (ℕ × ℕ) = joined_places text n ns in
+    let one : content.State = record { bytes = s.bytes ++ (xs ++ 10 ∷ []); places = s.places ++ (ps ++ (l.end, l.next) ∷ []) } in
     ap (λ (t : content.State). fold (content.put_line text) t (map content_line (n ∷ ns))) (line_put text l s (h.0) fits)
     ∙ lines_put text n ns one (h.2) fits
     ∙ rw (
       append_assoc s.bytes (xs ++ 10 ∷ []) (more ++ 10 ∷ []),
       append_assoc xs (10 ∷ []) (more ++ 10 ∷ []),
       append_assoc xs (10 ∷ more) (10 ∷ []),
-      append_assoc s.places (places_of l.start xs ++ (l.end, l.next) ∷ []) (places_of n.start more ++ last_feed n ns ∷ []),
-      append_assoc (places_of l.start xs) ((l.end, l.next) ∷ []) (places_of n.start more ++ last_feed n ns ∷ []),
-      ranges,
-      append_assoc (places_of l.start xs) ((l.end, l.next) ∷ places_of n.start more) (last_feed n ns ∷ []),
+      append_assoc s.places (ps ++ (l.end, l.next) ∷ []) (qs ++ last_feed n ns ∷ []),
+      append_assoc ps ((l.end, l.next) ∷ []) (qs ++ last_feed n ns ∷ []),
+      append_assoc ps ((l.end, l.next) ∷ qs) (last_feed n ns ∷ []),
     ) refl
 
 -- bytes are those before the last one, and that one
@@ -209,16 +186,17 @@ lines_end text l (n ∷ ns) h =
     let xs : List ℕ = bytes_of text l in
     (xs ++ 10 ∷ more.0, more.1, ap (λ (ys : List ℕ). xs ++ 10 ∷ ys) (more.2) ∙ sym (append_assoc xs (10 ∷ more.0) (more.1 ∷ [])), more.3)
 
--- their content stands in the text from their front on
-pub content_of_quiet : (text : List ℕ) (l : Piece) (ls : List Piece) → AreQuiet text l ls → length text < 2 ^ 64 → content.content_of text (map content_line (l ∷ ls)) ≡ record { bytes = joined text l ls; places = places_of l.start (joined text l ls) }
+-- their content is their bytes, each with its range
+pub content_of_quiet : (text : List ℕ) (l : Piece) (ls : List Piece) → AreQuiet text l ls → length text < 2 ^ 64 → content.content_of text (map content_line (l ∷ ls)) ≡ record { bytes = joined text l ls; places = joined_places text l ls }
 unfolding content.content_of
 content_of_quiet text l ls h fits =
     let all : List ℕ = joined text l ls in
+    let ps : List (ℕ × ℕ) = joined_places text l ls in
     let end = lines_end text l ls h in
     let body : List ℕ = end.0 in
     let y : ℕ = end.1 in
     let split : all ≡ body ++ y ∷ [] = end.2 in
     ap content.trimmed (lines_put text l ls (record { bytes = []; places = [] }) h fits)
-    ∙ ap (λ (xs : List ℕ). content.trimmed (record { bytes = xs ++ 10 ∷ []; places = places_of l.start all ++ last_feed l ls ∷ [] })) split
-    ∙ trimmed_feed body y (places_of l.start all) (last_feed l ls) (length_places l.start all ∙ ap length split) (end.3)
-    ∙ ap (λ (xs : List ℕ). (let f : content.State = record { bytes = xs; places = places_of l.start all } in f)) (sym split)
+    ∙ ap (λ (xs : List ℕ). content.trimmed (record { bytes = xs ++ 10 ∷ []; places = ps ++ last_feed l ls ∷ [] })) split
+    ∙ trimmed_feed body y ps (last_feed l ls) (length_joined text l ls ∙ ap length split) (end.3)
+    ∙ ap (λ (xs : List ℕ). (let f : content.State = record { bytes = xs; places = ps } in f)) (sym split)

@@ -20,7 +20,7 @@ use tocmark_read_inlines::inlines::{Inlines, SpareLists, read_cell, read_inlines
 use tocmark_read_page::packed::PackedBlock;
 use tocmark_read_page::page::{Block, BlockKind};
 use tocmark_read_page::piece::Piece;
-use tocmark_read_scan::content::{Content, ContentLine, content_of};
+use tocmark_read_scan::content::{ContentLine, content_of};
 use tocmark_read_scan::syntax::Syntax;
 use tocmark_read_scan::table_cell::cell_content;
 use tocmark_read_spans::definitions::Definitions;
@@ -221,13 +221,12 @@ impl Assembly {
             (entry_of document.now.definitions.now) block)
             (assembly_view self.old)) }
     {
-        let cell = cell_content(
+        let content = cell_content(
             alloc,
             document.text.as_str().as_bytes(),
             block.start,
             block.end,
         )?;
-        let content = Content::Pasted(cell);
         let before = mem::replace(&mut self.inlines, no_inlines(alloc, Vec::new(alloc)));
         let depth = block.depth.saturating_add(1);
         let found = read_cell(

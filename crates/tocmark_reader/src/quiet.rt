@@ -1,11 +1,9 @@
 //! Leaves whose lines have no mark in any reading: each line is a text.
 
-ghost use Rattle.std.specs.Prelude.{◌≡◌, ◌&&◌, OnOk};
-ghost use Rattle.std.specs.List.{flat_map, fold, list_all};
-ghost use Rattle.tocmark_read_scan.specs.Content.{is_behind};
+ghost use Rattle.std.specs.Prelude.{◌≡◌, ◌&&◌, OnOk, nat_lt};
+ghost use Rattle.std.specs.List.{fold, list_all};
 ghost use Rattle.tocmark_reader.specs.Emitted.{emission_view, step};
-ghost use Rattle.tocmark_reader.specs.Pages.{content_line};
-ghost use Rattle.tocmark_reader.specs.QuietLines.{is_text_byte, is_quiet_line, are_quiet_from, are_quiet_lines, further_nodes, quiet_nodes};
+ghost use Rattle.tocmark_reader.specs.QuietLines.{is_text_byte, is_quiet_line, are_quiet_from, are_quiet_lines, further_nodes, all_further, quiet_nodes};
 
 use crate::emit::Emission;
 use crate::plain::last_byte;
@@ -13,7 +11,7 @@ use crate::searched::SearchedText;
 use std::alloc::{AllocError, Global};
 use tocmark_event::event::Event;
 use tocmark_read_page::piece::Piece;
-use tocmark_read_scan::basic::{byte_at, bytes_between};
+use tocmark_read_scan::basic::bytes_between;
 use tocmark_read_scan::class::{Class, is_in};
 
 // Each byte that is one of a text in each reading stands as a comma, but for U+0000.
@@ -49,22 +47,11 @@ fn is_quiet_line(text: &[u8], line: Piece) -> bool
     are_text_bytes(bytes) && !is_in(Class::White, last_byte(bytes))
 }
 
-/// Whether a line begins just behind another, which ends with one line feed.
-#[tactic(auto, unfolding(tocmark_read_scan::specs::Content::is_behind, crate::specs::Pages::content_line))]
-fn is_behind(text: &[u8], line: Piece, next: Piece) -> bool
-    ensures { result ≡ is_behind text.now (content_line line) (content_line next) }
-{
-    let one = line.end < line.next && line.next == line.end.saturating_add(1);
-    let fed = byte_at(text, line.end) == b'\n';
-    one && fed && line.start <= line.end && next.start == line.next
-}
-
-/// Whether a line is a text, and another one begins just behind it.
+/// Whether a line is a text, and another one begins after it.
 fn goes_on(text: &[u8], line: Piece, next: Piece) -> bool
-    ensures { result ≡ (is_quiet_line text.now line
-        && is_behind text.now (content_line line) (content_line next)) }
+    ensures { result ≡ (is_quiet_line text.now line && nat_lt line.end next.start) }
 {
-    is_quiet_line(text, line) && is_behind(text, line, next)
+    is_quiet_line(text, line) && line.end < next.start
 }
 
 fn are_quiet_from(text: &[u8], line: Piece, others: &[Piece]) -> bool
@@ -80,7 +67,7 @@ fn are_quiet_from(text: &[u8], line: Piece, others: &[Piece]) -> bool
     is_quiet_line(text, last)
 }
 
-/// Whether a leaf has lines that have no mark in any reading, and stand one just behind the other.
+/// Whether a leaf has lines that have no mark in any reading, each after the one before.
 pub fn are_quiet_lines(text: &[u8], lines: &[Piece]) -> bool
     ensures { result ≡ are_quiet_lines text.now lines.now }
 {
@@ -90,36 +77,38 @@ pub fn are_quiet_lines(text: &[u8], lines: &[Piece]) -> bool
     }
 }
 
-/// Writes a line behind another, with the soft break before it.
+/// Writes a line after another one, with the soft break between them.
 fn write_further_line(
     alloc: Global,
     out: &mut Emission,
     text: &SearchedText<'_>,
     depth: usize,
+    last: Piece,
     line: Piece,
 ) -> Result<(), AllocError>
     ensures { OnOk result (emission_view out.new
-        ≡ fold (step text.now) (emission_view out.old) (further_nodes depth line)) }
+        ≡ fold (step text.now) (emission_view out.old) (further_nodes depth last line)) }
 {
-    let feed = line.start.saturating_sub(1);
-    out.write(text, depth, Event::SoftBreak, feed, line.start)?;
+    out.write(text, depth, Event::SoftBreak, last.end, last.next)?;
     out.write_source(alloc, text, depth, line.start, line.end)
 }
 
-/// Writes lines behind another one.
+/// Writes lines after another one.
 fn write_further_lines(
     alloc: Global,
     out: &mut Emission,
     text: &SearchedText<'_>,
     depth: usize,
+    first: Piece,
     lines: &[Piece],
 ) -> Result<(), AllocError>
     ensures { OnOk result (emission_view out.new
-        ≡ fold (step text.now) (emission_view out.old)
-        (flat_map (further_nodes depth) lines.now)) }
+        ≡ fold (step text.now) (emission_view out.old) (all_further depth first lines.now)) }
 {
+    let mut last = first;
     for line in lines {
-        write_further_line(alloc, out, text, depth, *line)?;
+        write_further_line(alloc, out, text, depth, last, *line)?;
+        last = *line;
     }
     Ok(())
 }
@@ -139,7 +128,7 @@ pub fn write_quiet_lines(
         None => Ok(()),
         Some((first, others)) => {
             out.write_source(alloc, text, depth, first.start, first.end)?;
-            write_further_lines(alloc, out, text, depth, others)
+            write_further_lines(alloc, out, text, depth, *first, others)
         }
     }
 }

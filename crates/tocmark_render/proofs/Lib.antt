@@ -1,4 +1,7 @@
 pub mod Chosen
+pub mod PlainTexts
+pub mod AlikeUnits
+pub mod AlikeEvents
 pub mod PlainUnits
 pub mod EqualEvents
 pub mod ReadBacks

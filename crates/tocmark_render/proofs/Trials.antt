@@ -40,11 +40,11 @@ or-assoc None b c = refl
 or-assoc (Some p) b c = refl
 
 module _ (q : Asked) (d : DocumentView) where
-  abbrev read : Manner → Option Page
+  abbrev pub read : Manner → Option Page
   read m = page_read_back q.setting d q.unit (spelled q.setting d q.unit q.next m)
 
   -- one candidate and then the rest
-  first-step : (m : Manner) (ms : List Manner) → first q d (m ∷ ms) ≡ found_or_else (read m) (first q d ms)
+  pub first-step : (m : Manner) (ms : List Manner) → first q d (m ∷ ms) ≡ found_or_else (read m) (first q d ms)
   unfolding first_that_reads_back
   first-step m ms = by (read m)
     where
@@ -331,7 +331,7 @@ module _ (q : Asked) (d : DocumentView) where
   unfolding choice
   choice-placed b e m = ap (λ b. unless_misplaced b q.setting d q.unit q.next) e ∙ ap (λ b. by_markers b q.setting d q.unit q.next) m
 
-  by-place : (b : Bool) → misplaced q ≡ b → (b ≡ false → chosen ≡ plain) → chosen ≡ plain
+  pub by-place : (b : Bool) → misplaced q ≡ b → (b ≡ false → chosen ≡ plain) → chosen ≡ plain
   by-place true e h = choice-misplaced e ∙ sym (preferred-misplaced e)
   by-place false e h = h refl
 
@@ -340,7 +340,7 @@ module _ (q : Asked) (d : DocumentView) where
   choice-unsearched m = by-place (misplaced q) refl (λ e. choice-placed false e m)
 
   module _ (m : has_standard_markers q.setting.options ≡ true) where
-    searched-first : (o : Option Page) → misplaced q ≡ false → first q d (candidates q.setting.options q.unit) ≡ o → chosen ≡ first_or q.setting d q.unit q.next o
+    pub searched-first : (o : Option Page) → misplaced q ≡ false → first q d (candidates q.setting.options q.unit) ≡ o → chosen ≡ first_or q.setting d q.unit q.next o
     searched-first o e h = choice-placed true e m ∙ ap (first_or q.setting d q.unit q.next) h
 
     -- a spelling reads back

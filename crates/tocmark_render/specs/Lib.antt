@@ -1,4 +1,5 @@
 pub mod Validates
+pub mod Alike
 pub mod Candidates
 pub mod ReadsBack
 pub mod Choice

@@ -6,6 +6,7 @@
 //! `read_back`). The laws of the choice stand in `laws`.
 #![tactic(auto)]
 
+mod alike;
 pub mod document;
 pub mod earlier;
 pub mod laws;

@@ -1,15 +1,17 @@
 //! The search for a spelling that is read back.
 
-ghost use Rattle.std.specs.Prelude.{◌≡◌, ◌&&◌, flat_map, map, true, OnOk};
+ghost use Rattle.std.specs.Prelude.{◌≡◌, ◌&&◌, false, flat_map, map, true, OnOk};
 ghost use Rattle.std.specs.List.{AllByRecursion};
 ghost use Rattle.tocmark_write_renderer.specs.JobOf.{manner_view};
 ghost use Rattle.tocmark_write_renderer.specs.WriterOf.{site_of};
+ghost use Rattle.tocmark_render.specs.Alike.{AreAlike};
 ghost use Rattle.tocmark_render.specs.Candidates.{delimiter_manners, escaped_manners, fallback_manners, fallbacks};
 ghost use Rattle.tocmark_render.specs.Choice.{has_standard_markers};
 ghost use Rattle.tocmark_render.specs.Tries.{if_source, manners_for};
-ghost use Rattle.tocmark_render.specs.TrialOf.{AreRefused, Chooses, Finds, IsFront, IsLow, IsReady, Knows, TriesIn, asked_of, earlier_view, is_checked_in, options_in};
+ghost use Rattle.tocmark_render.specs.TrialOf.{AreRefused, Chooses, Finds, IsFront, IsLow, IsReady, Knows, TriesIn, asked_of, earlier_view, events_in, is_checked_in, options_in};
 ghost use Rattle.tocmark_render.specs.Validates.{validates};
 
+use crate::alike::are_alike;
 use crate::earlier::Earlier;
 use crate::manners::{
     fallback_plans, has_standard_markers, preferred_manner, run_manners, source_manners,
@@ -39,6 +41,18 @@ impl<'t, R: Reader> Search<'_, '_, 't, '_, R> {
         let trial = self.trial;
         let has_delimiters = trial.found.census.delimiters;
         has_delimiters || (trial.tools.options.check_plain_blocks && !trial.unit.is_empty())
+    }
+
+    /// Whether the unit is spelled alike from the source and escaped, and isn't checked, so that nothing
+    /// rests on what the reader finds.
+    fn is_alike(&self) -> bool
+        ensures { let t = self.now.trial.now in
+            result ≡ true → (is_checked_in t ≡ false) × AreAlike false (events_in t) }
+    {
+        if self.is_checked() {
+            return false;
+        }
+        are_alike(self.trial.unit.events())
     }
 
     /// Whether the unit can't be represented where no spelling is read back: it is checked, and its options
@@ -226,6 +240,9 @@ impl<'t, R: Reader> Search<'_, '_, 't, '_, R> {
         }
         let has_source = self.trial.found.census.sourced;
         if !has_source && !self.is_checked() {
+            return Ok(None);
+        }
+        if self.is_alike() {
             return Ok(None);
         }
         if let Some(known) = self.try_candidates(renderer)? {

@@ -170,7 +170,7 @@ fn next_part(parts: &[Part], next: usize, plan: &Plan, fate: Fate) -> usize
     }
 }
 
-/// What became of each tree: those that weren't kept were patched, if all is or if they could be kept, but for the trees
+/// What became of each tree: those that weren't kept were patched, if trees are or if they could be kept, but for the ones
 /// that begin with the events at these places.
 pub(crate) fn told(
     alloc: Global,

@@ -40,11 +40,44 @@ pub(crate) fn patched(
     Ok(output)
 }
 
-/// The blocks of the source, and what replaces bytes of theirs and between them, in the order of the places.
+/// Patches in the order of their places.
+#[derive(Drop)]
+pub(crate) struct PlacedPatches {
+    /// Those of blocks of the source. One that inserts a text can have the place of a block's first byte or of its end.
+    in_blocks: Vec<Patch>,
+    /// Those of what is between blocks: definitions.
+    in_gaps: Vec<Patch>,
+}
+
+impl PlacedPatches {
+    pub(crate) fn of(
+        alloc: Global,
+        blocks: &[Block],
+        mut patches: Vec<Patch>,
+    ) -> Result<PlacedPatches, AllocError> {
+        patches.sort_by_key(|patch| patch.from)?;
+        let mut in_blocks = Vec::new(alloc);
+        let mut in_gaps = Vec::new(alloc);
+        for patch in &patches {
+            let copy = patch.copied(alloc)?;
+            let from = copy.from;
+            let place = blocks.partition_point(|block| block.to < from);
+            if blocks.get(place).is_some_and(|block| block.from <= from) {
+                in_blocks.push(copy)?;
+            } else {
+                in_gaps.push(copy)?;
+            }
+        }
+        Ok(PlacedPatches { in_blocks, in_gaps })
+    }
+}
+
+/// The blocks of the source, and what replaces bytes of theirs and between them.
 #[derive(Clone, Copy)]
 struct Between<'b> {
     blocks: &'b [Block],
-    patches: &'b [Patch],
+    in_blocks: &'b [Patch],
+    in_gaps: &'b [Patch],
     /// What ends the first line of the source.
     common: LineEnd,
 }
@@ -91,13 +124,13 @@ fn put_gaps(
         if has_text(source.as_bytes(), from, to) {
             separate(source, between.line_end(k), output)?;
             let (start, past) = trimmed(source.as_bytes(), from, to);
-            copy_stretch(source, between.patches, start, past, output)?;
+            copy_stretch(source, between.in_gaps, start, past, output)?;
         }
     }
     Ok(())
 }
 
-/// A stretch of the source with its patches.
+/// A stretch of the source with its patches; none that begins before the end of another is made.
 fn copy_stretch(
     source: &str,
     patches: &[Patch],
@@ -117,9 +150,11 @@ fn copy_stretch(
         if patch.to > to {
             break;
         }
-        output.copy(source, at, patch.from)?;
-        output.put(source, patch.text.clone()?)?;
-        at = patch.to;
+        if at <= patch.from {
+            output.copy(source, at, patch.from)?;
+            output.put(source, patch.text.clone()?)?;
+            at = patch.to;
+        }
     }
     output.copy(source, at, to)
 }
@@ -229,7 +264,7 @@ fn put_before(
         return separate(source, between.line_end(next), output);
     };
     if let Some((from, to)) = stretch_before(source, between, next, place, is_loose) {
-        return copy_stretch(source, between.patches, from, to, output);
+        return copy_stretch(source, between.in_gaps, from, to, output);
     }
     put_gaps(source, between, next, place.saturating_add(1), output)?;
     separate(source, between.line_end(place), output)
@@ -263,8 +298,9 @@ fn put_block(
     ensures { OnOk result (Builds source.now output.new) }
 {
     match plan.kept {
-        Some(block) => copy_stretch(source, between.patches, block.from, block.to, output),
+        Some(block) => copy_stretch(source, between.in_blocks, block.from, block.to, output),
         None => {
+            output.written.push(plan.tree.first)?;
             let text = line_end.ending(output.alloc, piece.body.as_str())?;
             output.put(source, text)
         }
@@ -286,7 +322,7 @@ fn put_tail(
     let (from, to) = gap(source, between.blocks, count);
     let bytes = source.as_bytes();
     if next == count && (!is_loose || !has_text(bytes, from, to) || output.text.is_empty()) {
-        return copy_stretch(source, between.patches, from, to, output);
+        return copy_stretch(source, between.in_gaps, from, to, output);
     }
     put_gaps(source, between, next, count.saturating_add(1), output)?;
     if output.text.is_empty() {
@@ -306,16 +342,16 @@ fn end_line(source: &str, line_end: LineEnd, output: &mut Output) -> Result<(), 
     output.put_str(source, line_end.as_str())
 }
 
-/// What was written: the trees that aren't kept, the definitions that they ask for, and what these and the marks of lists
+/// What was written: the trees that aren't kept, the definitions that they ask for, and what these and the other changes
 /// replace in the source.
 #[derive(Clone, Copy)]
 pub(crate) struct Written<'w> {
     pub(crate) pieces: &'w [Piece],
     pub(crate) definitions: &'w Definitions,
-    /// The marks of kept lists.
-    pub(crate) marks: &'w [Patch],
-    /// These marks, and the definitions.
-    pub(crate) redefined: &'w [Patch],
+    /// The marks of kept lists, and the patches of changed trees.
+    pub(crate) changes: &'w PlacedPatches,
+    /// These, and the definitions.
+    pub(crate) redefined: &'w PlacedPatches,
     /// What ends the first line of the source.
     pub(crate) line_end: LineEnd,
 }
@@ -418,14 +454,16 @@ pub(crate) fn joined(
     ensures { IfOk result (λ output. Builds source.now output) }
 {
     let mut output = Output::new(alloc, source);
+    output.is_patched = true;
     let patches = if manner.redefines {
         written.redefined
     } else {
-        written.marks
+        written.changes
     };
     let between = Between {
         blocks,
-        patches,
+        in_blocks: &patches.in_blocks,
+        in_gaps: &patches.in_gaps,
         common: written.line_end,
     };
     let mut last = Last {

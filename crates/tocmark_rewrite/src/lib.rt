@@ -7,10 +7,11 @@
 //! `trees` cuts events into their trees, and finds the lines of these; `line_end` says what ends them. `plan` finds which
 //! trees are in the source as they are. `patch` replaces the bytes of single events (`event`), of `inlines` (`wording`,
 //! where `hunks` differ; a `marker` spells new ones) and of links (`link`), with their `destination` and `title`, or those
-//! of the `label`'s definition, which `definition_reader` finds. `inner` writes the changed blocks in a tree. `pieces`
-//! writes changed trees, which `given` lends to a state, whose reader is that of `unit_reader`. `joint` decides how trees
-//! stand behind one another, and `join` puts them side by side. All leave a list of parts (`output`), whose text is parsed;
-//! `labels` compares the labels that it defines. `answer` says what became of each tree, and `fault` why there is no text.
+//! of the `label`'s definition, which `definition_reader` finds. `inner` writes the changed blocks in a tree, and `changes`
+//! finds the smallest patches of each tree. `pieces` writes changed trees, which `given` lends to a state, whose reader is
+//! that of `unit_reader`. `joint` decides how trees stand behind one another, and `join` puts them side by side. All leave a
+//! list of parts (`output`), whose text is parsed; `labels` compares the labels that it defines. `answer` says what became
+//! of each tree, and `fault` why there is no text.
 //!
 //! ```
 //! let mut reading = CoreReader.read(alloc, source, flags)?;
@@ -20,6 +21,7 @@
 #![tactic(auto)]
 
 pub mod answer;
+mod changes;
 mod collect;
 pub mod definition_reader;
 mod destination;

@@ -21,10 +21,9 @@ pub(crate) struct Output {
     pub(crate) alloc: Global,
     pub(crate) text: String,
     pub(crate) parts: Vec<Part>,
-    /// Whether it is the source with patches.
+    /// Whether changed trees are patched, but for those that were written as a whole.
     pub(crate) is_patched: bool,
-    /// The first events of the trees that were written as a whole, in their order, where it is, and else of those that had
-    /// the events of blocks of the source.
+    /// The first events of these, in their order.
     pub(crate) written: Vec<usize>,
 }
 

@@ -35,6 +35,18 @@ impl Patch {
     }
 }
 
+/// Adds copies of patches to others.
+pub(crate) fn add_copies(
+    alloc: Global,
+    patches: &[Patch],
+    all: &mut Vec<Patch>,
+) -> Result<(), AllocError> {
+    for patch in patches {
+        all.push(patch.copied(alloc)?)?;
+    }
+    Ok(())
+}
+
 /// The patches of a document, in the order of their places.
 #[derive(Drop)]
 pub struct Patches {

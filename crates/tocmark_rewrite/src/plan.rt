@@ -19,7 +19,7 @@ pub struct Plan {
     pub tree: Tree,
     /// The place of the block of the source that it stands for, if there is one.
     pub stands_for: Option<usize>,
-    /// That block, if its events are those of the tree.
+    /// That block, if its events are those of the tree, or if patches make them so.
     pub kept: Option<Block>,
 }
 
@@ -265,21 +265,6 @@ pub(crate) fn loosened(
         None => loosened_at(alloc, plans, misread, 1),
         behind => Ok(behind),
     }
-}
-
-/// The first events of the trees that are kept by the first plans, and not by the second ones.
-pub(crate) fn released(
-    alloc: Global,
-    plans: &[Plan],
-    loose: &[Plan],
-) -> Result<Vec<usize>, AllocError> {
-    let mut all = Vec::new(alloc);
-    for (plan, looser) in plans.iter().zip(loose) {
-        if plan.kept.is_some() && looser.kept.is_none() {
-            all.push(plan.tree.first)?;
-        }
-    }
-    Ok(all)
 }
 
 /// Of each block, whether a tree keeps it.

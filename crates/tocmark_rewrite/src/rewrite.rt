@@ -18,36 +18,24 @@ ghost use Rattle.tocmark_rewrite.specs.declared.fault.Fault.TheVariants.{OutOfMe
 ghost use Rattle.tocmark_rewrite.specs.declared.output.Part.TheVariants.{Source};
 
 use crate::answer::{Rewritten, told};
+use crate::changes::{Standing, Work, all_patches, first_ways, kept_lines, next_ways};
 use crate::collect::{collected, lent};
 use crate::definition_reader::DefinitionReader;
 use crate::fault::{Fault, Place};
-use crate::inner::{block_patch, innermost};
-use crate::join::{Manner, Written, joined, patched};
+use crate::join::{Manner, PlacedPatches, Written, joined, patched};
 use crate::joint::{Joint, Row, mark_patches};
 use crate::labels::has_all;
 use crate::line_end::LineEnd;
-use crate::marker::Markers;
 use crate::output::{Output, Part};
-use crate::patch::{Patch, Patches};
-use crate::pieces::{Definitions, Piece, Tools, events_of, make_pieces, write_tree};
-use crate::plan::{Documents, Plan, loosened, place_of, released};
-use crate::trees::{Block, Tree, blocks, trees};
-use crate::wording::Spelling;
+use crate::patch::{Patch, add_copies};
+use crate::pieces::{Definitions, Piece, Tools, events_of, make_pieces};
+use crate::plan::{Documents, loosened, place_of};
+use crate::trees::{Tree, blocks, trees};
 use std::alloc::{AllocError, Global};
 use tocmark_compare::same::{are_same, differ};
 use tocmark_event::event::{Event, ParserOptions};
 use tocmark_event::options::Options;
 use tocmark_event::reader::{Reader, Reading};
-
-/// The source as it was read, and what becomes of the trees that were given.
-#[derive(Clone, Copy)]
-struct Work<'w> {
-    found: &'w [(Event<'w>, (usize, usize))],
-    /// The labels that the source defines.
-    defined: &'w [String],
-    blocks: &'w [Block],
-    plans: &'w [Plan],
-}
 
 /// The source as it stands.
 fn whole(alloc: Global, source: &str) -> Result<Output, AllocError>
@@ -90,191 +78,6 @@ fn answer(alloc: Global, work: &Work<'_>, output: Output) -> Result<Rewritten, A
     )?;
     let Output { text, parts, .. } = output;
     Ok(Rewritten { text, parts, trees })
-}
-
-/// Whether each tree stands for the block of the source in its place.
-fn are_in_place(work: &Work<'_>) -> bool {
-    if work.plans.len() != work.blocks.len() {
-        return false;
-    }
-    for (at, plan) in work.plans.iter().enumerate() {
-        if plan.stands_for != Some(at) {
-            return false;
-        }
-    }
-    true
-}
-
-/// Adds the patches of a tree; none and false if there are no small ones.
-fn add_small<'a>(
-    alloc: Global,
-    source: &str,
-    patches: &mut Patches,
-    old: &'a [(Event<'a>, (usize, usize))],
-    new: &'a [(Event<'a>, (usize, usize))],
-) -> Result<bool, AllocError> {
-    let before = patches.list.len();
-    let all = patches.tree(alloc, source, old, new)?;
-    if !all {
-        patches.list.truncate(before);
-    }
-    Ok(all)
-}
-
-/// Adds the patches of the innermost blocks in which a tree was changed, each by itself; none and false if the
-/// tree is the innermost, or if one is refused.
-fn add_inner<'a, R: Reader>(
-    tools: &Tools<'_, '_, R>,
-    source: &str,
-    patches: &mut Patches,
-    old: &'a [(Event<'a>, (usize, usize))],
-    new: &'a [(Event<'a>, (usize, usize))],
-) -> Result<bool, AllocError> {
-    let before = patches.list.len();
-    for pairing in &innermost(tools.alloc, old, new)? {
-        let left = old.get(pairing.old.0..pairing.old.1).unwrap_or(&[]);
-        let right = new.get(pairing.new.0..pairing.new.1).unwrap_or(&[]);
-        if left.len() == old.len() || !add_block(tools, source, patches, left, right)? {
-            patches.list.truncate(before);
-            return Ok(false);
-        }
-    }
-    Ok(true)
-}
-
-/// Adds the patches of a block in a container; none and false if it is refused.
-fn add_block<'a, R: Reader>(
-    tools: &Tools<'_, '_, R>,
-    source: &str,
-    patches: &mut Patches,
-    old: &'a [(Event<'a>, (usize, usize))],
-    new: &'a [(Event<'a>, (usize, usize))],
-) -> Result<bool, AllocError> {
-    if add_small(tools.alloc, source, patches, old, new)? {
-        return Ok(true);
-    }
-    match old.first() {
-        None => Ok(false),
-        Some(pair) => {
-            let patch = block_patch(tools, source, pair.1, new)?;
-            patches.take(patch)
-        }
-    }
-}
-
-/// Adds the patch that replaces a block's lines by its tree as it is written; false if it is refused.
-fn add_written<'a, R: Reader>(
-    tools: &Tools<'_, '_, R>,
-    source: &str,
-    patches: &mut Patches,
-    block: Block,
-    tree: Tree,
-    events: &'a [(Event<'a>, (usize, usize))],
-) -> Result<bool, AllocError> {
-    let Ok(piece) = write_tree(tools, source, block.tree.begins, events_of(events, tree)) else {
-        return Ok(false);
-    };
-    patches.written.push(tree.first)?;
-    let text = block.line_end.ending(tools.alloc, piece.body.as_str())?;
-    patches.list.push(Patch {
-        from: block.from,
-        to: block.to,
-        text,
-    })?;
-    Ok(true)
-}
-
-/// How a tree is changed. The ways are tried in this order.
-#[derive(Clone, Copy, Debug, PartialEq, Eq)]
-enum Way {
-    Literal,
-    Escaped,
-    Anew,
-    /// It is written as a whole, if it has more changes than those of single events and texts.
-    Whole,
-}
-
-impl Way {
-    fn spelling(self) -> Spelling {
-        match self {
-            Way::Literal => Spelling::Literal,
-            Way::Escaped => Spelling::Escaped,
-            _ => Spelling::Anew,
-        }
-    }
-
-    /// The way that is tried behind this one, by whether new inlines can be spelled in several ways.
-    fn next(self, has_texts: bool) -> Way {
-        match self {
-            Way::Literal if has_texts => Way::Escaped,
-            Way::Escaped if has_texts => Way::Anew,
-            _ => Way::Whole,
-        }
-    }
-}
-
-/// Adds the patches of a tree, the smallest that there are: those of events, of blocks in it if these may be
-/// written by themselves, or of all of it; false if it is refused.
-fn add_tree<'a, R: Reader>(
-    tools: &Tools<'_, '_, R>,
-    source: &str,
-    patches: &mut Patches,
-    work: &Work<'a>,
-    at: usize,
-    events: &'a [(Event<'a>, (usize, usize))],
-) -> Result<bool, AllocError> {
-    let (Some(plan), Some(block)) = (work.plans.get(at), work.blocks.get(at)) else {
-        return Ok(false);
-    };
-    if plan.kept.is_some() {
-        return Ok(true);
-    }
-    let old = work
-        .found
-        .get(block.tree.first..block.tree.past)
-        .unwrap_or(&[]);
-    let new = events_of(events, plan.tree);
-    if add_small(tools.alloc, source, patches, old, new)? {
-        return Ok(true);
-    }
-    if patches.allows_inner && add_inner(tools, source, patches, old, new)? {
-        return Ok(true);
-    }
-    add_written(tools, source, patches, *block, plan.tree, events)
-}
-
-/// The patches of all trees, where each stands for the block in its place; none if one is refused.
-fn all_patches<'a, R: DefinitionReader>(
-    tools: &Tools<'_, '_, R>,
-    source: &str,
-    work: &Work<'a>,
-    events: &'a [(Event<'a>, (usize, usize))],
-    ways: &[Way],
-) -> Result<Option<Patches>, AllocError> {
-    let alloc = tools.alloc;
-    let markers = Markers::of(&tools.options);
-    let mut patches = Patches::new(alloc, markers);
-    for at in 0..work.plans.len() {
-        let way = ways.get(at).copied().unwrap_or(Way::Whole);
-        patches.allows_inner = way != Way::Whole;
-        patches.spelling = way.spelling();
-        patches.markers = if way == Way::Escaped {
-            markers.others()
-        } else {
-            markers
-        };
-        if !add_tree(tools, source, &mut patches, work, at, events)? {
-            return Ok(None);
-        }
-    }
-    if patches.redefines() {
-        let found = tools
-            .reader
-            .reference_definitions(alloc, source, tools.flags)?;
-        patches.add_definitions(alloc, source, &found)?;
-    }
-    patches.sort()?;
-    Ok(Some(patches))
 }
 
 /// Whether a tree that was read is one that was given.
@@ -387,34 +190,6 @@ fn misread_trees<R: Reader>(
     Ok(misread)
 }
 
-/// The first way for each tree.
-fn first_ways(alloc: Global, work: &Work<'_>) -> Result<Vec<Way>, AllocError> {
-    let mut ways = Vec::new(alloc);
-    for _plan in work.plans {
-        ways.push(Way::Literal)?;
-    }
-    Ok(ways)
-}
-
-/// The next way for each tree that a text reads otherwise; for all trees if it reads none so.
-fn next_ways<R: Reader>(
-    tools: &Tools<'_, '_, R>,
-    work: &Work<'_>,
-    text: &str,
-    events: &[(Event<'_>, (usize, usize))],
-    ways: &[Way],
-    has_texts: bool,
-) -> Result<Vec<Way>, AllocError> {
-    let misread = misread_trees(tools, work, text, events)?;
-    let is_none = !misread.contains(&true);
-    let mut next = Vec::new(tools.alloc);
-    for (way, is_misread) in ways.iter().zip(&misread) {
-        let goes_on = is_none || *is_misread;
-        next.push(if goes_on { way.next(has_texts) } else { *way })?;
-    }
-    Ok(next)
-}
-
 /// How many ways are tried.
 const ROUNDS: usize = 4;
 
@@ -431,7 +206,7 @@ fn patched_text<'a, R: DefinitionReader>(
         (string_bytes output.text))) }
     ensures parts { IfOk result (λ answer. IfSome answer (λ output. Builds source.now output)) }
 {
-    if !are_in_place(work) {
+    if !work.is_in_place() {
         return Ok(None);
     }
     let mut ways = first_ways(tools.alloc, work)?;
@@ -446,7 +221,8 @@ fn patched_text<'a, R: DefinitionReader>(
             None => return Ok(Some(output)),
             Some(_place) => {}
         }
-        let next = next_ways(tools, work, output.text.as_str(), events, &ways, has_texts)?;
+        let misread = misread_trees(tools, work, output.text.as_str(), events)?;
+        let next = next_ways(tools.alloc, work, &misread, &ways, has_texts)?;
         if next == ways {
             break;
         }
@@ -570,15 +346,15 @@ fn side_by_side<'a, R: DefinitionReader>(
     let joints = row.joints(alloc, tools.options)?;
     let pieces = make_pieces(tools, source, work.blocks, &joints, events)?;
     let (definitions, mut redefined) = definitions_for(tools, source, work, &pieces)?;
-    let marks = mark_patches(alloc, source, work.found, &joints)?;
-    for patch in &marks {
-        redefined.push(patch.copied(alloc)?)?;
-    }
-    redefined.sort_by_key(|patch| patch.from)?;
+    let mut changes = mark_patches(alloc, source, work.found, &joints)?;
+    add_copies(alloc, work.changes, &mut changes)?;
+    add_copies(alloc, &changes, &mut redefined)?;
+    let changes = PlacedPatches::of(alloc, work.blocks, changes)?;
+    let redefined = PlacedPatches::of(alloc, work.blocks, redefined)?;
     let written = Written {
         pieces: &pieces,
         definitions: &definitions,
-        marks: &marks,
+        changes: &changes,
         redefined: &redefined,
         line_end: tools.line_end,
     };
@@ -622,13 +398,53 @@ fn loosened_text<'a, R: DefinitionReader>(
             Err(_) => break,
         };
         if tried.otherwise.is_none() {
-            let written = released(alloc, work.plans, &plans)?;
-            return Ok(Some(Output {
-                written,
-                ..tried.output
-            }));
+            return Ok(Some(tried.output));
         }
         misread = misread_trees(tools, work, tried.output.text.as_str(), events)?;
+    }
+    Ok(None)
+}
+
+/// Kept, patched and written blocks side by side, as they are read as the events. None if no tree can be patched, or if no
+/// such text is read so.
+fn standing_text<'a, R: DefinitionReader>(
+    tools: &Tools<'_, '_, R>,
+    source: &str,
+    work: &Work<'a>,
+    events: &'a [(Event<'a>, (usize, usize))],
+) -> Result<Option<Output>, AllocError>
+    ensures says { IfOk result (λ answer. IfSome answer (λ output.
+        SaysSame (λ text. R.reading tools.now.reader.now text tools.now.flags)
+        (map string_bytes work.now.defined.now) (given_events events.now)
+        (string_bytes output.text))) }
+    ensures parts { IfOk result (λ answer. IfSome answer (λ output. Builds source.now output)) }
+{
+    let mut ways = first_ways(tools.alloc, work)?;
+    for _round in 0..ROUNDS {
+        let Standing { plans, patches } = kept_lines(tools, source, work, events, &ways)?;
+        if patches.list.is_empty() {
+            return Ok(None);
+        }
+        let patched = Work {
+            plans: &plans,
+            changes: &patches.list,
+            ..*work
+        };
+        let tried = match side_by_side(tools, source, &patched, events) {
+            Ok(tried) => tried,
+            Err(Fault::OutOfMemory) => return Err(AllocError),
+            Err(_) => return Ok(None),
+        };
+        let Some(_place) = tried.otherwise else {
+            return Ok(Some(tried.output));
+        };
+        let text = tried.output.text.as_str();
+        let misread = misread_trees(tools, work, text, events)?;
+        let next = next_ways(tools.alloc, work, &misread, &ways, patches.has_texts)?;
+        if next == ways {
+            return loosened_text(tools, source, &patched, events, text);
+        }
+        ways = next;
     }
     Ok(None)
 }
@@ -637,7 +453,7 @@ fn loosened_text<'a, R: DefinitionReader>(
 fn joined_text<'a, R: DefinitionReader>(
     tools: &Tools<'_, '_, R>,
     source: &str,
-    work: &Work<'_>,
+    work: &Work<'a>,
     events: &'a [(Event<'a>, (usize, usize))],
 ) -> Result<Output, Fault>
     ensures says { IfOk result (λ output.
@@ -649,6 +465,9 @@ fn joined_text<'a, R: DefinitionReader>(
         (IsVain (λ text. R.reading tools.now.reader.now text tools.now.flags)
         (map string_bytes work.now.defined.now) source.now (given_events events.now)) }
 {
+    if let Some(output) = standing_text(tools, source, work, events)? {
+        return Ok(output);
+    }
     let first = side_by_side(tools, source, work, events)?;
     let Some(place) = first.otherwise else {
         return Ok(first.output);
@@ -740,6 +559,7 @@ pub fn rewritten_slice<'a, R: DefinitionReader>(
         defined: &reading.defined,
         blocks: &blocks,
         plans: &plans,
+        changes: &[],
     };
     let tools = Tools {
         alloc,
@@ -765,7 +585,8 @@ pub fn rewritten_slice<'a, R: DefinitionReader>(
 ///   replaced. The destination of a link by label is replaced in the label's definition.
 /// - If a word was made strong, emphasized, struck through, code or a link, or isn't any more, just the delimiters change.
 /// - If more was changed, the innermost block or item with a change is written again, or else the block at the top.
-/// - If blocks at the top were added or removed, the others keep their lines, and so does what stands between them.
+/// - If blocks at the top were added or removed, the others keep their lines but for such changes, and so does what stands
+///   between them.
 /// - If a block beside a change would be parsed otherwise there, it is written again, too.
 ///
 /// The new text is parsed. It is answered only if it has these events, with neighbouring texts joined, and defines each label

@@ -1,5 +1,5 @@
 -- What a loop over events, and a call after others, add to a walk.
-use Rattle.std.proofs.Common.{◌≡◌, ℕ, List, [], ◌++◌, length, sum_by, Result, Ok, Err, ap, ◌∙◌, sym, subst, IsOk}
+use Rattle.std.proofs.Common.{◌≡◌, ℕ, List, [], ◌++◌, length, sum_by, Result, Ok, Err, ap, ◌∙◌, sym, subst}
 use Rattle.std.specs.List.{FoldsTo}
 use Rattle.std.specs.Result.{IfOk}
 use Rattle.tocmark_event.specs.Options.{OptionsView}
@@ -10,12 +10,10 @@ use Rattle.tocmark_spelling.specs.Page.{Reference}
 use Rattle.tocmark_state.specs.declared.work.Progress.{Progress}
 use Rattle.tocmark_state.specs.Ranges.{Pair}
 use Rattle.tocmark_state.specs.Walk.{Done, done, Rendering, Standing, Walk, go_on, walk, nothing_yet, ended, script}
-use Rattle.tocmark_state.specs.Writes.{Makes, RefusesAt, TakesAll, TakesAllAt}
-use Rattle.tocmark_event.specs.declared.options.Error.TheVariants as error
+use Rattle.tocmark_state.specs.Writes.{Makes, RefusesAt}
 use Rattle.tocmark_state.specs.StateView.{Adds, Ends}
 use Rattle.tocmark_state.specs.WorkView.{Counts, rendering_behind}
-use Rattle.tocmark_state.proofs.Walks.{walk_after, Makes-then, RefusesAt-longer}
-use Rattle.tocmark_state.proofs.Steps.{no_ok}
+use Rattle.tocmark_state.proofs.Walks.{walk_after, Makes-then}
 
 -- a call after the list p
 pub Adds-from : {W : Type 0} (gives refuses : W → List ℕ → W → Type 0) (w v : W) (how : Rendering) (flags : ParserOptions) (source : List ℕ) (r : Result Progress Error) (place : Standing) (p q : List Pair) (s : Standing) → (walk how source (nothing_yet flags) p).outcome ≡ Ok s → Makes gives refuses w v r place (walk how source s q) → IfOk r (λ n. Counts n (length q) (sum_by length (walk how source s q).texts)) → Adds gives refuses w v how flags source r place p q
@@ -54,10 +52,9 @@ Ends-with gives refuses w v d d' o o' reading flags source r p s f e h m k =
     (subst (λ (x : Rendering). IfOk r (λ n. Counts n 0 (sum_by length (ended x s).texts))) same k)
 
 -- the first call of a run that was refused
-pub Adds-script : {W : Type 0} (gives refuses : W → List ℕ → W → Type 0) (w v : W) (how : Rendering) (flags : ParserOptions) (source : List ℕ) (e : Error) (place : Standing) (q : List Pair) → Adds gives refuses w v how flags source (Err e) place [] q → RefusesAt gives refuses w v e (script how source (nothing_yet flags) q)
-Adds-script gives refuses w v how flags source e place q a =
-    RefusesAt-longer gives refuses w v e (walk how source (nothing_yet flags) q).texts (walk how source (nothing_yet flags) q).outcome (λ t. ended how t)
-    (subst (λ (ts : List (List ℕ)). RefusesAt gives refuses w v e (record { texts = ts; outcome = (walk how source (nothing_yet flags) q).outcome })) (sym a.added) a.made)
+pub Adds-walk : {W : Type 0} (gives refuses : W → List ℕ → W → Type 0) (w v : W) (how : Rendering) (flags : ParserOptions) (source : List ℕ) (e : Error) (place : Standing) (q : List Pair) → Adds gives refuses w v how flags source (Err e) place [] q → RefusesAt gives refuses w v e (walk how source (nothing_yet flags) q)
+Adds-walk gives refuses w v how flags source e place q a =
+    subst (λ (ts : List (List ℕ)). RefusesAt gives refuses w v e (record { texts = ts; outcome = (walk how source (nothing_yet flags) q).outcome })) (sym a.added) a.made
 
 -- the last call of a run
 pub Ends-script : {W : Type 0} (gives refuses : W → List ℕ → W → Type 0) (w v u : W) (how : Rendering) (flags : ParserOptions) (source : List ℕ) (n : Progress) (r : Result Progress Error) (place : Standing) (q : List Pair) → Adds gives refuses w v how flags source (Ok n) place [] q → Ends gives refuses v u how flags source r q → Makes gives refuses w u r done (script how source (nothing_yet flags) q)
@@ -67,18 +64,3 @@ Ends-script gives refuses w v u how flags source n r place q a b =
     subst (λ (x : Walk Done). Makes gives refuses w u r done x) (sym k)
     (Makes-then gives refuses w v u r done done (walk how source (nothing_yet flags) q).texts (λ _. record { texts = b.more; outcome = (script how source (nothing_yet flags) q).outcome })
     (subst (λ (ts : List (List ℕ)). FoldsTo gives w ts v) (sym a.added) a.made.1) b.made)
-
-refused_never : {S : Type 0} (e : Error) (r : Result S Error) → r ≡ Err e → IsOk r → ⊥
-refused_never e (Ok x) k h = cc
-refused_never e (Err x) k h = no_ok h
-
--- a first call that was refused by the walk has met its error
-pub taken_front : {W A : Type 0} (gives refuses : W → List ℕ → W → Type 0) (w v : W) (how : Rendering) (flags : ParserOptions) (source : List ℕ) (e : Error) (place : Standing) (q : List Pair) → Adds gives refuses w v how flags source (Err e) place [] q → TakesAllAt e (walk how source (nothing_yet flags) q) → A
-taken_front gives refuses w v how flags source (error.FormatFailed f) place q a h = absurd h
-taken_front gives refuses w v how flags source error.OutOfMemory place q a h = absurd h
-taken_front gives refuses w v how flags source e place q a h = absurd (refused_never e (walk how source (nothing_yet flags) q).outcome a.made.0 h)
-
--- a call that succeeds takes the whole list
-pub taken_whole : {X S : Type 0} (r : Result X Error) (walk : Walk S) → IsOk r → TakesAll r walk
-taken_whole (Ok x) walk h = tt
-taken_whole (Err e) walk h = no_ok h

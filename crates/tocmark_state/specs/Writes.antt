@@ -1,5 +1,5 @@
 -- What a call did with a writer, which takes texts by one relation and refuses them by another.
-use Rattle.std.specs.Prelude.{◌≡◌, ℕ, List, ◌∷◌, ◌++◌, Result, Ok, Err, IsOk}
+use Rattle.std.specs.Prelude.{◌≡◌, ℕ, List, ◌∷◌, ◌++◌, Result, Ok, Err}
 use Rattle.std.specs.List.{FoldsTo}
 use Rattle.tocmark_event.specs.declared.options.Error.{Error}
 use Rattle.tocmark_event.specs.declared.options.Error.TheVariants as error
@@ -23,18 +23,6 @@ RefusesAt gives refuses w v e walk = (walk.outcome ≡ Err e) × FoldsTo gives w
 abbrev pub Makes : {W X S : Type 0} → (W → List ℕ → W → Type 0) → (W → List ℕ → W → Type 0) → W → W → Result X Error → S → Walk S → Type 0
 Makes gives refuses w v (Ok x) s walk = (walk.outcome ≡ Ok s) × FoldsTo gives w walk.texts v
 Makes gives refuses w v (Err e) s walk = RefusesAt gives refuses w v e walk
-
--- A call that answers this error has taken the whole list of this walk if the walk goes well: at an error of the
--- walk, of the writer or of memory it may have taken a front alone.
-abbrev pub TakesAllAt : {S : Type 0} → Error → Walk S → Type 0
-TakesAllAt (error.FormatFailed f) walk = ⊥
-TakesAllAt error.OutOfMemory walk = ⊥
-TakesAllAt e walk = IsOk walk.outcome
-
--- the same of any answer: a call that succeeds has taken the whole list
-abbrev pub TakesAll : {X S : Type 0} → Result X Error → Walk S → Type 0
-TakesAll (Ok x) walk = Unit {0}
-TakesAll (Err e) walk = TakesAllAt e walk
 
 -- a call that answers this error at once: the writer is as it was
 abbrev pub Rejects : {W X : Type 0} → W → W → Result X Error → Error → Type 0

@@ -1,13 +1,14 @@
 -- A piece stands in the front of a text just where its first place in all of it leaves enough bytes.
 use Rattle.std.proofs.Common.{◌≡◌, ℕ, suc, ◌+◌, ◌-◌, ◌<◌, ◌≤◌, Bool, true, false, cond, List, [], ◌∷◌, ◌++◌, refl, sym, ap, ◌∙◌, drop, length, length-append, get_or, arith, nat_eq}
-use Rattle.std.specs.Prelude.{◌||◌, ◌&&◌, nat_le}
+use Rattle.std.specs.Prelude.{◌||◌, ◌&&◌, ◌==◌, codes, if◌then◌else◌, nat_le, slice_get, unwrap_or}
 use Rattle.std.specs.Str.{str_to_ascii_lowercase}
 use Rattle.std.specs.Char.{to_ascii_lowercase}
 use Rattle.std.proofs.Math.Dec.{leb-zero, leb-suc-zero, leb-suc-suc}
-use Rattle.std.proofs.lemmas.Bool.{le-leb, lt-leb, leb-true, leb-false}
+use Rattle.std.proofs.lemmas.Bool.{false≢true, le-leb, lt-leb, leb-true, leb-false}
+use Rattle.std.proofs.lemmas.Bool.Decides.{nat_tests}
 use Rattle.std.proofs.lemmas.List.{drop_more, drop-map, length-map}
 use Rattle.tocmark_spelling.specs.Words.{begins_with, holds}
-use Rattle.tocmark_write_blocks.specs.BlockEnds.{left_from, last_of, ends_in, ends_with, stands_before}
+use Rattle.tocmark_write_blocks.specs.BlockEnds.{left_from, last_of, ends_in, ends_with, may_begin, stands_before}
 use Rattle.tocmark_write_blocks.specs.declared.block_ends.BlockEnds.{BlockEnds}
 
 -- ---- one byte more in front
@@ -37,6 +38,46 @@ ends-more text lower n ends new here here_lower low lt e h l is =
     let lowered : here_lower ≡ str_to_ascii_lowercase (b ∷ bs) = l ∙ ap (last_of (n + 1)) low ∙ lower-last text (n + 1) ∙ ap str_to_ascii_lowercase more in
     is ∙ ap (λ x. ends_with x here_lower ends) (h ∙ more) ∙ ap (λ x. ends_with (b ∷ bs) x ends) lowered
     ∙ ap (ends_with (b ∷ bs) (str_to_ascii_lowercase (b ∷ bs))) e ∙ ends-one b bs ∙ ap ends_in (sym more)
+
+-- ---- no end begins in front
+
+either-false : (a b : Bool) → (a || b) ≡ false → (a ≡ false) × (b ≡ false)
+either-false false b h = (refl, h)
+either-false true b h = absurd (false≢true (sym h))
+
+other-byte : (b q : ℕ) → (b == q) ≡ false → nat_eq q b ≡ false
+other-byte b q h = grind (arith, nat_tests)
+
+-- a piece doesn't stand where its first byte doesn't
+none-begins : (q : ℕ) (ps text : List ℕ) → (unwrap_or (slice_get text 0) 0 == q) ≡ false → begins_with text (q ∷ ps) ≡ false
+none-begins q ps [] h = refl
+none-begins q ps (b ∷ bs) h = ap (λ c. c && begins_with bs ps) (other-byte b q h)
+
+-- with no end in front, all ends stay
+all-stay : (n m : ℕ) (v : BlockEnds) (a b c d e f g h : Bool) → a ≡ false → b ≡ false → c ≡ false → d ≡ false → e ≡ false → f ≡ false → g ≡ false → h ≡ false
+    → v ≡ record {
+      comment = if a then n else v.comment;
+      instruction = if b then n else v.instruction;
+      character_data = if c then n else v.character_data;
+      declaration = if d then n else v.declaration;
+      pre = if e then m else v.pre;
+      script = if f then m else v.script;
+      style = if g then m else v.style;
+      textarea = if h then m else v.textarea;
+    }
+all-stay n m v a b c d e f g h i j k l o p q r = rw (i, j, k, l, o, p, q, r) refl
+
+pub no_end : (text lower : List ℕ) (v : BlockEnds) → may_begin text lower ≡ false → v ≡ ends_with text lower v
+no_end text lower v h =
+    let first : ℕ = unwrap_or (slice_get text 0) 0 in
+    let four = either-false ((first == 62) || (first == 45) || (first == 63) || (first == 93)) (unwrap_or (slice_get lower 0) 0 == 60) h in
+    let three = either-false ((first == 62) || (first == 45) || (first == 63)) (first == 93) (four.0) in
+    let two = either-false ((first == 62) || (first == 45)) (first == 63) (three.0) in
+    let one = either-false (first == 62) (first == 45) (two.0) in
+    all-stay (length text) (length lower) v _ _ _ _ _ _ _ _
+    (none-begins 45 (codes "->") text (one.1)) (none-begins 63 (codes ">") text (two.1)) (none-begins 93 (codes "]>") text (three.1)) (none-begins 62 [] text (one.0))
+    (none-begins 60 (codes "/pre>") lower (four.1)) (none-begins 60 (codes "/script>") lower (four.1))
+    (none-begins 60 (codes "/style>") lower (four.1)) (none-begins 60 (codes "/textarea>") lower (four.1))
 
 -- ---- a piece at the front
 

@@ -1,5 +1,5 @@
 -- Where the ends of HTML blocks stand in a text, told by how many bytes are left from there on (CommonMark, section 4.6).
-use Rattle.std.specs.Prelude.{ℕ, ◌+◌, ◌-◌, Bool, ◌||◌, if◌then◌else◌, nat_le, List, [], ◌∷◌, codes, drop, length}
+use Rattle.std.specs.Prelude.{ℕ, ◌+◌, ◌-◌, Bool, ◌==◌, ◌||◌, if◌then◌else◌, nat_le, List, [], ◌∷◌, codes, drop, length, slice_get, unwrap_or}
 use Rattle.std.specs.Str.{str_to_ascii_lowercase}
 use Rattle.tocmark_spelling.specs.Words.{begins_with}
 use Rattle.tocmark_write_blocks.specs.declared.block_ends.BlockEnds.{BlockEnds}
@@ -42,6 +42,14 @@ ends_with text lower behind = record {
   style = left_with (codes "</style>") lower behind.style;
   textarea = left_with (codes "</textarea>") lower behind.textarea;
 }
+
+-- the end of a comment, an instruction, character data or a declaration begins with a byte
+abbrev pub begins_end : ℕ → Bool
+begins_end b = (b == 62) || (b == 45) || (b == 63) || (b == 93)
+
+-- some end may stand at the front of a text, which is given in lower case, too, by its first byte
+abbrev pub may_begin : List ℕ → List ℕ → Bool
+may_begin text lower = begins_end (unwrap_or (slice_get text 0) 0) || (unwrap_or (slice_get lower 0) 0 == 60)
 
 -- whether a piece of this size stands before so many last bytes, by what is left from its first place on
 abbrev pub stands_before : ℕ → ℕ → ℕ → Bool

@@ -1,9 +1,9 @@
 //! Where the ends of HTML blocks stand in a text, told by how many bytes are left from there on.
 
-ghost use Rattle.std.specs.Prelude.{◌≡◌, ◌≤◌, [], length};
+ghost use Rattle.std.specs.Prelude.{◌≡◌, ◌≤◌, [], length, slice_get, unwrap_or};
 ghost use Rattle.std.specs.Str.{str_to_ascii_lowercase};
 ghost use Rattle.tocmark_spelling.specs.Words.{begins_with};
-ghost use Rattle.tocmark_write_blocks.specs.BlockEnds.{last_of, ends_in, left_with, ends_with};
+ghost use Rattle.tocmark_write_blocks.specs.BlockEnds.{last_of, ends_in, left_with, ends_with, begins_end, may_begin};
 ghost use Rattle.tocmark_write_blocks.specs.BlockEnds.{stands_before, tag_stands, closed_by};
 
 /// How many bytes of a text are left from the first place of each end on; 0 where there is none.
@@ -60,8 +60,28 @@ fn left_with(text: &[u8], piece: &[u8], behind: usize) -> usize
     }
 }
 
-/// One byte more in front. The text is given twice, as it is and in lower case.
-fn ends_with(text: &[u8], lower: &[u8], behind: BlockEnds) -> BlockEnds
+/// Whether the end of a comment, an instruction, character data or a declaration begins with a byte.
+fn begins_end(byte: u8) -> bool
+    ensures { result ≡ begins_end byte }
+{
+    byte == b'>' || byte == b'-' || byte == b'?' || byte == b']'
+}
+
+fn first_byte(text: &[u8]) -> u8
+    ensures { result ≡ unwrap_or (slice_get text.now 0) 0 }
+{
+    text.first().copied().unwrap_or(0)
+}
+
+/// Whether some end may stand at the front of a text, by its first byte.
+fn may_begin(text: &[u8], lower: &[u8]) -> bool
+    ensures { result ≡ may_begin text.now lower.now }
+{
+    begins_end(first_byte(text)) || first_byte(lower) == b'<'
+}
+
+/// One byte more in front, each end compared.
+fn compared_ends(text: &[u8], lower: &[u8], behind: BlockEnds) -> BlockEnds
     ensures { result ≡ ends_with text.now lower.now behind }
 {
     BlockEnds {
@@ -73,6 +93,18 @@ fn ends_with(text: &[u8], lower: &[u8], behind: BlockEnds) -> BlockEnds
         script: left_with(lower, b"</script>", behind.script),
         style: left_with(lower, b"</style>", behind.style),
         textarea: left_with(lower, b"</textarea>", behind.textarea),
+    }
+}
+
+/// One byte more in front. The text is given twice, as it is and in lower case.
+#[tactic(auto, using(crate::proofs::PlaceLemmas::no_end))]
+fn ends_with(text: &[u8], lower: &[u8], behind: BlockEnds) -> BlockEnds
+    ensures { result ≡ ends_with text.now lower.now behind }
+{
+    if may_begin(text, lower) {
+        compared_ends(text, lower, behind)
+    } else {
+        behind
     }
 }
 

@@ -12,8 +12,8 @@ use Rattle.tocmark_laws.proofs.BlockWalks.{blocks_made}
 use Rattle.tocmark_laws.proofs.DocumentsReadBack.{document_made}
 use Rattle.tocmark_laws.proofs.PlainDocument.{lines_handed}
 use Rattle.tocmark_laws.proofs.SingleBlocks.{code_span_made, fenced_code_made, link_made}
-use Rattle.tocmark_state.proofs.Runs.{taken_whole}
 use Rattle.tocmark.specs.Writing.{TakesEvents}
+use Rattle.tocmark.proofs.Written.{taken}
 use Rattle.tocmark.proofs.cmark.Given as given
 use Rattle.tocmark.proofs.cmark.Goals as goal
 
@@ -22,7 +22,7 @@ of_events : (g : given.Over) (c : goal.After-cmark_with_options g) (Holds : List
     → ((xs : List (Bor ParserEvent)) → Makes g.W.Taker.takes g.W.Taker.refuses c.args.writer.now c.cmark_with_options.new.writer c.cmark_with_options.result done (script (rendering (options_view c.default-defaults.result) (g.R.Reader.reading c.args.reader)) [] (nothing_yet c.args.parser_options) (pairs xs)) → Holds xs)
     → TakesEvents g.I.IntoIterator.into_iter_gives g.I.IntoIter.Iterator.next_gives c.args.events c.cmark_with_options.result Holds
 of_events g c Holds holds =
-    let m = c.cmark_with_options.ensures.made in (m.0, m.1, m.2, (m.3.0, m.3.1, λ h. m.3.2 (taken_whole c.cmark_with_options.result _ h)), holds m.1 (m.4 []))
+    taken g.I.IntoIterator.into_iter_gives g.I.IntoIter.Iterator.next_gives c.args.events g.W.Taker.takes g.W.Taker.refuses c.args.writer.now c.cmark_with_options.new.writer c.cmark_with_options.result (rendering (options_view c.default-defaults.result) (g.R.Reader.reading c.args.reader)) c.args.parser_options Holds holds c.cmark_with_options.ensures.made
 
 pub returns-clause-lines : goal.returns-clause-lines
 returns-clause-lines g c =

@@ -1,4 +1,4 @@
-use Rattle.std.proofs.Common.{◌∙◌, [], Result, Err, Ok, refl, subst}
+use Rattle.std.proofs.Common.{◌∙◌, [], Result, Err, Ok, inr, refl, subst}
 use Rattle.std.proofs.lemmas.Result.{err_from_is_err_and}
 use Rattle.tocmark_event.specs.Options.{options_view}
 use Rattle.tocmark_event.specs.declared.options.Error.{Error}
@@ -6,14 +6,14 @@ use Rattle.tocmark_state.specs.declared.work.Progress.{Progress}
 use Rattle.tocmark_state.specs.Walk.{Rendering}
 use Rattle.tocmark_state.specs.StateView.{Ends, Stands, place_of, rendering_of}
 use Rattle.tocmark_state.specs.WorkView.{pairs, rendering}
-use Rattle.tocmark_state.proofs.Runs.{Adds-script, Ends-script, taken_front}
-use Rattle.tocmark.proofs.Written.{written}
+use Rattle.tocmark_state.proofs.Runs.{Adds-walk, Ends-script}
+use Rattle.tocmark.proofs.Written.{failed, written}
 use Rattle.tocmark.proofs.cmark_with_options.Goals as goal
 
 pub returns-in_err-state-clause-made : goal.returns-in_err-state-clause-made
 returns-in_err-state-clause-made g c =
     let p = err_from_is_err_and c.from_residual.result c.from_residual.ensures.1 in
-    rw (p.1, p.2, c.in_err-state.ensures.refused) (c.into_iter-events.result, [], c.into_iter-events.ensures.into_iter_gives, (c.into_iter-events.result, refl, λ h. absurd h), λ source. ([], _, refl, refl))
+    rw (p.1, p.2, c.in_err-state.ensures.refused) (inr (c.into_iter-events.result, [], c.into_iter-events.ensures.into_iter_gives, (c.into_iter-events.result, refl, λ h. absurd h), λ source. ([], _, refl, refl)))
 
 pub returns-in_err-process-clause-made : goal.returns-in_err-process-clause-made
 returns-in_err-process-clause-made g c =
@@ -30,9 +30,9 @@ returns-in_err-process-clause-made g c =
     let a = c.in_err-process.ensures.active (s []).active in
     let e = c.in_err-process.field-0.0 in
     let r : Result (Unit {0}) Error = Err e in
-    rw (p.1, p.2) (written g.I.IntoIterator.into_iter_gives g.I.IntoIter.Iterator.next_gives c.args.events gives refuses w mid r how named flags c.into_iter-events.result a.1 c.in_ok-state.ensures.same c.into_iter-events.ensures.into_iter_gives
-    (a.3.0, rw (← a.2) a.3.1, λ h. taken_front gives refuses w mid how flags [] e place (pairs a.1) (a.4 flags [] [] (s [])) h)
-    (λ source. Adds-script gives refuses w mid how flags source e place (pairs a.1) (a.4 flags source [] (s source))))
+    rw (p.1, p.2) (failed g.I.IntoIterator.into_iter_gives g.I.IntoIter.Iterator.next_gives c.args.events gives refuses w mid r how named flags c.into_iter-events.result a.1 c.in_ok-state.ensures.same c.into_iter-events.ensures.into_iter_gives
+    (a.3.0, rw (← a.2) a.3.1, λ h. absurd h)
+    (λ source. Adds-walk gives refuses w mid how flags source e place (pairs a.1) (a.4 flags source [] (s source))))
 
 pub returns-in_err-finish-clause-made : goal.returns-in_err-finish-clause-made
 returns-in_err-finish-clause-made g c =

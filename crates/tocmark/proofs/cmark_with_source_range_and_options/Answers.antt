@@ -1,4 +1,4 @@
-use Rattle.std.proofs.Common.{◌∙◌, [], Result, Err, Ok, refl, subst}
+use Rattle.std.proofs.Common.{◌∙◌, [], Result, Err, Ok, inr, refl, subst}
 use Rattle.std.proofs.lemmas.Result.{err_from_is_err_and}
 use Rattle.tocmark_event.specs.Options.{options_view}
 use Rattle.tocmark_event.specs.declared.options.Error.{Error}
@@ -6,14 +6,14 @@ use Rattle.tocmark_state.specs.declared.work.Progress.{Progress}
 use Rattle.tocmark_state.specs.Walk.{Rendering}
 use Rattle.tocmark_state.specs.StateView.{Ends, Stands, place_of, rendering_of}
 use Rattle.tocmark_state.specs.WorkView.{ranged_pairs, rendering}
-use Rattle.tocmark_state.proofs.Runs.{Adds-script, Ends-script, taken_front}
-use Rattle.tocmark.proofs.Written.{written-ranged}
+use Rattle.tocmark_state.proofs.Runs.{Adds-walk, Ends-script}
+use Rattle.tocmark.proofs.Written.{failed-ranged, written-ranged}
 use Rattle.tocmark.proofs.cmark_with_source_range_and_options.Goals as goal
 
 pub returns-in_err-ranged-clause-made : goal.returns-in_err-ranged-clause-made
 returns-in_err-ranged-clause-made g c =
     let p = err_from_is_err_and c.from_residual.result c.from_residual.ensures.1 in
-    rw (p.1, p.2, c.in_err-ranged.ensures.refused) (c.into_iter-pairs.result, [], c.into_iter-pairs.ensures.into_iter_gives, (c.into_iter-pairs.result, refl, λ h. absurd h), ([], _, refl, refl))
+    rw (p.1, p.2, c.in_err-ranged.ensures.refused) (inr (c.into_iter-pairs.result, [], c.into_iter-pairs.ensures.into_iter_gives, (c.into_iter-pairs.result, refl, λ h. absurd h), ([], _, refl, refl)))
 
 pub returns-in_err-process_with_source_range-clause-made : goal.returns-in_err-process_with_source_range-clause-made
 returns-in_err-process_with_source_range-clause-made g c =
@@ -30,9 +30,9 @@ returns-in_err-process_with_source_range-clause-made g c =
     let a = c.in_err-process_with_source_range.ensures.active (s c.args.source.now).active in
     let e = c.in_err-process_with_source_range.field-0.0 in
     let r : Result (Unit {0}) Error = Err e in
-    rw (p.1, p.2) (written-ranged g.I.IntoIterator.into_iter_gives g.I.IntoIter.Iterator.next_gives c.args.pairs c.args.source.now gives refuses w mid r how named flags c.into_iter-pairs.result a.1 c.in_ok-ranged.ensures.same c.into_iter-pairs.ensures.into_iter_gives
-    (a.3.0, rw (← a.2) a.3.1, λ h. taken_front gives refuses w mid how flags c.args.source.now e place (ranged_pairs a.1) (a.4 flags [] (s c.args.source.now)) h)
-    (Adds-script gives refuses w mid how flags c.args.source.now e place (ranged_pairs a.1) (a.4 flags [] (s c.args.source.now))))
+    rw (p.1, p.2) (failed-ranged g.I.IntoIterator.into_iter_gives g.I.IntoIter.Iterator.next_gives c.args.pairs c.args.source.now gives refuses w mid r how named flags c.into_iter-pairs.result a.1 c.in_ok-ranged.ensures.same c.into_iter-pairs.ensures.into_iter_gives
+    (a.3.0, rw (← a.2) a.3.1, λ h. absurd h)
+    (Adds-walk gives refuses w mid how flags c.args.source.now e place (ranged_pairs a.1) (a.4 flags [] (s c.args.source.now))))
 
 pub returns-in_err-finish-clause-made : goal.returns-in_err-finish-clause-made
 returns-in_err-finish-clause-made g c =

@@ -1,4 +1,4 @@
-use Rattle.std.proofs.Common.{◌≡◌, ℕ, List, [], ◌++◌, map, ap, sym, ◌∙◌, subst, string_bytes, Ok, arith}
+use Rattle.std.proofs.Common.{◌≡◌, ◌⊎◌, inl, inr, ℕ, List, [], ◌++◌, map, ap, sym, ◌∙◌, subst, string_bytes, Ok, arith}
 use Rattle.std.proofs.lemmas.List.{with_items_is}
 use mathlib.Core.List.{map-map}
 use Rattle.std.specs.List.{concat}
@@ -24,9 +24,14 @@ moved new old made =
     ∙ map-map unranged (λ (e : ParserEvent × (ℕ × ℕ)). lowered (event_view text_of e.0)) old
     ∙ sym (map-map (λ (e : EventView × (ℕ × ℕ)). unranged (lowered e.0)) (λ (e : ParserEvent × (ℕ × ℕ)). (event_view text_of e.0, e.1)) old)
 
+-- a call that succeeded took the whole list
+whole : {A B : Type 0} → A ⊎ B → (B → ⊥) → A
+whole (inl a) never = a
+whole (inr b) never = absurd (never b)
+
 pub returns : goal.returns
 returns c =
-    let h = c.in_ok-cmark.ensures.made in
+    let h = whole c.in_ok-cmark.ensures.made (λ m. m.4 []) in
     let same : pairs h.1 ≡ map (λ e. unranged (lowered e.0)) (core_reading c.args.text.now).events =
     pairs_of_events h.1 h.0 (h.3.0, h.3.1, λ _. h.3.2 tt)
     ∙ ap (map unranged) (ap events_left h.2 ∙ c.events.ensures)

@@ -1,26 +1,25 @@
 use Rattle.std.proofs.Common.{◌≡◌, Some, map, string_bytes}
 use Rattle.std.proofs.lemmas.Result.{IfOk-weaker}
-use Rattle.json.specs.Print.{print}
 use Rattle.serde_json.specs.Data.{Data}
 use Rattle.serde_json.specs.Read.{read}
 use Rattle.serde_json.specs.Written.{IsInOrder, compact_text}
 use Rattle.tocmark_event.specs.View.{event_view}
 use Rattle.tocmark_json.specs.Json.{events_json}
-use Rattle.tocmark_json.proofs.Adding.{value_text, value_order, value_read}
+use Rattle.tocmark_json.proofs.Adding.{text_added, value_order, value_read}
 use Rattle.tocmark_json.proofs.Shallow.{events_shallow}
 use Rattle.tocmark_json.proofs.printing.events_to_text.Goals as goal
 
 pub returns-clause-text : goal.returns-clause-text
 returns-clause-text g c =
     let d : Data = events_json (map (event_view g.T.Words.bytes) c.args.events.now) in
-    IfOk-weaker c.text_of.result (λ text. string_bytes text ≡ print c.print_events.new.out.tokens) (λ text. string_bytes text ≡ compact_text d) (λ text is. value_text d c.new-out.result c.print_events.new.out (string_bytes text) c.new-out.ensures.tokens c.in_ok-print_events.ensures is) c.text_of.ensures.text
+    IfOk-weaker c.text_of.result (λ text. string_bytes text ≡ c.print_events.new.out.items) (λ text. string_bytes text ≡ compact_text d) (λ text is. text_added d c.new-out.result.items c.print_events.new.out.items (string_bytes text) c.new-out.ensures.items c.in_ok-print_events.ensures is) c.text_of.ensures
 
 pub returns-clause-order : goal.returns-clause-order
 returns-clause-order g c =
     let d : Data = events_json (map (event_view g.T.Words.bytes) c.args.events.now) in
-    IfOk-weaker c.text_of.result (λ text. string_bytes text ≡ print c.print_events.new.out.tokens) (λ text. IsInOrder (string_bytes text) d) (λ text is. value_order d c.new-out.result c.print_events.new.out (string_bytes text) c.new-out.ensures.tokens c.in_ok-print_events.ensures c.text_of.ensures.reads_back is) c.text_of.ensures.text
+    IfOk-weaker c.text_of.result (λ text. string_bytes text ≡ c.print_events.new.out.items) (λ text. IsInOrder (string_bytes text) d) (λ text is. value_order d (string_bytes text) c.in_ok-print_events.ensures.sound (text_added d c.new-out.result.items c.print_events.new.out.items (string_bytes text) c.new-out.ensures.items c.in_ok-print_events.ensures is)) c.text_of.ensures
 
 pub returns-clause-reads_back : goal.returns-clause-reads_back
 returns-clause-reads_back g c =
     let d : Data = events_json (map (event_view g.T.Words.bytes) c.args.events.now) in
-    IfOk-weaker c.text_of.result (λ text. string_bytes text ≡ print c.print_events.new.out.tokens) (λ text. read (string_bytes text) ≡ Some d) (λ text is. value_read d c.new-out.result c.print_events.new.out (string_bytes text) c.new-out.ensures.tokens c.in_ok-print_events.ensures c.text_of.ensures.reads_back is (events_shallow (map (event_view g.T.Words.bytes) c.args.events.now))) c.text_of.ensures.text
+    IfOk-weaker c.text_of.result (λ text. string_bytes text ≡ c.print_events.new.out.items) (λ text. read (string_bytes text) ≡ Some d) (λ text is. value_read d (string_bytes text) c.in_ok-print_events.ensures.sound (text_added d c.new-out.result.items c.print_events.new.out.items (string_bytes text) c.new-out.ensures.items c.in_ok-print_events.ensures is) (events_shallow (map (event_view g.T.Words.bytes) c.args.events.now))) c.text_of.ensures

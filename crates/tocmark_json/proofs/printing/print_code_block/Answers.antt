@@ -1,9 +1,14 @@
 use Rattle.std.proofs.Common.{codes}
-use Rattle.tocmark_event.specs.View.{code_view}
-use Rattle.tocmark_json.specs.Json.{code_json}
-use Rattle.tocmark_json.proofs.Adding.{tagged_added}
+use Rattle.json.specs.Print.{escape_byte}
+use Rattle.serde_json.specs.Data.{string}
+use Rattle.tocmark_json.specs.Json.{tagged}
+use Rattle.tocmark_json.proofs.Adding.{brought, string_sound, tagged_sound, text_tagged_twice}
 use Rattle.tocmark_json.proofs.printing.print_code_block.Goals as goal
 
-pub returns : goal.returns
-returns g c =
-    tagged_added c.print_token.result c.args.out.now c.open_tagged.new.out c.print_code_kind.new.out c.print_token.new.out (codes "CodeBlock") (code_json (code_view g.T.Words.bytes c.args.kind.now)) c.in_ok-open_tagged.ensures c.in_ok-print_code_kind.ensures c.print_token.ensures
+pub returns-in-Indented : goal.returns-in-Indented
+unfolding escape_byte
+returns-in-Indented g c = rw c.in-Indented.is (brought c.push.result c.args.out.now.items c.push.new.out.items _ (tagged (codes "CodeBlock") (string (codes "Indented"))) (tagged_sound (codes "CodeBlock") (string (codes "Indented")) (string_sound (codes "Indented"))) c.push.ensures)
+
+pub returns-in-Fenced : goal.returns-in-Fenced
+unfolding escape_byte
+returns-in-Fenced g c = rw c.in-Fenced.is (text_tagged_twice c.push_text.result c.args.out.now.items c.push_text.new.out.items (codes "CodeBlock") (codes "Fenced") (g.T.Words.bytes c.in-Fenced.info) c.push_text.ensures)

@@ -5,4 +5,4 @@ use Rattle.tocmark_json.proofs.Adding.{Goes}
 use Rattle.tocmark_json.proofs.printing.print_events.Given as goal
 
 abbrev pub invariant-loop-event : goal.invariant-loop-event
-invariant-loop-event g l = Goes (map event_json (map (event_view g.T.Words.bytes) l.events)) (map event_json (map (event_view g.T.Words.bytes) (drop l.event-index l.events))) l.initial.out l.out
+invariant-loop-event g l = Goes (map event_json (map (event_view g.T.Words.bytes) l.events)) (map event_json (map (event_view g.T.Words.bytes) (drop l.event-index l.events))) l.later l.initial.out.items l.out.items

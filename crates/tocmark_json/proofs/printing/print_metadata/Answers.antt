@@ -1,10 +1,14 @@
 use Rattle.std.proofs.Common.{codes, subst}
 use Rattle.std.specs.Prelude.{OnOk}
+use Rattle.json.specs.Print.{escape_byte}
 use Rattle.serde_json.specs.Data.{Data}
 use Rattle.tocmark_json.specs.Json.{tagged}
-use Rattle.tocmark_json.specs.Printed.{Adds}
+use Rattle.tocmark_json.specs.Printed.{Closes}
+use Rattle.tocmark_json.proofs.Adding.{text_tagged_closed}
 use Rattle.tocmark_json.proofs.printing.print_metadata.Goals as goal
 
 pub returns : goal.returns
+unfolding escape_byte
 returns c =
-    subst (λ (d : Data). OnOk c.print_tagged_name.result (Adds (tagged (codes "MetadataBlock") d) c.args.out.now c.print_tagged_name.new.out)) c.metadata_name.ensures c.print_tagged_name.ensures
+    subst (λ (d : Data). OnOk c.push_string.result (Closes (tagged (codes "MetadataBlock") d) c.args.out.now.items c.push_string.new.out.items)) c.metadata_name.ensures
+    (text_tagged_closed c.push_string.result c.args.out.now.items c.push_string.new.out.items (codes "MetadataBlock") c.metadata_name.result.now c.push_string.ensures)

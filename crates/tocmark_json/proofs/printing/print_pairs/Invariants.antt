@@ -4,4 +4,4 @@ use Rattle.tocmark_json.proofs.Adding.{Goes}
 use Rattle.tocmark_json.proofs.printing.print_pairs.Given as goal
 
 abbrev pub invariant-loop-pair : goal.invariant-loop-pair
-invariant-loop-pair g l = Goes (map pair_json (map (pair_view g.T.Words.bytes) l.pairs)) (map pair_json (map (pair_view g.T.Words.bytes) (drop l.pair-index l.pairs))) l.initial.out l.out
+invariant-loop-pair g l = Goes (map pair_json (map (pair_view g.T.Words.bytes) l.pairs)) (map pair_json (map (pair_view g.T.Words.bytes) (drop l.pair-index l.pairs))) l.later l.initial.out.items l.out.items

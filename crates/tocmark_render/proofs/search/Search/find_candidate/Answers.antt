@@ -1,12 +1,14 @@
-use Rattle.std.proofs.Common.{◌∙◌, Ok, sym, refl}
+use Rattle.std.proofs.Common.{◌∙◌, Ok, false, sym, refl, subst}
 use Rattle.std.proofs.lemmas.Result.{err_from_is_err_and}
+use Rattle.tocmark_event.specs.Forest.{flat}
 use Rattle.tocmark_write_renderer.specs.WriterOf.{site_of}
+use Rattle.tocmark_render.specs.Alike.{AreAlike}
 use Rattle.tocmark_render.specs.TrialOf.{asked_of, is_checked_in, left_by}
 use Rattle.tocmark_render.specs.Tries.{manners_for}
 use Rattle.tocmark_render.specs.Validates.{validates}
-use Rattle.tocmark_render.proofs.PlainUnits.{choice-unread}
+use Rattle.tocmark_render.proofs.PlainUnits.{choice-alike, choice-unread}
 use Rattle.tocmark_render.proofs.Trials.{both_true, choice-unsearched, left-plain, left-stopped, left-unrepresentable, none-left, tries-bare, written-found}
-use Rattle.tocmark_render.proofs.TrialUnits.{trial-checked, trial-delimiters, trial-source}
+use Rattle.tocmark_render.proofs.TrialUnits.{trial-checked, trial-delimiters, trial-source, trial-written}
 use Rattle.tocmark_render.proofs.search.Search.find_candidate.Goals as goal
 
 pub returns-then-not-has_standard_markers-clause-found : goal.returns-then-not-has_standard_markers-clause-found
@@ -24,6 +26,17 @@ returns-then-not-is_checked-clause-found g c other =
     let unsourced = sym (trial-source reading t c.requires.ready) ∙ c.if-not-has_source.true in
     let unchecked = sym (trial-checked reading t c.requires.ready (is_checked_in t) refl) ∙ sym c.is_checked.ensures ∙ c.if-not-is_checked.true in
     record { plain = choice-unread q.setting d q.unit q.next (sym c.has_standard_markers.ensures ∙ c.if-not-has_standard_markers.false) unchecked unsourced; kept = refl }
+
+pub returns-then-is_alike-clause-found : goal.returns-then-is_alike-clause-found
+returns-then-is_alike-clause-found g c other =
+    let t = c.args.self.now.trial.now in
+    let reading = g.R.Reader.reading in
+    let q = asked_of reading t in
+    let d = left_by other c.args.self.now.earlier (site_of c.args.renderer.now) in
+    let both = c.is_alike.ensures c.if-is_alike.true in
+    let unchecked = sym (trial-checked reading t c.requires.ready (is_checked_in t) refl) ∙ both.0 in
+    let alike = trial-written reading t c.requires.ready (λ f. AreAlike false (flat f)) (λ f is. subst (AreAlike false) (sym is) both.1) in
+    record { plain = choice-alike q.setting d q.unit q.next (sym c.has_standard_markers.ensures ∙ c.if-not-has_standard_markers.false) unchecked alike; kept = refl }
 
 pub returns-in_err-known-clause-found : goal.returns-in_err-known-clause-found
 returns-in_err-known-clause-found g c other =

@@ -1,0 +1,306 @@
+-- A page without open containers, and what a line makes of it.
+use Rattle.std.proofs.Common.{◌≡◌, ℕ, zero, suc, ◌+◌, ◌-◌, ◌^◌, ◌<◌, Bool, true, false, ◌==◌, nat_lt, nat_le, List, [], ◌∷◌, ◌++◌, length, slice_get, refl, ap, sym, ◌∙◌, arith, append_assoc, length-append, Some, None}
+use Rattle.std.proofs.Math.Seq.{take-length}
+use Rattle.std.specs.Prelude.{slice_set}
+use Rattle.std.proofs.lemmas.Bool.Decides.{nat_tests}
+use Rattle.tocmark_event.specs.declared.event.HeadingLevel.{HeadingLevel}
+use Rattle.tocmark_read_scan.specs.Basic.{plus, byte_at}
+use Rattle.tocmark_read_scan.specs.Repeat.{repeated}
+use Rattle.tocmark_read_scan.specs.declared.syntax.TheConstants.{CORE}
+use Rattle.tocmark_read_scan.proofs.PlainContent.{get_behind}
+use Rattle.tocmark_read_scan.proofs.PlainPieces.{drop_behind}
+use Rattle.tocmark_read_scan.proofs.Repeats.{repeated_stop, repeated_zero}
+use Rattle.tocmark_read_lines.specs.Cells.{cell_place}
+use Rattle.tocmark_read_lines.specs.Containers.{container_in, raised_at}
+use Rattle.tocmark_read_lines.specs.Marks.{tail_of}
+use Rattle.tocmark_read_lines.specs.declared.cell.Cell.{Cell}
+use Rattle.tocmark_read_lines.specs.declared.line.Line.{Line}
+use Rattle.tocmark_read_page.specs.Definitions.{begins_definition, definitions_from}
+use Rattle.tocmark_read_page.specs.Leaves.{is_paragraph}
+use Rattle.tocmark_read_page.specs.Pages.{State, leaf_opened, leaf_closed, closed_to, times, list_left, begun, loosened, had_marked, list_of, is_apart, leaf_finished, finished, settled, shortened, has_text, piece_taken, one_closed}
+use Rattle.tocmark_read_page.specs.Pieces.{text_piece, whole_place}
+use Rattle.tocmark_read_page.specs.declared.line_start.LineStart.{LineStart}
+use Rattle.tocmark_read_page.specs.declared.page.Block.{Block}
+use Rattle.tocmark_read_page.specs.declared.page.BlockKind.{BlockKind}
+use Rattle.tocmark_read_page.specs.declared.page.BlockKind.TheVariants as kind
+use Rattle.tocmark_read_page.specs.declared.page.HeaderLine.TheVariants.{Never}
+use Rattle.tocmark_read_page.specs.declared.piece.Piece.{Piece}
+use Rattle.tocmark_read_page.specs.declared.leaf.Leaf.TheVariants as leaf
+use Rattle.tocmark_read_constructs.specs.Headings.{underlined, underlined_in}
+use Rattle.tocmark_read_constructs.specs.Metadata.{metadata_in}
+use Rattle.tocmark_read_constructs.specs.Quotes.{quote_kind_in, tag_in}
+use Rattle.tocmark_read_constructs.specs.Tasks.{task_in}
+use Rattle.tocmark_read_blocks.specs.Blocks.{core_known, underlined_if, underline_taken_in, started_in, leaf_started_in, cells_taken_in, line_taken_in, leaf_started, started_at, passed_in, turn_in, turn_of, touched, cells_taken, line_taken, started}
+use Rattle.tocmark_read_blocks.specs.Containers.{goes_directly, begun_at, container_once_in, container_once, containers_opened}
+use Rattle.tocmark_read_blocks.specs.Leaves.{leaf_turn, rule_at, metadata_or, task_or, quote_kind_or, tag_or}
+use Rattle.tocmark_read_blocks.specs.Paragraphs.{text_started, text_taken, rule_started}
+use Rattle.tocmark_read_blocks.specs.declared.leaf.LeafStart.TheVariants as start
+use Rattle.tocmark_block_laws.proofs.Starts.{at_ink, start_as, Facts}
+
+-- the front of a line at the top
+abbrev pub here : ℕ → LineStart
+here n = record { cursor = at_ink n; depth = 0 }
+
+-- a block at the top
+abbrev pub block : BlockKind → ℕ → ℕ → ℕ → ℕ → Block
+block k start end first last = record { depth = 0; kind = k; start = start; end = end; first = first; last = last; loose = false; list = None; task = None }
+
+-- a page on which all blocks have ended
+abbrev pub closed : List Block → List Piece → ℕ → ℕ → ℕ → State
+closed bs ps end number kept = record {
+  blocks = bs;
+  pieces = ps;
+  definitions = [];
+  opened = [];
+  quotes = [];
+  leaf = leaf.Nothing;
+  end = end;
+  line = number;
+  kept = kept;
+  header = Never;
+  tried = 0;
+  left = None;
+  filled = 0;
+}
+
+-- the block of a paragraph that is open
+abbrev pub paragraph_block : List Piece → ℕ → Block
+paragraph_block ps start = block kind.Paragraph start start (length ps) (length ps)
+
+-- a page with an open paragraph of these lines, after others
+abbrev pub paragraph_page : List Block → List Piece → List Piece → ℕ → ℕ → ℕ → State
+paragraph_page bs ps qs start end number = record {
+  blocks = bs ++ paragraph_block ps start ∷ [];
+  pieces = ps ++ qs;
+  definitions = [];
+  opened = [];
+  quotes = [];
+  leaf = leaf.Paragraph;
+  end = end;
+  line = number;
+  kept = length (ps ++ qs);
+  header = Never;
+  tried = 0;
+  left = None;
+  filled = 0;
+}
+
+-- lists
+
+last_place : {A : Type 0} (xs : List A) (x : A) → length (xs ++ x ∷ []) - 1 ≡ length xs
+last_place xs x = grind (arith, length-append)
+
+get_last : {A : Type 0} (xs : List A) (x : A) → slice_get (xs ++ x ∷ []) (length (xs ++ x ∷ []) - 1) ≡ Some x
+get_last xs x = ap (slice_get (xs ++ x ∷ [])) (last_place xs x) ∙ get_behind xs [] x
+
+set_behind : {A : Type 0} (xs : List A) (x y : A) → slice_set (xs ++ x ∷ []) (length xs) y ≡ xs ++ y ∷ []
+set_behind [] x y = refl
+set_behind (z ∷ xs) x y = ap (λ l. z ∷ l) (set_behind xs x y)
+
+set_last : {A : Type 0} (xs : List A) (x y : A) → slice_set (xs ++ x ∷ []) (length (xs ++ x ∷ []) - 1) y ≡ xs ++ y ∷ []
+set_last xs x y = ap (λ n. slice_set (xs ++ x ∷ []) n y) (last_place xs x) ∙ set_behind xs x y
+
+-- what a line begins comes into the page
+
+opens_none : (text : List ℕ) (cells : List Cell) (l : Line) (n : ℕ) (s : State) → ((p : Bool) → container_in CORE cells (tail_of cells) (at_ink n) p ≡ None) → containers_opened text cells l (tail_of cells) (here n) s ≡ (s, here n)
+unfolding container_once_in
+opens_none text cells l n s none = by (length cells)
+  where
+    by : (m : ℕ) → repeated (container_once text cells l (tail_of cells)) m (here n) s ≡ (s, here n)
+    by zero = repeated_zero (container_once text cells l (tail_of cells)) zero (here n) s refl
+    by (suc m) = repeated_stop (container_once text cells l (tail_of cells)) (suc m) (here n) s s (omega arith) (sym (ap (begun_at text cells l (here n) s) (none (goes_directly 0 s))))
+
+pub closed_begins : (text : List ℕ) (l : Line) (f : Facts text l) (bs : List Block) (ps : List Piece) (end number kept : ℕ)
+    → line_taken text (closed bs ps end number kept) l ≡ started (start_as f.blank None f.rule) text f.columns l (tail_of f.columns) (here f.spaces) (closed bs ps end number kept)
+unfolding line_taken_in cells_taken_in passed_in touched turn_in turn_of leaf_turn leaf_started_in metadata_in metadata_or task_in task_or quote_kind_in quote_kind_or tag_in tag_or goes_directly is_paragraph
+closed_begins text l f bs ps end number kept =
+    let s : State = closed bs ps end number kept in
+    ap (λ c. cells_taken text c l s) f.read
+    ∙ ap (λ c. leaf_started text f.columns l (record { cursor = c; depth = 0 }) s) f.cursor
+    ∙ ap (started_at text f.columns l (tail_of f.columns)) (opens_none text f.columns l f.spaces s f.opens)
+    ∙ ap (λ k. started k text f.columns l (tail_of f.columns) (here f.spaces) s) (f.starts false)
+
+pub open_begins : (text : List ℕ) (l : Line) (f : Facts text l) (bs : List Block) (ps qs : List Piece) (start end number : ℕ)
+    → line_taken text (paragraph_page bs ps qs start end number) l ≡ started (start_as f.blank f.level f.rule) text f.columns l (tail_of f.columns) (here f.spaces) (paragraph_page bs ps qs start end number)
+unfolding line_taken_in cells_taken_in passed_in touched turn_in turn_of leaf_turn leaf_started_in metadata_in metadata_or task_in task_or quote_kind_in quote_kind_or tag_in tag_or goes_directly is_paragraph
+open_begins text l f bs ps qs start end number =
+    let s : State = paragraph_page bs ps qs start end number in
+    ap (λ c. cells_taken text c l s) f.read
+    ∙ ap (λ c. leaf_started text f.columns l (record { cursor = c; depth = 0 }) s) f.cursor
+    ∙ ap (started_at text f.columns l (tail_of f.columns)) (opens_none text f.columns l f.spaces s f.opens)
+    ∙ ap (λ k. started k text f.columns l (tail_of f.columns) (here f.spaces) s) (f.starts true)
+
+-- nothing is open
+
+pub nothing_ends : (text : List ℕ) (bs : List Block) (ps : List Piece) (end number kept : ℕ) → closed_to text 0 (closed bs ps end number kept) ≡ closed bs ps end number kept
+unfolding closed_to leaf_closed times
+nothing_ends text bs ps end number kept = refl
+
+pub blank_passes : (text : List ℕ) (cells : List Cell) (l : Line) (n : ℕ) (bs : List Block) (ps : List Piece) (end number kept : ℕ) → started start.Blank text cells l (tail_of cells) (here n) (closed bs ps end number kept) ≡ closed bs ps end number kept
+unfolding started_in
+blank_passes text cells l n bs ps end number kept = nothing_ends text bs ps end number kept
+
+-- a thematic break
+abbrev pub rule_block : List Piece → ℕ → ℕ → Block
+rule_block ps at end = block kind.Rule at end (length ps) (length ps)
+
+rule_finished : (bs : List Block) (ps : List Piece) (at end number : ℕ) → leaf_finished (closed (bs ++ rule_block ps at at ∷ []) ps end number (length ps)) ≡ closed (bs ++ rule_block ps at end ∷ []) ps end number (length ps)
+unfolding leaf_finished finished raised_at
+rule_finished bs ps at end number = rw (take-length ps, get_last bs (rule_block ps at at), set_last bs (rule_block ps at at) (rule_block ps at end)) refl
+
+pub rule_comes : (text : List ℕ) (cells : List Cell) (l : Line) (n : ℕ) (bs : List Block) (ps : List Piece) (end number kept : ℕ)
+    → started start.Rule text cells l (tail_of cells) (here n) (closed bs ps end number kept) ≡ closed (bs ++ rule_block ps (cell_place cells n l.end) l.end ∷ []) ps l.end l.number (length ps)
+unfolding started_in rule_started leaf_opened closed_to leaf_closed times list_left begun loosened had_marked list_of is_apart
+rule_comes text cells l n bs ps end number kept = rule_finished bs ps (cell_place cells n l.end) l.end l.number
+
+-- a paragraph
+
+-- the piece of a line
+abbrev pub piece_in : List Cell → ℕ → Line → Piece
+piece_in cells n l = record { spaces = 0; from = whole_place cells 0 l; start = cell_place cells n l.end; end = l.end; next = l.next }
+
+piece_taken_whole : (p : Piece) (l : Line) (s : State) → nat_lt p.start p.next ≡ true → p.spaces ≡ 0 → piece_taken p l true s ≡ record s { pieces = s.pieces ++ p ∷ []; kept = length (s.pieces ++ p ∷ []); end = l.end; line = l.number }
+unfolding piece_taken
+piece_taken_whole p l s h k = rw (k, h) refl
+
+-- a page on which a paragraph began that has no line yet
+abbrev fresh : List Block → List Piece → ℕ → ℕ → ℕ → State
+fresh bs ps start end number = record {
+  blocks = bs ++ paragraph_block ps start ∷ [];
+  pieces = ps;
+  definitions = [];
+  opened = [];
+  quotes = [];
+  leaf = leaf.Paragraph;
+  end = end;
+  line = number;
+  kept = length ps;
+  header = Never;
+  tried = 0;
+  left = None;
+  filled = 0;
+}
+
+started_fresh : (bs : List Block) (ps : List Piece) (start end number : ℕ) → text_started start (fresh bs ps start end number) ≡ fresh bs ps start end number
+unfolding text_started
+started_fresh bs ps start end number =
+    let same : nat_le (length ps) (length ps) ≡ true = grind (arith, nat_tests) in
+    rw (get_last bs (paragraph_block ps start), same, set_last bs (paragraph_block ps start) (paragraph_block ps start)) refl
+
+pub text_begins : (text : List ℕ) (cells : List Cell) (l : Line) (n : ℕ) (bs : List Block) (ps : List Piece) (end number kept : ℕ) → nat_lt (cell_place cells n l.end) l.next ≡ true
+    → started start.Text text cells l (tail_of cells) (here n) (closed bs ps end number kept) ≡ paragraph_page bs ps (piece_in cells n l ∷ []) (cell_place cells n l.end) l.end l.number
+unfolding started_in text_taken text_piece is_paragraph leaf_opened closed_to leaf_closed times list_left begun loosened had_marked list_of is_apart
+text_begins text cells l n bs ps end number kept h =
+    ap (λ s. piece_taken (piece_in cells n l) l true s) (started_fresh bs ps (cell_place cells n l.end) l.end l.number)
+    ∙ piece_taken_whole (piece_in cells n l) l (fresh bs ps (cell_place cells n l.end) l.end l.number) h refl
+
+longer : (ps : List Piece) (q : Piece) (qs : List Piece) → length (ps ++ q ∷ qs) ≡ length ps + suc (length qs)
+longer ps q qs = length-append ps (q ∷ qs)
+
+started_before : (at : ℕ) (bs : List Block) (ps : List Piece) (q : Piece) (qs : List Piece) (start end number : ℕ) → text_started at (paragraph_page bs ps (q ∷ qs) start end number) ≡ paragraph_page bs ps (q ∷ qs) start end number
+unfolding text_started
+started_before at bs ps q qs start end number =
+    let more : length (ps ++ q ∷ qs) ≡ length ps + suc (length qs) = longer ps q qs in
+    let none : nat_le (length (ps ++ q ∷ qs)) (length ps) ≡ false = grind (arith, nat_tests) in
+    rw (get_last bs (paragraph_block ps start), none) refl
+
+pub text_goes_on : (text : List ℕ) (cells : List Cell) (l : Line) (n : ℕ) (bs : List Block) (ps : List Piece) (q : Piece) (qs : List Piece) (from end number : ℕ) → nat_lt (cell_place cells n l.end) l.next ≡ true
+    → started start.Text text cells l (tail_of cells) (here n) (paragraph_page bs ps (q ∷ qs) from end number) ≡ paragraph_page bs ps (q ∷ (qs ++ piece_in cells n l ∷ [])) from l.end l.number
+unfolding started_in text_taken text_piece is_paragraph
+text_goes_on text cells l n bs ps q qs from end number h =
+    ap (λ s. piece_taken (piece_in cells n l) l true s) (started_before (cell_place cells n l.end) bs ps q qs from end number)
+    ∙ piece_taken_whole (piece_in cells n l) l (paragraph_page bs ps (q ∷ qs) from end number) h refl
+    ∙ ap (λ (xs : List Piece). record (paragraph_page bs ps (q ∷ qs) from l.end l.number) { pieces = xs; kept = length xs }) (append_assoc ps (q ∷ qs) (piece_in cells n l ∷ []))
+
+-- the block of a paragraph or a heading that has ended
+abbrev pub ended_block : BlockKind → List Piece → List Piece → ℕ → ℕ → Block
+ended_block k ps qs start end = block k start end (length ps) (length (ps ++ qs))
+
+settled_none : (text : List ℕ) (bs : List Block) (ps : List Piece) (q : Piece) (qs : List Piece) (end number : ℕ) → (byte_at text q.start == 91) ≡ false → length ps + 1 < 2 ^ 64
+    → settled text (paragraph_page bs ps (q ∷ qs) q.start end number) ≡ paragraph_page bs ps (q ∷ qs) q.start end number
+unfolding settled definitions_from begins_definition shortened
+settled_none text bs ps q qs end number h fits =
+    let b : Block = paragraph_block ps q.start in
+    let first : plus (length ps) 0 ≡ length ps = omega (arith, fits) in
+    rw (get_last bs b, drop_behind ps (q ∷ qs), h, first, get_behind ps qs q, set_last bs b b) refl
+
+finished_whole : (bs : List Block) (ps qs : List Piece) (start end number : ℕ)
+    → leaf_finished (paragraph_page bs ps qs start end number) ≡ closed (bs ++ ended_block kind.Paragraph ps qs start end ∷ []) (ps ++ qs) end number (length (ps ++ qs))
+unfolding leaf_finished finished raised_at
+finished_whole bs ps qs start end number =
+    rw (take-length (ps ++ qs), get_last bs (paragraph_block ps start), set_last bs (paragraph_block ps start) (ended_block kind.Paragraph ps qs start end)) refl
+
+pub paragraph_ends : (text : List ℕ) (bs : List Block) (ps : List Piece) (q : Piece) (qs : List Piece) (end number : ℕ) → (byte_at text q.start == 91) ≡ false → length ps + 1 < 2 ^ 64
+    → closed_to text 0 (paragraph_page bs ps (q ∷ qs) q.start end number) ≡ closed (bs ++ ended_block kind.Paragraph ps (q ∷ qs) q.start end ∷ []) (ps ++ q ∷ qs) end number (length (ps ++ q ∷ qs))
+unfolding closed_to leaf_closed times
+paragraph_ends text bs ps q qs end number h fits =
+    ap (λ s. times one_closed (length s.opened - 0) s) (ap leaf_finished (settled_none text bs ps q qs end number h fits) ∙ finished_whole bs ps (q ∷ qs) q.start end number)
+
+pub blank_ends : (text : List ℕ) (cells : List Cell) (l : Line) (n : ℕ) (bs : List Block) (ps : List Piece) (q : Piece) (qs : List Piece) (end number : ℕ) → (byte_at text q.start == 91) ≡ false → length ps + 1 < 2 ^ 64
+    → started start.Blank text cells l (tail_of cells) (here n) (paragraph_page bs ps (q ∷ qs) q.start end number)
+    ≡ started start.Blank text cells l (tail_of cells) (here n) (closed (bs ++ ended_block kind.Paragraph ps (q ∷ qs) q.start end ∷ []) (ps ++ q ∷ qs) end number (length (ps ++ q ∷ qs)))
+unfolding started_in
+blank_ends text cells l n bs ps q qs end number h fits =
+    paragraph_ends text bs ps q qs end number h fits
+    ∙ sym (nothing_ends text (bs ++ ended_block kind.Paragraph ps (q ∷ qs) q.start end ∷ []) (ps ++ q ∷ qs) end number (length (ps ++ q ∷ qs)))
+
+pub rule_ends : (text : List ℕ) (cells : List Cell) (l : Line) (n : ℕ) (bs : List Block) (ps : List Piece) (q : Piece) (qs : List Piece) (end number : ℕ) → (byte_at text q.start == 91) ≡ false → length ps + 1 < 2 ^ 64
+    → started start.Rule text cells l (tail_of cells) (here n) (paragraph_page bs ps (q ∷ qs) q.start end number)
+    ≡ started start.Rule text cells l (tail_of cells) (here n) (closed (bs ++ ended_block kind.Paragraph ps (q ∷ qs) q.start end ∷ []) (ps ++ q ∷ qs) end number (length (ps ++ q ∷ qs)))
+unfolding started_in rule_started
+rule_ends text cells l n bs ps q qs end number h fits =
+    ap (λ s. leaf_finished (leaf_opened leaf.Nothing kind.Rule (cell_place cells n l.end) l s))
+    (paragraph_ends text bs ps q qs end number h fits
+    ∙ sym (nothing_ends text (bs ++ ended_block kind.Paragraph ps (q ∷ qs) q.start end ∷ []) (ps ++ q ∷ qs) end number (length (ps ++ q ∷ qs))))
+
+-- a heading with an underline
+
+abbrev heading_page : List Block → List Piece → List Piece → HeadingLevel → ℕ → ℕ → ℕ → State
+heading_page bs ps qs level start end number = record {
+  blocks = bs ++ block (kind.Heading level None) start start (length ps) (length ps) ∷ [];
+  pieces = ps ++ qs;
+  definitions = [];
+  opened = [];
+  quotes = [];
+  leaf = leaf.Paragraph;
+  end = end;
+  line = number;
+  kept = length (ps ++ qs);
+  header = Never;
+  tried = 0;
+  left = None;
+  filled = 0;
+}
+
+heading_finished : (bs : List Block) (ps qs : List Piece) (level : HeadingLevel) (start end number : ℕ)
+    → leaf_finished (heading_page bs ps qs level start end number) ≡ closed (bs ++ ended_block (kind.Heading level None) ps qs start end ∷ []) (ps ++ qs) end number (length (ps ++ qs))
+unfolding leaf_finished finished raised_at
+heading_finished bs ps qs level start end number =
+    let b : Block = block (kind.Heading level None) start start (length ps) (length ps) in
+    rw (take-length (ps ++ qs), get_last bs b, set_last bs b (ended_block (kind.Heading level None) ps qs start end)) refl
+
+underlined_page : (l : Line) (level : HeadingLevel) (bs : List Block) (ps qs : List Piece) (start end number : ℕ)
+    → underlined level None l (paragraph_page bs ps qs start end number) ≡ closed (bs ++ ended_block (kind.Heading level None) ps qs start l.end ∷ []) (ps ++ qs) l.end l.number (length (ps ++ qs))
+unfolding underlined
+underlined_page l level bs ps qs start end number =
+    rw (get_last bs (paragraph_block ps start), set_last bs (paragraph_block ps start) (block (kind.Heading level None) start start (length ps) (length ps)))
+    (heading_finished bs ps qs level start l.end l.number)
+
+has_some : (bs : List Block) (ps : List Piece) (q : Piece) (qs : List Piece) (start end number : ℕ) → has_text (paragraph_page bs ps (q ∷ qs) start end number) ≡ true
+unfolding has_text
+has_some bs ps q qs start end number =
+    let more : length (ps ++ q ∷ qs) ≡ length ps + suc (length qs) = longer ps q qs in
+    let some : nat_lt (length ps) (length (ps ++ q ∷ qs)) ≡ true = grind (arith, nat_tests) in
+    rw (get_last bs (paragraph_block ps start), some) refl
+
+pub underline_comes : (text : List ℕ) (cells : List Cell) (l : Line) (n : ℕ) (level : HeadingLevel) (bs : List Block) (ps : List Piece) (q : Piece) (qs : List Piece) (end number : ℕ) → (byte_at text q.start == 91) ≡ false → length ps + 1 < 2 ^ 64
+    → started (start.Underline level) text cells l (tail_of cells) (here n) (paragraph_page bs ps (q ∷ qs) q.start end number)
+    ≡ closed (bs ++ ended_block (kind.Heading level None) ps (q ∷ qs) q.start l.end ∷ []) (ps ++ q ∷ qs) l.end l.number (length (ps ++ q ∷ qs))
+unfolding started_in underline_taken_in underlined_in
+underline_comes text cells l n level bs ps q qs end number h fits =
+    ap (λ t. underlined_if core_known (has_text t) (metadata_or (metadata_in core_known text cells l (here n) false t) (rule_at cells (tail_of cells) n)) text cells l (here n) level t) (settled_none text bs ps q qs end number h fits)
+    ∙ ap (λ k. underlined_if core_known k (metadata_or (metadata_in core_known text cells l (here n) false s) (rule_at cells (tail_of cells) n)) text cells l (here n) level s) (has_some bs ps q qs q.start end number)
+    ∙ underlined_page l level bs ps (q ∷ qs) q.start end number
+  where
+    s : State
+    s = paragraph_page bs ps (q ∷ qs) q.start end number

@@ -1,0 +1,391 @@
+-- Of a text without containers the reader finds the blocks that are declared.
+use Rattle.std.proofs.Common.{◌≡◌, ℕ, zero, suc, ◌+◌, ◌^◌, ◌<◌, ◌≤◌, Bool, true, false, ◌==◌, if◌then◌else◌, nat_lt, List, [], ◌∷◌, ◌++◌, length, map, drop, refl, ap, sym, subst, ◌∙◌, arith, append-nil, length-append}
+use Rattle.std.specs.Prelude.{Option, Some, None}
+use Rattle.std.specs.List.{AllByRecursion, fold}
+use Rattle.std.proofs.lemmas.Bool.Decides.{nat_tests}
+use Rattle.std.proofs.lemmas.List.{length-map, map-append}
+use Rattle.tocmark_event.specs.declared.event.HeadingLevel.{HeadingLevel}
+use Rattle.tocmark_read_scan.specs.Basic.{byte_at}
+use Rattle.tocmark_read_lines.specs.Cells.{cell_place}
+use Rattle.tocmark_read_lines.specs.Lines.{lines_of}
+use Rattle.tocmark_read_lines.specs.Marks.{tail_of}
+use Rattle.tocmark_read_lines.specs.declared.line.Line.{Line}
+use Rattle.tocmark_read_page.specs.Definitions.{DefinitionView}
+use Rattle.tocmark_read_page.specs.Pages.{State, closed_to}
+use Rattle.tocmark_read_page.specs.declared.page.Block.{Block as ReadBlock}
+use Rattle.tocmark_read_page.specs.declared.page.BlockKind.TheVariants as kind
+use Rattle.tocmark_read_page.specs.declared.piece.Piece.{Piece}
+use Rattle.tocmark_read_constructs.specs.Metadata.{known_of}
+use Rattle.tocmark_read_blocks.specs.Blocks.{line_taken, page_in, blocks_in, started}
+use Rattle.tocmark_read_blocks.specs.declared.leaf.LeafStart.{LeafStart}
+use Rattle.tocmark_read_blocks.specs.declared.leaf.LeafStart.TheVariants as start
+use Rattle.tocmark_commonmark.specs.Lines.{Line as DeclaredLine, line_bytes, line_ink, lines_of as declared_lines}
+use Rattle.tocmark_commonmark.specs.Tree.{Blocks, none, more, Rule, Heading, Paragraph, Found, ended, unended, tree, defined, defined_in, Taken}
+use Rattle.tocmark_commonmark.specs.Beginnings.{Beginning, beginning, interrupts, begins_with}
+use Rattle.tocmark_commonmark.specs.Leaves.{definitions, text_of, underline, underlined, Turn, GoesOn, Stops, Underlines, turn_of, turn, turned, paragraph_lines, paragraph_with, paragraph_of}
+use Rattle.tocmark_commonmark.specs.Blocks.{first_block, and_rest, blocks_from, size, blocks, blocks_of}
+use Rattle.tocmark_block_laws.specs.Trees.{told, told_before, line_text, tree_of, placed_in}
+use Rattle.tocmark_block_laws.specs.Leaves.{IsPlain, IsLeafLine, LeavesAreDeclared}
+use Rattle.tocmark_block_laws.proofs.TextLines.{declared, lines_same, Sound, lines_sound, lines_few}
+use Rattle.tocmark_block_laws.proofs.Starts.{start_as, kind_as, Facts, leaf_facts}
+use Rattle.tocmark_block_laws.proofs.Pages.{here, closed, paragraph_page, rule_block, ended_block, piece_in, closed_begins, open_begins, nothing_ends, blank_passes, rule_comes, text_begins, text_goes_on, paragraph_ends, blank_ends, rule_ends, underline_comes}
+use Rattle.tocmark_block_laws.proofs.Told.{also, also_none, also_more, Holds, holds_none, holds_more, holds_read, paragraph_told, heading_told, definitions_none}
+
+-- a page at the end
+abbrev final : List ℕ → State → List Line → State
+final text s ls = closed_to text 0 (fold (line_taken text) s ls)
+
+-- a page has these blocks and the declared ones, and neither has definitions
+pub record Ends (text : List ℕ) (s : State) (found : Blocks) (declared : List Found) : Type 0 where
+  pub blocks : tree_of (placed_in text s.pieces s.blocks) ≡ also found (told (tree declared))
+  pub read : s.definitions ≡ []
+  pub declares : defined (tree declared) ≡ []
+
+ends_cons : (text : List ℕ) (s : State) (found : Blocks) (f : Found) (fs : List Found) → ((y : Blocks) → told_before f.block y ≡ more f.block y) → defined_in f.block ≡ []
+    → Ends text s (also found (more f.block none)) fs → Ends text s found (f ∷ fs)
+ends_cons text s found f fs plain nothing e = record {
+  blocks = e.blocks ∙ also_more found f.block (told (tree fs)) ∙ ap (also found) (sym (plain (told (tree fs))));
+  read = e.read;
+  declares = ap (λ (d : List DefinitionView). d ++ defined (tree fs)) nothing ∙ e.declares;
+}
+
+ends_closed : (text : List ℕ) (bs : List ReadBlock) (ps : List Piece) (end number kept : ℕ) (found : Blocks) → Holds text bs ps found → Ends text (closed_to text 0 (closed bs ps end number kept)) found []
+ends_closed text bs ps end number kept found h =
+    subst (λ (s : State). Ends text s found []) (sym (nothing_ends text bs ps end number kept)) (record { blocks = holds_read text bs ps found h ∙ sym (also_none found); read = refl; declares = refl })
+
+-- the blocks of no lines
+no_blocks : (fuel at : ℕ) → blocks_from fuel at [] ≡ []
+unfolding blocks_from
+no_blocks zero at = refl
+no_blocks (suc fuel) at = refl
+
+-- what is read of lines with so much fuel, after the blocks so far
+abbrev Goal : List ℕ → ℕ → Type 0
+Goal text fuel = (at : ℕ) (ls : List Line) (bs : List ReadBlock) (ps : List Piece) (end number kept : ℕ) (found : Blocks) → Holds text bs ps found → length ps + length ls + 1 < 2 ^ 64 → length ls ≤ fuel → AllByRecursion (Facts text) ls
+    → Ends text (final text (closed bs ps end number kept) ls) found (blocks_from fuel at (map (declared text) ls))
+
+-- the declared blocks from a block on
+abbrev from_there : ℕ → ℕ → List DeclaredLine → Taken → List Found
+from_there fuel at whole t = and_rest (λ n x. blocks_from fuel n x) at whole t
+
+-- paragraphs: what a line is to the one above it
+
+abbrev turn_kind : Bool → Option HeadingLevel → Bool → Turn
+turn_kind true u r = Stops
+turn_kind false (Some level) r = Underlines level
+turn_kind false None true = Stops
+turn_kind false None false = GoesOn
+
+turn_as : (b : Bool) (u : Option HeadingLevel) (r : Bool) → turn_of (kind_as b r) u ≡ turn_kind b u r
+unfolding interrupts
+turn_as true u r = refl
+turn_as false (Some level) true = refl
+turn_as false (Some level) false = refl
+turn_as false None true = refl
+turn_as false None false = refl
+
+underlined_as : (t : List ℕ) (ts : List (List ℕ)) (u : Option HeadingLevel) → definitions (t ∷ ts) ≡ ([], 0) → underlined (t ∷ ts) u ≡ u
+underlined_as t ts None d = refl
+underlined_as t ts (Some level) d =
+    ap (λ (x : List DefinitionView × ℕ). if nat_lt (x.1) (suc (length ts)) then Some level else None) d
+    ∙ (let some : nat_lt 0 (suc (length ts)) ≡ true = grind (arith, nat_tests) in ap (λ k. if k then Some level else None) some)
+
+turn_same : (text : List ℕ) (l : Line) (f : Facts text l) (t : List ℕ) (ts : List (List ℕ)) → definitions (t ∷ ts) ≡ ([], 0) → turn (t ∷ ts) (declared text l) ≡ turn_kind f.blank f.level f.rule
+turn_same text l f t ts d = ap (λ k. turn_of k (underline (t ∷ ts) (declared text l))) f.kind ∙ by f.blank refl
+  where
+    by : (b : Bool) → f.blank ≡ b → turn_of (kind_as f.blank f.rule) (underline (t ∷ ts) (declared text l)) ≡ turn_kind f.blank f.level f.rule
+    by true e = ap (λ k. turn_of (kind_as k f.rule) (underline (t ∷ ts) (declared text l))) e ∙ sym (ap (λ k. turn_kind k f.level f.rule) e)
+    by false e = ap (λ u. turn_of (kind_as f.blank f.rule) u) (f.under e (t ∷ ts) ∙ underlined_as t ts f.level d) ∙ turn_as f.blank f.level f.rule
+
+-- what is declared of a paragraph that ends
+
+abbrev text_found : ℕ → List ℕ → List (List ℕ) → Found
+text_found at t ts = unended (Paragraph (text_of (t ∷ ts))) (at + 0) (at + 0 + length ts)
+
+abbrev heading_found : ℕ → HeadingLevel → List ℕ → List (List ℕ) → Found
+heading_found at level t ts = ended (Heading level (text_of (t ∷ ts))) (at + 0) (at + length (t ∷ ts))
+
+stops_as : (fuel at : ℕ) (whole rest : List DeclaredLine) (t : List ℕ) (ts : List (List ℕ)) → definitions (t ∷ ts) ≡ ([], 0) → drop (length (t ∷ ts)) whole ≡ rest
+    → text_found at t ts ∷ blocks_from fuel (at + length (t ∷ ts)) rest ≡ from_there fuel at whole (paragraph_of at (t ∷ ts, None))
+stops_as fuel at whole rest t ts d e =
+    sym (ap (λ (x : List DefinitionView × ℕ). from_there fuel at whole (paragraph_with at (t ∷ ts) None x)) d
+    ∙ ap (λ ls. text_found at t ts ∷ blocks_from fuel (at + length (t ∷ ts)) ls) e)
+
+underlines_as : (fuel at : ℕ) (whole rest : List DeclaredLine) (t : List ℕ) (ts : List (List ℕ)) (level : HeadingLevel) → definitions (t ∷ ts) ≡ ([], 0) → drop (length (t ∷ ts) + 1) whole ≡ rest
+    → heading_found at level t ts ∷ blocks_from fuel (at + (length (t ∷ ts) + 1)) rest ≡ from_there fuel at whole (paragraph_of at (t ∷ ts, Some level))
+underlines_as fuel at whole rest t ts level d e =
+    sym (ap (λ (x : List DefinitionView × ℕ). from_there fuel at whole (paragraph_with at (t ∷ ts) (Some level) x)) d
+    ∙ ap (λ ls. heading_found at level t ts ∷ blocks_from fuel (at + (length (t ∷ ts) + 1)) ls) e)
+
+drop_next : (n : ℕ) (xs : List DeclaredLine) (y : DeclaredLine) (ys : List DeclaredLine) → drop n xs ≡ y ∷ ys → drop (suc n) xs ≡ ys
+drop_next zero [] y ys e = absurd cc
+drop_next zero (x ∷ xs) y ys e = let q : xs ≡ ys = cc in q
+drop_next (suc n) [] y ys e = absurd cc
+drop_next (suc n) (x ∷ xs) y ys e = drop_next n xs y ys e
+
+-- what is known of an open paragraph
+pub record Opened (text : List ℕ) (fuel : ℕ) (whole : List DeclaredLine) (ls : List Line) (ps : List Piece) (q : Piece) (qs : List Piece) (t : List ℕ) (ts : List (List ℕ)) : Type 0 where
+  pub texts : map (line_text text) (q ∷ qs) ≡ t ∷ ts
+  pub first : (byte_at text q.start == 91) ≡ false
+  pub bracket : begins_with 91 t ≡ false
+  pub rest : drop (length (t ∷ ts)) whole ≡ map (declared text) ls
+  pub room : length ps + suc (length qs) + length ls + 1 < 2 ^ 64
+  pub few : length ls ≤ fuel
+
+-- the block of the paragraph, when it ends
+abbrev ended_as : List Piece → Piece → List Piece → ℕ → ReadBlock
+ended_as ps q qs end = ended_block kind.Paragraph ps (q ∷ qs) q.start end
+
+abbrev shut : List ReadBlock → List Piece → Piece → List Piece → ℕ → ℕ → State
+shut bs ps q qs end number = closed (bs ++ ended_as ps q qs end ∷ []) (ps ++ q ∷ qs) end number (length (ps ++ q ∷ qs))
+
+paragraph_holds : (text : List ℕ) (fuel : ℕ) (whole : List DeclaredLine) (ls : List Line) (bs : List ReadBlock) (ps : List Piece) (q : Piece) (qs : List Piece) (end : ℕ) (found : Blocks) (t : List ℕ) (ts : List (List ℕ))
+    → Holds text bs ps found → Opened text fuel whole ls ps q qs t ts → Holds text (bs ++ ended_as ps q qs end ∷ []) (ps ++ q ∷ qs) (also found (more (Paragraph (text_of (t ∷ ts))) none))
+paragraph_holds text fuel whole ls bs ps q qs end found t ts h o =
+    holds_more text bs ps found (ended_as ps q qs end) (Paragraph (text_of (t ∷ ts))) (q ∷ qs) h refl (paragraph_told text ps q qs (t ∷ ts) q.start end o.texts)
+
+-- the paragraph ends with the text
+paragraph_last : (text : List ℕ) (fuel at : ℕ) (whole : List DeclaredLine) (bs : List ReadBlock) (ps : List Piece) (q : Piece) (qs : List Piece) (end number : ℕ) (found : Blocks) (t : List ℕ) (ts : List (List ℕ))
+    → Holds text bs ps found → Opened text fuel whole [] ps q qs t ts → Ends text (closed_to text 0 (paragraph_page bs ps (q ∷ qs) q.start end number)) found (from_there fuel at whole (paragraph_of at (t ∷ ts, None)))
+paragraph_last text fuel at whole bs ps q qs end number found t ts h o =
+    subst (λ (fs : List Found). Ends text (closed_to text 0 (paragraph_page bs ps (q ∷ qs) q.start end number)) found fs) is
+    (subst (λ (s : State). Ends text s found (text_found at t ts ∷ [])) (sym (paragraph_ends text bs ps q qs end number o.first room))
+    (ends_cons text (shut bs ps q qs end number) found (text_found at t ts) [] (λ y. refl) refl
+    (record { blocks = holds_read text (bs ++ ended_as ps q qs end ∷ []) (ps ++ q ∷ qs) found' (paragraph_holds text fuel whole [] bs ps q qs end found t ts h o) ∙ sym (also_none found'); read = refl; declares = refl })))
+  where
+    found' : Blocks
+    found' = also found (more (Paragraph (text_of (t ∷ ts))) none)
+
+    room : length ps + 1 < 2 ^ 64
+    room = let all : length ps + suc (length qs) + 0 + 1 < 2 ^ 64 = o.room in omega (arith, all)
+
+    is : text_found at t ts ∷ [] ≡ from_there fuel at whole (paragraph_of at (t ∷ ts, None))
+    is = ap (λ (fs : List Found). text_found at t ts ∷ fs) (sym (no_blocks fuel (at + length (t ∷ ts))))
+        ∙ stops_as fuel at whole [] t ts (definitions_none t ts o.bracket) o.rest
+
+-- the paragraph ends before a line, which does what it does where nothing is open
+paragraph_stops : (text : List ℕ) (fuel at : ℕ) → Goal text fuel → (whole : List DeclaredLine) (l : Line) (ls : List Line) (f : Facts text l) (bs : List ReadBlock) (ps : List Piece) (q : Piece) (qs : List Piece) (end number : ℕ) (found : Blocks) (t : List ℕ) (ts : List (List ℕ)) (b : LeafStart)
+    → Holds text bs ps found → Opened text fuel whole (l ∷ ls) ps q qs t ts → AllByRecursion (Facts text) (l ∷ ls) → start_as f.blank None f.rule ≡ b
+    → started b text f.columns l (tail_of f.columns) (here f.spaces) (paragraph_page bs ps (q ∷ qs) q.start end number) ≡ started b text f.columns l (tail_of f.columns) (here f.spaces) (shut bs ps q qs end number)
+    → Ends text (final text (started b text f.columns l (tail_of f.columns) (here f.spaces) (paragraph_page bs ps (q ∷ qs) q.start end number)) ls) found (from_there fuel at whole (paragraph_of at (t ∷ ts, None)))
+paragraph_stops text fuel at again whole l ls f bs ps q qs end number found t ts b h o facts e same =
+    subst (λ (s : State). Ends text (final text s ls) found (from_there fuel at whole (paragraph_of at (t ∷ ts, None)))) taken
+    (subst (λ (fs : List Found). Ends text (final text (shut bs ps q qs end number) (l ∷ ls)) found fs) (stops_as fuel at whole (map (declared text) (l ∷ ls)) t ts (definitions_none t ts o.bracket) o.rest)
+    (ends_cons text (final text (shut bs ps q qs end number) (l ∷ ls)) found (text_found at t ts) (blocks_from fuel (at + length (t ∷ ts)) (map (declared text) (l ∷ ls))) (λ y. refl) refl
+    (again (at + length (t ∷ ts)) (l ∷ ls) (bs ++ ended_as ps q qs end ∷ []) (ps ++ q ∷ qs) end number (length (ps ++ q ∷ qs)) (also found (more (Paragraph (text_of (t ∷ ts))) none))
+    (paragraph_holds text fuel whole (l ∷ ls) bs ps q qs end found t ts h o) room o.few facts)))
+  where
+    room : length (ps ++ q ∷ qs) + suc (length ls) + 1 < 2 ^ 64
+    room = let all : length ps + suc (length qs) + suc (length ls) + 1 < 2 ^ 64 = o.room in let wide : length (ps ++ q ∷ qs) ≡ length ps + suc (length qs) = length-append ps (q ∷ qs) in omega (arith, wide, all)
+
+    taken : line_taken text (shut bs ps q qs end number) l ≡ started b text f.columns l (tail_of f.columns) (here f.spaces) (paragraph_page bs ps (q ∷ qs) q.start end number)
+    taken =
+        closed_begins text l f (bs ++ ended_as ps q qs end ∷ []) (ps ++ q ∷ qs) end number (length (ps ++ q ∷ qs))
+        ∙ ap (λ k. started k text f.columns l (tail_of f.columns) (here f.spaces) (shut bs ps q qs end number)) e ∙ sym same
+
+-- an underline makes a heading of the paragraph
+paragraph_heads : (text : List ℕ) (fuel at : ℕ) → Goal text fuel → (whole : List DeclaredLine) (l : Line) (ls : List Line) (f : Facts text l) (bs : List ReadBlock) (ps : List Piece) (q : Piece) (qs : List Piece) (end number : ℕ) (found : Blocks) (t : List ℕ) (ts : List (List ℕ)) (level : HeadingLevel)
+    → Holds text bs ps found → Opened text fuel whole (l ∷ ls) ps q qs t ts → AllByRecursion (Facts text) (l ∷ ls)
+    → Ends text (final text (started (start.Underline level) text f.columns l (tail_of f.columns) (here f.spaces) (paragraph_page bs ps (q ∷ qs) q.start end number)) ls) found (from_there fuel at whole (paragraph_of at (t ∷ ts, Some level)))
+paragraph_heads text fuel at again whole l ls f bs ps q qs end number found t ts level h o facts =
+    subst (λ (s : State). Ends text (final text s ls) found (from_there fuel at whole (paragraph_of at (t ∷ ts, Some level)))) (sym (underline_comes text f.columns l f.spaces level bs ps q qs end number o.first few_pieces))
+    (subst (λ (fs : List Found). Ends text (final text after ls) found fs) (underlines_as fuel at whole (map (declared text) ls) t ts level (definitions_none t ts o.bracket) passed)
+    (ends_cons text (final text after ls) found (heading_found at level t ts) (blocks_from fuel (at + (length (t ∷ ts) + 1)) (map (declared text) ls)) (λ y. refl) refl
+    (again (at + (length (t ∷ ts) + 1)) ls (bs ++ b ∷ []) (ps ++ q ∷ qs) l.end l.number (length (ps ++ q ∷ qs)) (also found (more (Heading level (text_of (t ∷ ts))) none))
+    (holds_more text bs ps found b (Heading level (text_of (t ∷ ts))) (q ∷ qs) h refl (heading_told text level ps q qs (t ∷ ts) q.start l.end o.texts))
+    room fewer (facts.1))))
+  where
+    b : ReadBlock
+    b = ended_block (kind.Heading level None) ps (q ∷ qs) q.start l.end
+
+    after : State
+    after = closed (bs ++ b ∷ []) (ps ++ q ∷ qs) l.end l.number (length (ps ++ q ∷ qs))
+
+    all : length ps + suc (length qs) + suc (length ls) + 1 < 2 ^ 64
+    all = o.room
+
+    few_pieces : length ps + 1 < 2 ^ 64
+    few_pieces = omega (arith, all)
+
+    room : length (ps ++ q ∷ qs) + length ls + 1 < 2 ^ 64
+    room = let wide : length (ps ++ q ∷ qs) ≡ length ps + suc (length qs) = length-append ps (q ∷ qs) in omega (arith, wide, all)
+
+    fewer : length ls ≤ fuel
+    fewer = let k : suc (length ls) ≤ fuel = o.few in omega (arith, k)
+
+    passed : drop (length (t ∷ ts) + 1) whole ≡ map (declared text) ls
+    passed = ap (λ n. drop n whole) (let k : suc (length ts) + 1 ≡ suc (suc (length ts)) = omega arith in k) ∙ drop_next (suc (length ts)) whole (declared text l) (map (declared text) ls) o.rest
+
+-- what is known of it with one more line
+opened_more : (text : List ℕ) (fuel : ℕ) (whole : List DeclaredLine) (l : Line) (ls : List Line) (f : Facts text l) (ps : List Piece) (q : Piece) (qs : List Piece) (t : List ℕ) (ts : List (List ℕ)) → f.blank ≡ false
+    → Opened text fuel whole (l ∷ ls) ps q qs t ts → Opened text fuel whole ls ps q (qs ++ piece_in f.columns f.spaces l ∷ []) t (ts ++ line_ink (declared text l) ∷ [])
+opened_more text fuel whole l ls f ps q qs t ts e o =
+    record {
+      texts = map-append (line_text text) (q ∷ qs) (p ∷ []) ∙ ap (λ (xs : List (List ℕ)). xs ++ line_text text p ∷ []) o.texts ∙ ap (λ (x : List ℕ). (t ∷ ts) ++ x ∷ []) (f.ink e);
+      first = o.first;
+      bracket = o.bracket;
+      rest = ap (λ n. drop n whole) count ∙ drop_next (suc (length ts)) whole dl (map (declared text) ls) o.rest;
+      room = omega (arith, more_pieces, all);
+      few = omega (arith, k);
+    }
+  where
+    p : Piece
+    p = piece_in f.columns f.spaces l
+
+    dl : DeclaredLine
+    dl = declared text l
+
+    all : length ps + suc (length qs) + suc (length ls) + 1 < 2 ^ 64
+    all = o.room
+
+    k : suc (length ls) ≤ fuel
+    k = o.few
+
+    more_pieces : length (qs ++ p ∷ []) ≡ length qs + 1
+    more_pieces = length-append qs (p ∷ [])
+
+    more_texts : length (ts ++ line_ink dl ∷ []) ≡ length ts + 1
+    more_texts = length-append ts (line_ink dl ∷ [])
+
+    count : suc (length (ts ++ line_ink dl ∷ [])) ≡ suc (suc (length ts))
+    count = omega (arith, more_texts)
+
+-- the paragraph and a line after it
+paragraph_line : (text : List ℕ) (fuel at : ℕ) → Goal text fuel → (whole : List DeclaredLine) (l : Line) (ls : List Line) (f : Facts text l) (bs : List ReadBlock) (ps : List Piece) (q : Piece) (qs : List Piece) (end number : ℕ) (found : Blocks) (t : List ℕ) (ts : List (List ℕ))
+    → Holds text bs ps found → Opened text fuel whole (l ∷ ls) ps q qs t ts → AllByRecursion (Facts text) (l ∷ ls)
+    → (f.blank ≡ false → Ends text (final text (paragraph_page bs ps (q ∷ (qs ++ piece_in f.columns f.spaces l ∷ [])) q.start l.end l.number) ls) found (from_there fuel at whole (paragraph_of at (paragraph_lines (t ∷ (ts ++ line_ink (declared text l) ∷ [])) (map (declared text) ls)))))
+    → Ends text (final text (paragraph_page bs ps (q ∷ qs) q.start end number) (l ∷ ls)) found (from_there fuel at whole (paragraph_of at (paragraph_lines (t ∷ ts) (map (declared text) (l ∷ ls)))))
+paragraph_line text fuel at again whole l ls f bs ps q qs end number found t ts h o facts goes =
+    subst (λ (s : State). Ends text (final text s ls) found (from_there fuel at whole (paragraph_of at (turned next (t ∷ ts) (line_ink (declared text l)) (turn (t ∷ ts) (declared text l))))))
+    (sym (open_begins text l f bs ps (q ∷ qs) q.start end number))
+    (subst (λ (x : Turn). Ends text (final text (begun (start_as f.blank f.level f.rule)) ls) found (from_there fuel at whole (paragraph_of at (turned next (t ∷ ts) (line_ink (declared text l)) x))))
+    (sym (turn_same text l f t ts (definitions_none t ts o.bracket)))
+    (by f.blank f.level f.rule refl refl refl))
+  where
+    next : List (List ℕ) → List (List ℕ) × Option HeadingLevel
+    next = λ x. paragraph_lines x (map (declared text) ls)
+
+    begun : LeafStart → State
+    begun b = started b text f.columns l (tail_of f.columns) (here f.spaces) (paragraph_page bs ps (q ∷ qs) q.start end number)
+
+    room : length ps + 1 < 2 ^ 64
+    room = let all : length ps + suc (length qs) + suc (length ls) + 1 < 2 ^ 64 = o.room in omega (arith, all)
+
+    by : (b : Bool) (u : Option HeadingLevel) (r : Bool) → f.blank ≡ b → f.level ≡ u → f.rule ≡ r
+        → Ends text (final text (begun (start_as b u r)) ls) found (from_there fuel at whole (paragraph_of at (turned next (t ∷ ts) (line_ink (declared text l)) (turn_kind b u r))))
+    by true u r eb eu er =
+        paragraph_stops text fuel at again whole l ls f bs ps q qs end number found t ts start.Blank h o facts (ap (λ k. start_as k None f.rule) eb)
+        (blank_ends text f.columns l f.spaces bs ps q qs end number o.first room)
+    by false (Some level) r eb eu er = paragraph_heads text fuel at again whole l ls f bs ps q qs end number found t ts level h o facts
+    by false None true eb eu er =
+        paragraph_stops text fuel at again whole l ls f bs ps q qs end number found t ts start.Rule h o facts (ap (λ k. start_as k None f.rule) eb ∙ ap (λ k. start_as false None k) er)
+        (rule_ends text f.columns l f.spaces bs ps q qs end number o.first room)
+    by false None false eb eu er =
+        subst (λ (s : State). Ends text (final text s ls) found (from_there fuel at whole (paragraph_of at (next (t ∷ (ts ++ line_ink (declared text l) ∷ []))))))
+        (sym (text_goes_on text f.columns l f.spaces bs ps q qs q.start end number (f.some eb))) (goes eb)
+
+paragraph_read : (text : List ℕ) (fuel at : ℕ) → Goal text fuel → (whole : List DeclaredLine) (ls : List Line) (bs : List ReadBlock) (ps : List Piece) (q : Piece) (qs : List Piece) (end number : ℕ) (found : Blocks) (t : List ℕ) (ts : List (List ℕ))
+    → Holds text bs ps found → Opened text fuel whole ls ps q qs t ts → AllByRecursion (Facts text) ls
+    → Ends text (final text (paragraph_page bs ps (q ∷ qs) q.start end number) ls) found (from_there fuel at whole (paragraph_of at (paragraph_lines (t ∷ ts) (map (declared text) ls))))
+paragraph_read text fuel at again whole [] bs ps q qs end number found t ts h o facts = paragraph_last text fuel at whole bs ps q qs end number found t ts h o
+paragraph_read text fuel at again whole (l ∷ ls) bs ps q qs end number found t ts h o facts =
+    paragraph_line text fuel at again whole l ls (facts.0) bs ps q qs end number found t ts h o facts
+    (λ e. paragraph_read text fuel at again whole ls bs ps q (qs ++ piece_in (facts.0).columns (facts.0).spaces l ∷ []) l.end l.number found t (ts ++ line_ink (declared text l) ∷ []) h
+    (opened_more text fuel whole l ls (facts.0) ps q qs t ts e o) (facts.1))
+
+-- a line where nothing is open
+line_read : (text : List ℕ) (fuel at : ℕ) → Goal text fuel → (l : Line) (ls : List Line) (f : Facts text l) (bs : List ReadBlock) (ps : List Piece) (end number kept : ℕ) (found : Blocks) → Holds text bs ps found → length ps + suc (length ls) + 1 < 2 ^ 64 → length ls ≤ fuel → AllByRecursion (Facts text) ls
+    → Ends text (final text (closed bs ps end number kept) (l ∷ ls)) found (from_there fuel at (map (declared text) (l ∷ ls)) (first_block (λ x. blocks_from fuel 0 x) at (declared text l) (map (declared text) ls) (beginning (declared text l))))
+line_read text fuel at again l ls f bs ps end number kept found h room few facts =
+    subst (λ (s : State). Ends text (final text s ls) found (from_there fuel at (dl ∷ rest) (first_block inner at dl rest (beginning dl))))
+    (sym (closed_begins text l f bs ps end number kept))
+    (subst (λ (k : Beginning). Ends text (final text (begun (start_as f.blank None f.rule)) ls) found (from_there fuel at (dl ∷ rest) (first_block inner at dl rest k)))
+    (sym f.kind)
+    (by f.blank f.rule refl refl))
+  where
+    dl : DeclaredLine
+    dl = declared text l
+
+    rest : List DeclaredLine
+    rest = map (declared text) ls
+
+    inner : List DeclaredLine → List Found
+    inner = λ x. blocks_from fuel 0 x
+
+    begun : LeafStart → State
+    begun b = started b text f.columns l (tail_of f.columns) (here f.spaces) (closed bs ps end number kept)
+
+    p : Piece
+    p = piece_in f.columns f.spaces l
+
+    b : ReadBlock
+    b = rule_block ps (cell_place f.columns f.spaces l.end) l.end
+
+    ruled : Holds text (bs ++ b ∷ []) ps (also found (more Rule none))
+    ruled = subst (λ (xs : List Piece). Holds text (bs ++ b ∷ []) xs (also found (more Rule none))) (append-nil ps) (holds_more text bs ps found b Rule [] h refl (λ later. refl))
+
+    less : length ps + length ls + 1 < 2 ^ 64
+    less = omega (arith, room)
+
+    same : length ps + 1 + length ls + 1 < 2 ^ 64
+    same = omega (arith, room)
+
+    by : (k r : Bool) → f.blank ≡ k → f.rule ≡ r → Ends text (final text (begun (start_as k None r)) ls) found (from_there fuel at (dl ∷ rest) (first_block inner at dl rest (kind_as k r)))
+    by true r eb er =
+        subst (λ (s : State). Ends text (final text s ls) found (blocks_from fuel (at + 1) rest)) (sym (blank_passes text f.columns l f.spaces bs ps end number kept))
+        (again (at + 1) ls bs ps end number kept found h less few facts)
+    by false true eb er =
+        subst (λ (s : State). Ends text (final text s ls) found (ended Rule at at ∷ blocks_from fuel (at + 1) rest)) (sym (rule_comes text f.columns l f.spaces bs ps end number kept))
+        (ends_cons text (final text (closed (bs ++ b ∷ []) ps l.end l.number (length ps)) ls) found (ended Rule at at) (blocks_from fuel (at + 1) rest) (λ y. refl) refl
+        (again (at + 1) ls (bs ++ b ∷ []) ps l.end l.number (length ps) (also found (more Rule none)) ruled less few facts))
+    by false false eb er =
+        subst (λ (s : State). Ends text (final text s ls) found (from_there fuel at (dl ∷ rest) (paragraph_of at (paragraph_lines (line_ink dl ∷ []) rest))))
+        (sym (text_begins text f.columns l f.spaces bs ps end number kept (f.some eb)))
+        (paragraph_read text fuel at again (dl ∷ rest) ls bs ps p [] l.end l.number found (line_ink dl) [] h
+        (record { texts = ap (λ (x : List ℕ). x ∷ []) (f.ink eb); first = f.first eb; bracket = f.bracket; rest = refl; room = same; few = few }) facts)
+
+read_all : (text : List ℕ) (fuel : ℕ) → Goal text fuel
+unfolding blocks_from
+read_all text zero at [] bs ps end number kept found h room few facts = ends_closed text bs ps end number kept found h
+read_all text zero at (l ∷ ls) bs ps end number kept found h room few facts = absurd (omega arith)
+read_all text (suc fuel) at [] bs ps end number kept found h room few facts = ends_closed text bs ps end number kept found h
+read_all text (suc fuel) at (l ∷ ls) bs ps end number kept found h room few facts =
+    line_read text fuel at (read_all text fuel) l ls (facts.0) bs ps end number kept found h room (let k : suc (length ls) ≤ suc fuel = few in omega (arith, k)) (facts.1)
+
+-- the facts of all lines
+all_facts : (text : List ℕ) (ls : List Line) → IsPlain text → length text + 3 < 2 ^ 64 → AllByRecursion (Sound text) ls → AllByRecursion IsLeafLine (map (declared text) ls) → AllByRecursion (Facts text) ls
+all_facts text [] h fits sound leaves = tt
+all_facts text (l ∷ ls) h fits sound leaves = (leaf_facts text l h fits (sound.0) (leaves.0), all_facts text ls h fits (sound.1) (leaves.1))
+
+-- the fuel of the declaration is enough for its lines
+size_from : (n : ℕ) (ls : List DeclaredLine) → n + length ls ≤ fold (λ (m : ℕ) (l : DeclaredLine). m + length (line_bytes l) + 1) n ls
+size_from n [] = omega arith
+size_from n (l ∷ ls) =
+    let later : n + length (line_bytes l) + 1 + length ls ≤ fold (λ (m : ℕ) (x : DeclaredLine). m + length (line_bytes x) + 1) (n + length (line_bytes l) + 1) ls = size_from (n + length (line_bytes l) + 1) ls in
+    omega (arith, later)
+
+pub leaves-declared : LeavesAreDeclared
+unfolding blocks_in page_in known_of blocks blocks_of
+leaves-declared text fits plain leaves = record { blocks = ends.blocks; definitions = ends.read ∙ sym ends.declares }
+  where
+    ds : List DeclaredLine
+    ds = declared_lines text
+
+    same : map (declared text) (lines_of text) ≡ ds
+    same = lines_same text plain
+
+    count : length ds ≡ length (lines_of text)
+    count = sym (ap length same) ∙ length-map (lines_of text) (declared text)
+
+    enough : length (lines_of text) ≤ size ds
+    enough = let all : 0 + length ds ≤ size ds = size_from 0 ds in omega (arith, all, count)
+
+    room : 0 + length (lines_of text) + 1 < 2 ^ 64
+    room = omega (arith, lines_few text, fits)
+
+    facts : AllByRecursion (Facts text) (lines_of text)
+    facts = all_facts text (lines_of text) plain fits (lines_sound text plain) (subst (λ (ls : List DeclaredLine). AllByRecursion IsLeafLine ls) (sym same) leaves)
+
+    ends : Ends text (final text (closed [] [] 0 0 0) (lines_of text)) none (blocks_from (size ds) 0 ds)
+    ends = subst (λ (ls : List DeclaredLine). Ends text (final text (closed [] [] 0 0 0) (lines_of text)) none (blocks_from (size ds) 0 ls)) same
+        (read_all text (size ds) 0 (lines_of text) [] [] 0 0 0 none (holds_none text) room enough facts)

@@ -1,0 +1,43 @@
+-- The reader and the declaration say the same of texts without containers.
+use Rattle.std.specs.Prelude.{ℕ, ◌+◌, ◌^◌, ◌<◌, ◌≡◌, Bool, true, false, ◌==◌, ◌||◌, List, length}
+use Rattle.std.specs.List.{AllByRecursion, list_any}
+use Rattle.tocmark_read_scan.specs.declared.syntax.TheConstants.{CORE}
+use Rattle.tocmark_read_blocks.specs.Blocks.{BlocksView, blocks_in}
+use Rattle.tocmark_commonmark.specs.Lines.{Line, line_ink, lines_of}
+use Rattle.tocmark_commonmark.specs.Tree.{Blocks, defined}
+use Rattle.tocmark_commonmark.specs.Beginnings.{Beginning, BlankLine, RuleLine, TextLine, beginning, begins_with}
+use Rattle.tocmark_commonmark.specs.Blocks.{blocks_of}
+use Rattle.tocmark_block_laws.specs.Trees.{told, read_tree}
+
+-- the reader finds these blocks and definitions in a text
+pub record IsRead (text : List ℕ) (read : BlocksView) (declared : Blocks) : Type 0 where
+  pub blocks : read_tree text read ≡ told declared
+  pub definitions : read.definitions ≡ defined declared
+
+-- the reader finds what is declared
+abbrev pub Agrees : List ℕ → Type 0
+Agrees text = IsRead text (blocks_in CORE text) (blocks_of text)
+
+-- a tab, a carriage return or U+0000
+abbrev pub is_special : ℕ → Bool
+is_special b = (b == 9) || (b == 13) || (b == 0)
+
+-- no tab, no carriage return, no U+0000
+abbrev pub IsPlain : List ℕ → Type 0
+IsPlain text = list_any is_special text ≡ false
+
+-- a blank line, a thematic break, or the first line of a paragraph
+abbrev pub is_leaf : Beginning → Bool
+is_leaf BlankLine = true
+is_leaf RuleLine = true
+is_leaf TextLine = true
+is_leaf b = false
+
+-- such a line, which begins with no bracket, and so no definition
+pub record IsLeafLine (l : Line) : Type 0 where
+  pub begins : is_leaf (beginning l) ≡ true
+  pub bracket : begins_with 91 (line_ink l) ≡ false
+
+-- of texts of such lines the reader and the declaration say the same
+abbrev pub LeavesAreDeclared : Type 0
+LeavesAreDeclared = (text : List ℕ) → length text + 3 < 2 ^ 64 → IsPlain text → AllByRecursion IsLeafLine (lines_of text) → Agrees text

@@ -1,3 +1,0 @@
-pub mod Folding
-pub mod Handing
-pub mod Shapes

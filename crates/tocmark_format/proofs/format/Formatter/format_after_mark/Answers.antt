@@ -1,0 +1,16 @@
+use Rattle.std.proofs.Common.{string_bytes, subst, sym}
+use Rattle.tocmark_judge.specs.Alike.{AreAlike}
+use Rattle.tocmark_judge.proofs.Alike.{alike-rest}
+use Rattle.tocmark_judge.proofs.Marking.{marked}
+use Rattle.tocmark_format.proofs.format.Formatter.format_after_mark.Goals as goal
+
+pub returns-clause-mark : goal.returns-clause-mark
+returns-clause-mark g c = marked (string_bytes c.in_ok-text.text) c.as_str.result.now c.in_ok-text.ensures
+
+pub returns-clause-alike : goal.returns-clause-alike
+returns-clause-alike g c =
+    let f = c.args.self.now in
+    let read = g.R.Reader.reading f.judge.reader.now in
+    let defined = g.R.PartReader.definitions f.judge.reader.now in
+    alike-rest f.judge.folds f.judge.flags f.judge.also.now read defined c.args.text.now (string_bytes c.in_ok-text.text) c.as_str.result.now c.in_ok-text.ensures
+    (subst (λ t. AreAlike f.judge.folds f.judge.flags f.judge.also.now read defined t c.args.text.now) (sym c.as_str.ensures.value) c.in_ok-rest.ensures)

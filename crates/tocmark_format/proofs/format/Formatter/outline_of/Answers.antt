@@ -1,5 +1,0 @@
-use Rattle.std.proofs.Common.{[]}
-use Rattle.tocmark_format.proofs.format.Formatter.outline_of.Goals as goal
-
-pub returns : goal.returns
-returns g c = c.in_ok-read_parts.ensures.taken [] c.new-outline.ensures

@@ -1,0 +1,13 @@
+use Rattle.std.proofs.Common.{◌∙◌, string_bytes, sym}
+use Rattle.std.proofs.lemmas.Option.{IfSome_then}
+use Rattle.std.proofs.lemmas.Result.{IfOk-weaker}
+use Rattle.tocmark_judge.proofs.Alike.{same-alike}
+use Rattle.tocmark_format.proofs.format.Formatter.rounds.Goals as goal
+
+pub returns-then-is_same_text : goal.returns-then-is_same_text
+returns-then-is_same_text g c =
+    let f = c.args.self.now in
+    IfOk-weaker c.answered.result _ _
+    (λ answer h. IfSome_then answer h
+    (λ a e. same-alike f.judge.folds f.judge.flags f.judge.also.now (g.R.Reader.reading f.judge.reader.now) (g.R.PartReader.definitions f.judge.reader.now) (string_bytes a.text) c.args.source.now.text.now (e ∙ sym c.as_str.ensures.value ∙ c.is_same_text.ensures c.if-is_same_text.true)))
+    c.answered.ensures

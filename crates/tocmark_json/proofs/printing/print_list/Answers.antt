@@ -1,0 +1,10 @@
+use Rattle.std.proofs.Common.{codes}
+use Rattle.json.specs.Print.{escape_byte}
+use Rattle.tocmark_json.specs.Json.{optional, size_json}
+use Rattle.tocmark_json.proofs.Adding.{tagged_closed}
+use Rattle.tocmark_json.proofs.printing.print_list.Goals as goal
+
+pub returns : goal.returns
+unfolding escape_byte
+returns c =
+    tagged_closed c.push-2.result c.args.out.now.items c.push.new.out.items c.print_first_number.new.out.items c.push-2.new.out.items (codes "List") (optional size_json c.args.start) c.in_ok-push.ensures c.in_ok-print_first_number.ensures c.push-2.ensures

@@ -1,0 +1,5 @@
+pub mod Alike
+pub mod Folding
+pub mod Handing
+pub mod Marking
+pub mod Shapes

@@ -1,0 +1,6 @@
+pub mod Alike
+pub mod LinkDefinitions
+pub mod Marks
+pub mod Same
+pub mod Shape
+pub mod Summaries

@@ -1,0 +1,151 @@
+//! How a document is to look.
+
+ghost use Rattle.std.specs.Prelude.{◌≡◌};
+ghost use Rattle.tocmark_print.specs.Defaults.{usual_style};
+ghost use Rattle.tocmark_print.specs.Fills.{fills};
+
+/// What stands before an item of a bullet list.
+#[derive(Clone, Copy)]
+pub enum Bullet {
+    /// `*`
+    Asterisk,
+    /// `-`
+    Hyphen,
+    /// `+`
+    Plus,
+}
+
+/// What stands behind the number of an item.
+#[derive(Clone, Copy)]
+pub enum Delimiter {
+    /// `.`
+    Period,
+    /// `)`
+    Parenthesis,
+}
+
+/// What stands round emphasis: once for emphasis, twice for strong emphasis.
+#[derive(Clone, Copy)]
+pub enum Marker {
+    /// `*`
+    Asterisk,
+    /// `_`
+    Underscore,
+}
+
+/// What a code fence is made of.
+#[derive(Clone, Copy)]
+pub enum Fence {
+    /// A backtick.
+    Backtick,
+    /// `~`
+    Tilde,
+}
+
+/// The numbers of an ordered list.
+#[derive(Clone, Copy, PartialEq, Eq)]
+pub enum Numbering {
+    /// Each item has its number in the source.
+    Source,
+    /// All are that of the first item.
+    First,
+    /// They count from that of the first item on.
+    Increment,
+}
+
+/// How lines break that aren't joined.
+#[derive(Clone, Copy)]
+pub enum HardBreak {
+    /// As in the source.
+    Source,
+    /// By a backslash.
+    Backslash,
+    /// By two blanks.
+    Blanks,
+}
+
+/// What a thematic break is.
+#[derive(Clone, Copy)]
+pub enum Rule {
+    /// As in the source.
+    Source,
+    /// `---`
+    Dashes,
+}
+
+/// Where the lines of paragraphs break.
+#[derive(Clone, Copy, PartialEq, Eq)]
+pub enum Wrap {
+    /// As in the source.
+    Keep,
+    /// Nowhere: a paragraph is one line, but for its hard breaks.
+    No,
+    /// Lines are filled up to this many columns. A word that is longer has a line of its own.
+    At(usize),
+}
+
+impl Wrap {
+    /// Whether lines are filled, so that they break elsewhere than in the source.
+    pub fn fills(self) -> bool
+        ensures { result ≡ fills self }
+    {
+        match self {
+            Wrap::Keep => false,
+            Wrap::No | Wrap::At(_) => true,
+        }
+    }
+}
+
+/// Where the content of a list's items begins.
+#[derive(Clone, Copy)]
+pub enum ListIndent {
+    /// One blank behind the marker.
+    Marker,
+    /// Four columns behind the marker's front, as Python-Markdown wants it; one blank behind a marker that is longer.
+    Four,
+}
+
+/// How a document is to look. `None` says: as in the source.
+#[derive(Clone, Copy)]
+pub struct Style {
+    /// The bullet of all lists; `None`: each list has that of its first item in the source.
+    pub bullet: Option<Bullet>,
+    /// What stands behind the numbers of all lists; `None`: what stands behind the first one in the source.
+    pub delimiter: Option<Delimiter>,
+    pub numbering: Numbering,
+    pub emphasis: Marker,
+    pub strong: Marker,
+    /// What fences are made of; `None`: each as in the source.
+    pub fence: Option<Fence>,
+    /// The least length of a fence: less than 3 is taken for 3, more than 1,000 for 1,000.
+    pub fence_length: usize,
+    pub hard_break: HardBreak,
+    pub rule: Rule,
+    /// How many columns a table may take. The cells of wider ones aren't padded.
+    pub table_width: usize,
+    pub wrap: Wrap,
+    pub list_indent: ListIndent,
+}
+
+impl Style {
+    /// Bullets, delimiters, numbers, fences and breaks of lines as in the source, asterisks for emphasis, rules of `---`,
+    /// fences of three, one blank behind the markers of items, and tables of 120 columns.
+    pub fn new() -> Style
+        ensures { result ≡ usual_style }
+    {
+        Style {
+            bullet: None,
+            delimiter: None,
+            numbering: Numbering::Source,
+            emphasis: Marker::Asterisk,
+            strong: Marker::Asterisk,
+            fence: None,
+            fence_length: 3,
+            hard_break: HardBreak::Source,
+            rule: Rule::Dashes,
+            table_width: 120,
+            wrap: Wrap::Keep,
+            list_indent: ListIndent::Marker,
+        }
+    }
+}
