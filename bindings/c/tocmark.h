@@ -205,7 +205,8 @@ struct tocmark_style {
 
 /* Formats Markdown. The result parses to the same events under these flags; texts side by side count as one. If `wrap` isn't 0,
  * a soft line break counts as a space, and so does each run of white space. The definitions of links are the same, too. A block
- * that would parse otherwise keeps its lines. If `style` is NULL, all parts of it are the default.
+ * that would parse otherwise keeps its lines. A byte order mark at the front stays there and isn't parsed. If `style` is NULL,
+ * all parts of it are the default.
  *
  * Errors: TOCMARK_NOT_UTF8, TOCMARK_INVALID_STYLE, and TOCMARK_OUT_OF_MEMORY. */
 ptrdiff_t tocmark_format(const uint8_t *text, size_t text_len, uint32_t flags, const struct tocmark_style *style, uint8_t *out,

@@ -6,6 +6,7 @@ import json
 import os
 import pickle
 import stat
+import struct
 import subprocess
 import sys
 import tempfile
@@ -15,7 +16,7 @@ import unittest
 from unittest import mock
 
 import tocmark
-from tocmark import _mdbook
+from tocmark import _mdbook, _program
 from tocmark._calls import _dumped
 
 HERE = os.path.dirname(os.path.realpath(__file__))
@@ -24,6 +25,13 @@ PARAGRAPH = [{"Start": "Paragraph"}, {"Text": "a"}, {"End": "Paragraph"}]
 FRONT = "---\ntitle:   x\n---\n\n"
 # What no writer would write so.
 ODD = FRONT + "*  a [b](/old) &eacute;\n\n\n|c|\n|-|\n|~~d~~|\n\n> [!NOTE]\n>  e[^1]\n\n[^1]:  f\n\n\nNotes\n=====\n"
+
+
+def has_program():
+    try:
+        return bool(_program.program())
+    except FileNotFoundError:
+        return False
 
 
 def load_tests(loader, tests, pattern):
@@ -285,6 +293,56 @@ class Rewriting(unittest.TestCase):
         found = tocmark.edit(ODD, lambda event: {"Text": "g"} if event == {"Text": "f"} else event)
         self.assertEqual(found, ODD.replace("[^1]:  f", "[^1]:  g"))
 
+    def test_a_change_returns_one_event_or_several(self):
+        heading, end = {"Start": {"Heading": {"level": "H1", "id": None, "classes": [], "attrs": []}}}, {"End": {"Heading": "H1"}}
+        source = "# a\n\n*  b\n"
+        pairs = tocmark.read("**n**")
+        for new in (pairs, [event for event, _ in pairs], tocmark.tree(pairs)):
+            self.assertEqual(tocmark.edit(source, lambda event: [event, *new] if event == end else None), "# a\n\n**n**\n\n*  b\n")
+            self.assertEqual(tocmark.edit(source, lambda event: [*new, event] if event == heading else None), "**n**\n\n# a\n\n*  b\n")
+        self.assertEqual(tocmark.edit(source, lambda event: tocmark.tree("Rule")[0] if event == {"Text": "b"} else None)
+                         if False else tocmark.edit("a\n\n---\n\nb\n", lambda event: tocmark.tree(pairs)[0] if event == "Rule" else None),
+                         "a\n\n**n**\n\nb\n")
+
+    def test_a_change_removes_events(self):
+        self.assertEqual(tocmark.edit("*a* **b** c\n", lambda event: [] if event == {"Start": "Emphasis"} else None), "a **b** c\n")
+        self.assertEqual(tocmark.edit("a\n\n---\n\nb\n", lambda event: [] if event == "Rule" else None), "a\n\nb\n")
+        self.assertEqual(tocmark.edit("a **b**\n", lambda event: [] if event == {"Text": "a "} else None), "**b**\n")
+
+    def test_a_start_becomes_several(self):
+        def both(event):
+            return [{"Start": "Strong"}, {"Start": "Emphasis"}] if event == {"Start": "Emphasis"} else None
+
+        # ***b*** would be strong emphasis in emphasis.
+        self.assertEqual(tocmark.edit("a *b* c\n", both), "a __*b*__ c\n")
+
+    def test_a_range_may_be_two_numbers(self):
+        source = "*  a\n"
+        for make in (tuple, list):
+            events = [(event, make((place.start, place.stop))) for event, place in tocmark.read(source)]
+            self.assertEqual(tocmark.rewrite(source, events), source)
+            self.assertEqual(tocmark.write(events, source), "* a")
+            self.assertEqual(tocmark.tree(events, source)[0].range, range(0, 4))
+
+    def test_errors_name_the_key_and_what_is_wanted(self):
+        link = {"link_type": "Inline", "dest_url": "a", "title": "", "id": ""}
+        heading = {"level": "H1", "id": None, "classes": [], "attrs": []}
+        for event, said in (("Rul", "event: expected an event, by its name or as an object with its name as the only key"),
+                            ({"Text": 1}, "Text: expected a string"),
+                            ({"Start": {"Heading": {**heading, "level": "H7"}}}, "level: expected a level, H1 to H6"),
+                            ({"Start": {"Heading": {**heading, "attrs": [["a"]]}}}, "attrs: expected an array of two, a string and a string or null"),
+                            ({"Start": {"Link": {**link, "more": 1}}}, "Link: expected an object with the keys link_type, dest_url, title and id alone"),
+                            ({"Start": {"Link": {**link, "link_type": "x"}}}, "link_type: expected a type of link, as Inline"),
+                            ({"End": "x"}, "End: expected a container's end, by its name or as an object with its name as the only key"),
+                            ({"Start": {"List": -1}}, "List: expected null, or a whole number from 0 to 18446744073709551615"),
+                            (("Rule", (0,)), "range: expected a range, two numbers or None"),
+                            (("Rule", range(-1, 2)), "range: expected twice a whole number from 0 to 18446744073709551615"),
+                            (("Rule", None, 1), "pair: expected an array of two, an event and its range")):
+            for call in (tocmark.write, lambda events: tocmark.rewrite("---\n", events)):
+                with self.assertRaises(tocmark.NotEvents) as caught:
+                    call(["Rule", event])
+                self.assertEqual((str(caught.exception), caught.exception.event), (f"event 1: {said}", 1), event)
+
     def test_extensions_may_be_an_iterator(self):
         self.assertEqual(tocmark.edit("$a$\n", lambda event: None, extensions=iter(["math"])), "$a$\n")
 
@@ -431,7 +489,7 @@ class Formatting(unittest.TestCase):
             tocmark.format("a", wrap=0)
         with self.assertRaisesRegex(ValueError, "marker or 4, and not 2"):
             tocmark.format("a", list_indent=2)
-        with self.assertRaises(TypeError):
+        with self.assertRaisesRegex(TypeError, r"^format\(\) got an unexpected keyword argument 'bulet'$"):
             tocmark.format("a", bulet="-")
 
     def test_lines_are_filled(self):
@@ -448,6 +506,7 @@ class Formatting(unittest.TestCase):
                 self.assertEqual(merged(tocmark.read(found, syntax="all")), merged(tocmark.read(text, syntax="all")), text)
 
 
+@unittest.skipUnless(has_program(), "tocmark-format is neither built nor installed")
 class Files(unittest.TestCase):
     def setUp(self):
         folder = tempfile.TemporaryDirectory()
@@ -477,6 +536,34 @@ class Files(unittest.TestCase):
         self.assertFalse(tocmark.format_file(self.path))
         self.assertEqual(os.stat(self.path).st_ino, number)
 
+    def test_a_configuration_counts(self):
+        self.put(".tocmark.toml", 'bullet = "-"\nexclude = ["b.md"]\n')
+        other = self.put("b.md", "*  a\n")
+        self.assertEqual([tocmark.format_file(it) for it in (self.path, other)], [True, False])
+        self.assertTrue(tocmark.format_file(self.path, bullet="+", syntax="commonmark", extensions=["tables"], also_read="gfm"))
+        self.put(".tocmark.toml", "bulet = 1\n")
+        with self.assertRaisesRegex(tocmark.InvalidStyle, "bulet"):
+            tocmark.format_file(self.path)
+        os.unlink(os.path.join(self.folder, ".tocmark.toml"))
+        self.has(self.path, "+ a\r\n")
+        self.has(other, "*  a\n")
+
+    def test_wrong_arguments(self):
+        for wrong, fault in (({"bullet": "x"}, tocmark.InvalidStyle), ({"syntax": "x"}, ValueError), ({"extensions": "tables"}, TypeError),
+                             ({"also": "x"}, ValueError), ({"wrap": 0}, ValueError), ({"bulet": "-"}, TypeError)):
+            with self.assertRaises(fault):
+                tocmark.format_file(self.path, **wrong)
+        self.has(self.path, "*  a\r\n")
+
+    def test_the_program_is_found(self):
+        with mock.patch.dict(os.environ, TOCMARK_FORMAT="/bin/cat"), self.assertRaisesRegex(FileNotFoundError, "/bin/cat, which isn't"):
+            tocmark.format_file(self.path)
+        with mock.patch.dict(os.environ, TOCMARK_FORMAT=""), mock.patch.object(_program, "_places", return_value=iter([])):
+            _program._find.cache_clear()
+            with self.assertRaisesRegex(FileNotFoundError, "neither in this package nor on PATH"):
+                tocmark.format_file(self.path)
+        _program._find.cache_clear()
+
     def test_a_link_is_followed(self):
         link = os.path.join(self.folder, "link.md")
         os.symlink("a.md", link)
@@ -497,6 +584,79 @@ class Files(unittest.TestCase):
             file.write(b"caf\xe9\n")
         with self.assertRaises(UnicodeDecodeError):
             tocmark.format_file(self.path)
+
+    def swap_at_sync(self, swap):
+        """Formats the file while this is done before the new one is renamed over it."""
+        with mock.patch("os.fsync", side_effect=lambda _: swap()):
+            tocmark.format_file(self.path)
+
+    def test_a_name_that_is_swapped_leads_nowhere(self):
+        victim = os.path.join(self.folder, "victim")
+        self.put("victim", "secret\n")
+        os.chmod(victim, 0o600)
+
+        def swap():
+            for name in os.listdir(self.folder):
+                if name.endswith(".tocmark"):
+                    os.unlink(os.path.join(self.folder, name))
+                    os.symlink("victim", os.path.join(self.folder, name))
+
+        with self.assertRaisesRegex(OSError, "meanwhile"):
+            self.swap_at_sync(swap)
+        self.has(victim, "secret\n")
+        self.has(self.path, "*  a\r\n")
+        self.assertEqual(stat.S_IMODE(os.stat(victim).st_mode), 0o600)
+        self.assertEqual(sorted(os.listdir(self.folder)), ["a.md", "victim"])
+
+    def test_another_file_of_the_name_stays(self):
+        def swap():
+            os.rename(self.path, self.path + ".old")
+            self.put("a.md", "*  a\r\n")
+
+        with self.assertRaisesRegex(OSError, "meanwhile"):
+            self.swap_at_sync(swap)
+        self.has(self.path, "*  a\r\n")
+
+    def test_another_folder_of_the_name_stays(self):
+        inner, other = os.path.join(self.folder, "inner"), os.path.join(self.folder, "other")
+        for folder in (inner, other):
+            os.mkdir(folder)
+            self.put(os.path.join(folder, "a.md"), "*  a\r\n")
+        self.path = os.path.join(inner, "a.md")
+
+        def swap():
+            os.rename(inner, inner + ".old")
+            os.symlink("other", inner)
+
+        self.swap_at_sync(swap)
+        self.has(os.path.join(other, "a.md"), "*  a\r\n")
+        self.has(os.path.join(inner + ".old", "a.md"), "* a\r\n")
+
+    def test_a_read_only_file_stays(self):
+        os.chmod(self.path, 0o444)
+        with self.assertRaisesRegex(PermissionError, "read-only"):
+            tocmark.format_file(self.path)
+        self.assertTrue(tocmark.format_file(self.path, check=True))
+        self.has(self.path, "*  a\r\n")
+
+    def test_an_access_control_list_stays(self):
+        def entries(*entries):
+            return struct.pack("<I", 2) + b"".join(struct.pack("<HHI", *entry) for entry in entries)
+
+        nobody = 0xFFFFFFFF
+        wanted = entries((1, 6, nobody), (2, 6, 1235), (4, 0, nobody), (0x10, 6, nobody), (0x20, 0, nobody))
+        try:
+            os.setxattr(self.path, "system.posix_acl_access", wanted)
+            os.setxattr(self.folder, "system.posix_acl_default", entries((1, 7, nobody), (2, 7, 1236), (4, 7, nobody), (0x10, 7, nobody), (0x20, 7, nobody)))
+        except OSError as fault:
+            self.skipTest(f"no access control lists here: {fault}")
+        self.assertTrue(tocmark.format_file(self.path))
+        self.assertEqual(os.getxattr(self.path, "system.posix_acl_access"), wanted)
+        os.removexattr(self.path, "system.posix_acl_access")
+        os.chmod(self.path, 0o640)
+        self.put("a.md", "*  a\r\n")
+        self.assertTrue(tocmark.format_file(self.path))
+        self.assertNotIn("system.posix_acl_access", os.listxattr(self.path))
 
 
 class Commands(unittest.TestCase):
@@ -522,23 +682,24 @@ class Commands(unittest.TestCase):
         with open(self.path, encoding="utf-8") as file:
             self.assertEqual(file.read(), ODD.replace("/old", "/new"))
         self.assertEqual(self.run_module("write", "--check-document", given='["Rule"]'), "---\n")
+        short = "|a|b|\n|-|-|\n|1|\n"
+        self.assertEqual([event for event, _ in json.loads(self.run_module("read", given=short))], [event for event, _ in tocmark.read(short)])
         self.run_module("rewrite", "--source", self.path, given='["Rule", 1]', status=1)
-        self.assertEqual(self.said, "tocmark: event 1: the JSON is not that of events\n")
+        self.assertEqual(self.said, "tocmark: event 1: event: expected an event, by its name or as an object with its name as the only key\n")
         for wrong in ("[", "[" * 100_000):
             self.run_module("write", given=wrong, status=1)
             self.assertTrue(self.said.startswith("tocmark: "), self.said[:100])
 
+    @unittest.skipUnless(has_program(), "tocmark-format is neither built nor installed")
     def test_formatting(self):
-        self.assertEqual(self.run_module("format", "--bullet", "-", given="*  a"), "- a\n")
-        for ordered, also in (("--ordered", "--also-read"), ("--delimiter", "--also")):
-            self.assertEqual(self.run_module("format", ordered, ")", also, "commonmark", given="1.  a"), "1) a\n")
-        self.assertEqual(self.run_module("format", "--check", given="*  a", status=1), "")
-        self.assertEqual(self.run_module("format", "--check", given="* a\n"), "")
-        self.assertEqual(self.run_module("format", "--check", self.path, status=1), self.path + "\n")
-        self.assertEqual(self.run_module("format", self.path), "")
-        self.assertEqual(self.run_module("format", "--check", self.path), "")
-        self.run_module("format", self.path + "x", status=1)
-        self.assertIn("a.mdx: ", self.said)
+        for words, given in ((["--bullet", "-"], "*  a"), (["--check", self.path], ""), (["--check", "--diff", "."], ""), (["--bulet"], ""),
+                             (["--help"], ""), (["--verbose", self.path], ""), (["--check", self.path], ""), ([self.path + "x"], "")):
+            done = subprocess.run([_program.program(), *words], input=given.encode(), capture_output=True, check=False)
+            if words[0] == "--verbose":
+                with open(self.path, "w", encoding="utf-8") as file:
+                    file.write(ODD)
+            self.assertEqual(self.run_module("format", *words, given=given, status=done.returncode), done.stdout.decode())
+            self.assertEqual(self.said, done.stderr.decode())
 
     def test_arguments(self):
         for words in ([], ["nothing"], ["read", "--syntax", "x"], ["rewrite"], ["mdbook"], ["mdbook", "--"], ["mdbook", "x", "--", "cat"]):
@@ -560,12 +721,12 @@ class Books(unittest.TestCase):
     def lowered(self, text):
         return text.replace("# é", "## é").replace("b\\n=\\n", "b\\n-\\n").replace("## d", "### d")
 
-    def run_main(self, words, given, change=lower):
+    def run_main(self, words, given, change=lower, **wishes):
         output = mock.Mock(buffer=io.BytesIO())
         said = io.StringIO()
         with mock.patch.multiple(sys, argv=["x", *words], stdin=mock.Mock(buffer=io.BytesIO(given.encode())), stdout=output,
                                  stderr=said), self.assertRaises(SystemExit) as caught:
-            tocmark.mdbook(change)
+            tocmark.mdbook(change, **wishes)
         return caught.exception.code, output.buffer.getvalue().decode(), said.getvalue()
 
     def test_each_chapter_is_changed_and_nothing_else(self):
@@ -574,6 +735,31 @@ class Books(unittest.TestCase):
         self.assertEqual(written, self.lowered(json.dumps(self.book, ensure_ascii=False)))
         newer = json.dumps([{}, {"items": self.book["sections"]}])
         self.assertEqual(json.loads(self.run_main([], newer)[1])["items"], json.loads(written)["sections"])
+
+    def test_a_whole_chapter_is_changed(self):
+        def note(events, chapter):
+            if chapter.name == "b":
+                events.clear()
+                return None
+            return [*tocmark.read(f"{chapter.path} {chapter.context['renderer']} {len(chapter.source)}"), *events]
+
+        status, written, said = self.run_main([], self.given, None, chapter=note)
+        self.assertEqual((status, said), (0, ""))
+        a, b = json.loads(written)["sections"][0]["Chapter"], json.loads(written)["sections"][0]["Chapter"]["sub_items"][0]["Chapter"]
+        self.assertEqual(a["content"], "a.md html 11\n\n# é\n\n\n*  a\n")
+        self.assertEqual(b["content"], "")
+        for wrong in ({}, {"change": lower, "chapter": note}):
+            with self.assertRaisesRegex(TypeError, "either change or chapter"):
+                tocmark.mdbook(**wrong)
+
+    def test_a_command_knows_the_chapter_and_the_book(self):
+        script = ("import json, os, sys; pairs = json.load(sys.stdin); context = json.loads(os.environ['TOCMARK_MDBOOK']); "
+                  "json.dump([*pairs, *[[event, None] for event in ({'Start': 'Paragraph'}, "
+                  "{'Text': os.environ['TOCMARK_FILE'] + ' ' + context['renderer']}, {'End': 'Paragraph'})]], sys.stdout)")
+        command = [sys.executable, "-m", "tocmark", "mdbook", "--", sys.executable, "-c", script]
+        short = json.dumps([{"renderer": "html"}, {"items": [chapter("a", "|a|b|\n|-|-|\n|1|\n")]}])
+        done = subprocess.run(command, input=short.encode(), capture_output=True, check=True)
+        self.assertEqual(json.loads(done.stdout)["items"][0]["Chapter"]["content"], "|a|b|\n|-|-|\n|1|\n\na.md html\n")
 
     def test_renderers(self):
         self.assertEqual(self.run_main(["supports", "html"], ""), (0, "", ""))

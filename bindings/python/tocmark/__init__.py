@@ -27,14 +27,14 @@ from ._calls import edit, format, read, rewrite, write
 from ._errors import (Changed, Error, InvalidOptions, InvalidSourceRange, InvalidStyle, NotEvents, UnexpectedEvent,
                       Unrepresentable)
 from ._files import format_file
-from ._mdbook import mdbook
+from ._mdbook import Chapter, mdbook
 from ._options import EXTENSIONS, SYNTAXES
 from ._tree import Node, position_of, text_of, tree, walk
 from .events import Event, Placed
 
 __version__ = "0.1.0"
 __all__ = [
-    "EXTENSIONS", "SYNTAXES", "Changed", "Error", "Event", "InvalidOptions", "InvalidSourceRange", "InvalidStyle", "Node",
+    "EXTENSIONS", "SYNTAXES", "Changed", "Chapter", "Error", "Event", "InvalidOptions", "InvalidSourceRange", "InvalidStyle", "Node",
     "NotEvents", "Placed", "UnexpectedEvent", "Unrepresentable", "edit", "format", "format_file", "mdbook", "position_of",
     "read", "rewrite", "text_of", "tree", "walk", "write"]
 for _error in (Changed, Error, InvalidOptions, InvalidSourceRange, InvalidStyle, NotEvents, UnexpectedEvent, Unrepresentable):

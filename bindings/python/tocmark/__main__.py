@@ -1,13 +1,15 @@
 """`python -m tocmark`: formats files, and gives filters their events."""
 import argparse
 import json
+import os
 import subprocess
 import sys
-from typing import Any, List, Optional
+from typing import Any, List, NoReturn, Optional
 
-from . import Error, __version__, _mdbook, format, read, rewrite, write
-from ._files import format_file, read_file, replace_file
+from . import Error, __version__, _mdbook, read, rewrite, write
+from ._files import read_file, replace_file
 from ._options import EXTENSIONS, SYNTAXES
+from ._program import program
 
 
 def _syntax_of(words: argparse.Namespace) -> Any:
@@ -23,36 +25,16 @@ def _print(text: str) -> None:
     sys.stdout.buffer.flush()
 
 
-def _word_or_number(word: str) -> int | str:
-    return int(word) if word.isdecimal() else word
-
-
 def _json_of(text: str, words: argparse.Namespace) -> str:
     pairs = read(text, **_syntax_of(words))
-    return json.dumps([[event, place and {"start": place.start, "end": place.stop}] for event, place in pairs],
+    return json.dumps([[event, None if place is None else {"start": place.start, "end": place.stop}] for event, place in pairs],
                       ensure_ascii=False)
 
 
-def _format(words: argparse.Namespace) -> int:
-    style = {name: value for name in ("bullet", "ordered", "numbering", "emphasis", "strong", "fence", "hard_break", "rule",
-                                      "fence_length", "table_width", "wrap", "list_indent") if (value := getattr(words, name)) is not None}
-    if not words.file:
-        text = _read_input()
-        formatted = format(text, also_read=words.also_read, **style, **_syntax_of(words))
-        if words.check:
-            return int(formatted != text)
-        _print(formatted)
-        return 0
-    status = 0
-    for path in words.file:
-        try:
-            if format_file(path, check=words.check, also_read=words.also_read, **style, **_syntax_of(words)) and words.check:
-                print(path)
-                status = 1
-        except (OSError, UnicodeDecodeError, Error) as error:
-            print(f"tocmark: {path}: {error}", file=sys.stderr)
-            status = 1
-    return status
+def _format(arguments: List[str]) -> NoReturn:
+    """Becomes tocmark-format."""
+    place = program()
+    os.execv(place, ["tocmark-format", *arguments])
 
 
 def _read(words: argparse.Namespace) -> int:
@@ -76,15 +58,17 @@ def _rewrite(words: argparse.Namespace) -> int:
     return 0
 
 
-def _filtered(text: str, words: argparse.Namespace) -> str:
-    """Returns a text whose events the command has changed."""
-    done = subprocess.run(words.command, input=_json_of(text, words).encode(), stdout=subprocess.PIPE, check=True)
-    return rewrite(text, json.loads(done.stdout), **_syntax_of(words))
+def _filtered(chapter: _mdbook.Chapter, words: argparse.Namespace) -> str:
+    """Returns the text of a chapter whose events the command has changed."""
+    names = {"TOCMARK_FILE": chapter.path or "", "TOCMARK_MDBOOK": json.dumps(chapter.context)}
+    done = subprocess.run(words.command, input=_json_of(chapter.source, words).encode(), stdout=subprocess.PIPE, check=True,
+                          env={**os.environ, **names})
+    return rewrite(chapter.source, json.loads(done.stdout), **_syntax_of(words))
 
 
 def _mdbook_by_command(words: argparse.Namespace) -> int:
     asked = words.command[-2:] if words.command[-2:-1] == ["supports"] else []
-    return _mdbook.preprocess(asked, lambda text: _filtered(text, words))
+    return _mdbook.preprocess(asked, lambda chapter: _filtered(chapter, words))
 
 
 def _add_syntax(parser: argparse.ArgumentParser, *extensions: str) -> None:
@@ -98,19 +82,7 @@ def _parser() -> argparse.ArgumentParser:
     parser.add_argument("--version", action="version", version=f"tocmark {__version__}")
     commands = parser.add_subparsers(required=True, metavar="COMMAND")
 
-    one = commands.add_parser("format", help="format files in place, or standard input to standard output")
-    one.add_argument("file", nargs="*", metavar="FILE")
-    one.add_argument("--check", action="store_true", help="write nothing; name the files that would change, with status 1")
-    for name in ("bullet", "numbering", "emphasis", "strong", "fence", "hard-break", "rule"):
-        one.add_argument(f"--{name}", help="see the function format")
-    one.add_argument("--ordered", "--delimiter", metavar="DELIMITER", help="see the function format")
-    for name in ("fence-length", "table-width"):
-        one.add_argument(f"--{name}", type=int, metavar="N", help="see the function format")
-    for name in ("wrap", "list-indent"):
-        one.add_argument(f"--{name}", type=_word_or_number, metavar="WORD|N", help="see the function format")
-    one.add_argument("--also-read", "--also", action="append", default=[], choices=list(SYNTAXES),
-                     help="keep the blocks that this syntax has, too; repeatable")
-    one.set_defaults(run=_format)
+    commands.add_parser("format", help="format files and folders: the program tocmark-format, with its arguments")
 
     one = commands.add_parser("read", help="print the events of a file or of standard input as JSON")
     one.add_argument("file", nargs="?", metavar="FILE")
@@ -125,8 +97,8 @@ def _parser() -> argparse.ArgumentParser:
     one.add_argument("--source", metavar="FILE", required=True, help="the file")
     one.add_argument("--in-place", action="store_true", help="replace the file")
     one.set_defaults(run=_rewrite)
-    for each in commands.choices.values():
-        _add_syntax(each)
+    for name in ("read", "write", "rewrite"):
+        _add_syntax(commands.choices[name])
 
     one = commands.add_parser("mdbook", help="be a preprocessor of mdBook: COMMAND changes the events of each chapter",
                               usage="python -m tocmark mdbook [--syntax NAME] [--extension NAME].. -- COMMAND [ARG..]")
@@ -136,9 +108,16 @@ def _parser() -> argparse.ArgumentParser:
 
 
 def main(arguments: Optional[List[str]] = None) -> int:
-    """Runs a command, and returns the status: 0 after success, 1 after an error, 2 for wrong arguments."""
+    """Runs a command, and returns the status: 0 after success, 1 after an error, 2 for wrong arguments. `format` doesn't return:
+    tocmark-format takes the place of the process."""
     given = list(sys.argv[1:] if arguments is None else arguments)
     parser, command = _parser(), []
+    if given[:1] == ["format"]:
+        try:
+            _format(given[1:])
+        except OSError as error:
+            print(f"tocmark: {error}", file=sys.stderr)
+            return 2
     if given[:1] == ["mdbook"] and "--" in given:
         at = given.index("--")
         given, command = given[:at], given[at + 1:]

@@ -1,22 +1,24 @@
 """Reading, writing, rewriting and formatting texts."""
+import ctypes
 import gc
 import json
 import marshal
 import sys
-from typing import TYPE_CHECKING, Any, Callable, Iterable, List, Optional, Sequence, Tuple, Union
+from typing import TYPE_CHECKING, Any, Callable, Iterable, Iterator, List, Optional, Sequence, Tuple, Union
 
 from . import _library
 from ._errors import NotEvents, error_of
+from ._faults import fault_of
 from ._options import flags_of, flags_of_each, options_of, style_of
-from .events import Change, Event, Options, Placed, Style
+from .events import Change, Event, Found, Options, Placed, Style
 
 if sys.version_info >= (3, 11):
     from typing import Unpack
 elif TYPE_CHECKING:
     from typing_extensions import Unpack
 
-#: An event alone, or with its range in bytes or `None`.
-Given = Union[Event, Tuple[Event, Union[range, None]], Sequence[Any]]
+#: An event alone, or with its range in bytes, two numbers or `None`.
+Given = Union[Event, Tuple[Event, Union[range, Tuple[int, int], None]], Sequence[Any]]
 
 
 def encoded(name: str, text: str) -> bytes:
@@ -33,15 +35,19 @@ def _text(code: int, text: bytes) -> str:
     return text.decode()
 
 
-def _placed(function: Any, data: bytes, source: bytes, flags: int, options: bytes, guess: int) -> str:
-    """Returns the text of a call that says where an error is, or raises the exception of its code."""
-    place = _library.Place(size=_library.ctypes.sizeof(_library.Place))
+def _placed(function: Any, data: bytes, source: bytes, flags: int, options: bytes, guess: int, items: List[Any]) -> str:
+    """Returns the text of a call over these events that says where an error is, or raises the exception of its code."""
+    place = _library.Place(size=ctypes.sizeof(_library.Place))
     code, text = _library.answer(function, data, len(data), source, len(source), flags, options, len(options), place,
                                  guess=guess)
     if code >= 0:
         return text.decode()
     lines = (place.first_line, place.last_line) if place.first_line else None
-    raise error_of(code, place.event if place.event <= len(data) else None, lines)
+    event = place.event if place.event <= len(data) else None
+    error = error_of(code, event, lines)
+    if isinstance(error, NotEvents) and event is not None and event < len(items):
+        error = NotEvents(code, event, lines, cause=fault_of(items[event]) or None)
+    raise error
 
 
 def _place_of(place: Any) -> Any:
@@ -52,6 +58,15 @@ def _place_of(place: Any) -> Any:
 
 
 _ENCODER = json.JSONEncoder(ensure_ascii=False, separators=(",", ":"), check_circular=False, allow_nan=False, default=_place_of)
+
+
+def with_range(item: Any) -> Any:
+    """Returns an element of a list of events as a pair of the event and its `range`, or `None` if it has none."""
+    if not isinstance(item, (tuple, list)):
+        return item, None
+    if len(item) == 2 and isinstance(item[1], (tuple, list)) and [*map(type, item[1])] == [int, int]:
+        return item[0], range(*item[1])
+    return item
 
 
 def listed(events: Iterable[Given]) -> List[Any]:
@@ -74,7 +89,7 @@ def _first_wrong(items: List[Any]) -> int:
 def _json_of(items: List[Any]) -> bytes:
     """Returns the JSON of events. If one has a range, each has one or `None`."""
     if any(isinstance(item, (tuple, list)) for item in items):
-        items = [item if isinstance(item, (tuple, list)) else (item, None) for item in items]
+        items = [with_range(item) for item in items]
     try:
         text = _ENCODER.encode(items)
     except (TypeError, ValueError) as error:
@@ -116,18 +131,18 @@ def _dumped(items: List[Any]) -> Optional[bytes]:
         return None
 
 
-def _parsed(text: str) -> List[Placed]:
+def _parsed(text: str) -> List[Found]:
     """Returns the events of a JSON text."""
     return [(event, range(place["start"], place["end"])) for event, place in json.loads(text)]
 
 
-def _loaded(data: Any) -> List[Placed]:
+def _loaded(data: Any) -> List[Found]:
     """Returns the events of bytes for `marshal.loads`, which may have others behind them. `tocmark.h` has their form."""
     _, events, starts, ends = marshal.loads(data)
     return list(zip(events, map(range, starts, ends)))
 
 
-def _uncollected(make: Callable[[Any], List[Placed]], data: Any) -> List[Placed]:
+def _uncollected(make: Callable[[Any], List[Found]], data: Any) -> List[Found]:
     """Makes events. Meanwhile Python doesn't look for garbage: it would walk through them many times."""
     was_enabled = gc.isenabled()
     gc.disable()
@@ -138,7 +153,7 @@ def _uncollected(make: Callable[[Any], List[Placed]], data: Any) -> List[Placed]
             gc.enable()
 
 
-def _read(data: bytes, flags: int) -> List[Placed]:
+def _read(data: bytes, flags: int) -> List[Found]:
     """Returns the events of a text, by way of JSON if its bytes for `marshal.loads` are too long or can't be loaded."""
     size, room = _library.filled(_library.read_marshal, data, len(data), flags, guess=9 * len(data) + 4096)
     if size >= 0:
@@ -150,7 +165,7 @@ def _read(data: bytes, flags: int) -> List[Placed]:
     return _uncollected(_parsed, found)
 
 
-def read(text: str, *, syntax: str = "gfm", extensions: Iterable[str] = ()) -> List[Placed]:
+def read(text: str, *, syntax: str = "gfm", extensions: Iterable[str] = ()) -> List[Found]:
     """Returns the events of a Markdown text, each with its range in bytes of the text's UTF-8.
 
     `syntax` is "gfm", "commonmark" or "all". `extensions` are names of `EXTENSIONS` to add, or to remove with `no-` in front.
@@ -193,12 +208,12 @@ def write(events: Iterable[Given], source: str = "", *, syntax: str = "gfm", ext
     data = None if check_document else _dumped(items)
     if data is not None:
         try:
-            return _placed(_library.write_marshal, data, over, flags, chosen, len(data) + 256)
+            return _placed(_library.write_marshal, data, over, flags, chosen, len(data) + 256, items)
         except NotEvents:
             pass  # JSON has more values, such as tuples and great numbers, and its error names the event.
     data = _json_of(items)
     function = _library.write_checked if check_document else _library.write_json
-    return _placed(function, data, over, flags, chosen, len(data) + 256)
+    return _placed(function, data, over, flags, chosen, len(data) + 256, items)
 
 
 def rewrite(source: str, events: Iterable[Given], *, syntax: str = "gfm", extensions: Iterable[str] = (),
@@ -223,9 +238,10 @@ def rewrite(source: str, events: Iterable[Given], *, syntax: str = "gfm", extens
 
     Raises what `write` does.
     """
-    over, data = encoded("source", source), _json_of(listed(events))
+    over, items = encoded("source", source), listed(events)
+    data = _json_of(items)
     chosen, flags = options_of(options), flags_of(syntax, extensions)
-    return _placed(_library.rewrite, data, over, flags, chosen, len(over) + 4096)
+    return _placed(_library.rewrite, data, over, flags, chosen, len(over) + 4096, items)
 
 
 def end_of(tag: Any) -> Any:
@@ -244,27 +260,51 @@ def _is(event: Any, name: str) -> bool:
     return isinstance(event, dict) and name in event
 
 
+def _events_in(answer: Any) -> Iterator[Any]:
+    """Yields the events of what a change returned: of an event, a pair of `read`, a node, or a list of these."""
+    for item in answer if isinstance(answer, list) else [answer]:
+        if hasattr(item, "events"):
+            yield from (event for event, _ in item.events())
+        else:
+            yield item[0] if isinstance(item, tuple) else item
+
+
+def _note_ends(events: List[Any], ends: List[Any]) -> None:
+    """Adds the Ends that close what events open, and takes away those of what they close."""
+    for event in events:
+        if _is(event, "Start"):
+            ends.append({"End": end_of(event["Start"])})
+        elif _is(event, "End") and ends:
+            ends.pop()
+
+
 def changed(events: Iterable[Placed], change: Change) -> List[Event]:
     """Returns the events with each one changed. An End that `change` leaves alone closes what its Start has become."""
     found: List[Event] = []
-    ends: List[Any] = []
+    open_ends: List[List[Any]] = []
     for event, _ in events:
-        before = repr(event) if _is(event, "End") else ""
+        is_start, is_end = _is(event, "Start"), _is(event, "End")
+        before = repr(event) if is_end else ""
         answer = change(event)
-        event = event if answer is None else answer
-        if _is(event, "Start"):
-            ends.append(end_of(event["Start"]))  # type: ignore[index,typeddict-item]
-        elif _is(event, "End") and ends:
-            end = ends.pop()
-            event = {"End": end} if repr(event) == before else event
-        found.append(event)
+        given: List[Any] = [event] if answer is None else list(_events_in(answer))
+        if is_end:
+            ends = open_ends.pop() if open_ends else []
+            is_alone = not isinstance(answer, list)
+            given = [each for it in given
+                     for each in (reversed(ends) if (is_alone or it is event) and repr(it) == before else [it])]
+        found.extend(given)
+        if is_start:
+            ends = []
+            _note_ends(given, ends)
+            open_ends.append(ends)
     return found
 
 
 def edit(source: str, change: Change, *, syntax: str = "gfm", extensions: Iterable[str] = (),
          **options: "Unpack[Options]") -> str:
     """Returns the source with each event changed, as `rewrite` does. `change` edits an event in place and returns `None`, or
-    returns another event. An End follows its Start, so you needn't change it.
+    returns what replaces it: an event, or a list of events, pairs of `read` and nodes of `tree`; `[]` removes it. An End follows
+    its Start, so you needn't change it: if a Start is removed, its End goes, too, and what is between them stays.
 
     >>> import tocmark
     >>> def lower(event):
@@ -273,6 +313,13 @@ def edit(source: str, change: Change, *, syntax: str = "gfm", extensions: Iterab
     ...             heading["level"] = f"H{min(int(heading['level'][1]) + 1, 6)}"
     >>> tocmark.edit("a\\n=\\n\\n*  b\\n", lower)
     'a\\n-\\n\\n*  b\\n'
+    >>> note = tocmark.read("**New**")
+    >>> tocmark.edit("# a\\n\\nb\\n", lambda event: [event, *note] if event == {"End": {"Heading": "H1"}} else None)
+    '# a\\n\\n**New**\\n\\nb\\n'
+    >>> tocmark.edit("*a* b\\n", lambda event: [] if event == {"Start": "Emphasis"} else None)
+    'a b\\n'
+
+    To move or count whole blocks, change the nodes of `tree` and pass their events to `rewrite`.
 
     Raises what `rewrite` does.
     """
@@ -307,6 +354,9 @@ def format(text: str, *, syntax: str = "gfm", extensions: Iterable[str] = (), al
 
     Raises `InvalidStyle`; `ValueError` for another name or number; `UnicodeEncodeError` as `read`; `MemoryError`.
     """
+    for name in style:
+        if name not in Style.__annotations__:
+            raise TypeError(f"format() got an unexpected keyword argument {name!r}")
     data, others = encoded("text", text), flags_of_each(also_read, also)
     return _text(*_library.answer(_library.format_text, data, len(data), flags_of(syntax, extensions), others, len(others),
                                   style_of(**style), guess=2 * len(data) + 256))

@@ -1,4 +1,5 @@
 """Syntaxes, extensions, options of the writer and styles, as the library takes them."""
+import ctypes
 import json
 from typing import Any, Iterable, Mapping
 
@@ -55,7 +56,7 @@ def flags_of(syntax: str, extensions: Iterable[str]) -> int:
 def flags_of_each(*groups: str | Iterable[str]) -> Any:
     """Returns an array of the flags of each syntax in some groups, where a group is a name or several."""
     flags = [flags_of(name, ()) for group in groups for name in ([group] if isinstance(group, str) else group)]
-    return (_library.ctypes.c_uint32 * len(flags))(*flags)
+    return (ctypes.c_uint32 * len(flags))(*flags)
 
 
 def _wanted(name: str, value: Any) -> str:
@@ -112,7 +113,7 @@ def style_of(*, bullet: str = "", ordered: str = "", delimiter: str = "", number
         raise ValueError(f"list_indent must be marker or 4, and not {list_indent!r}")
     codes = _codes_of({"bullet": bullet, "ordered": ordered, "delimiter": delimiter, "emphasis": emphasis, "strong": strong,
                        "fence": fence})
-    return _library.Style(size=_library.ctypes.sizeof(_library.Style), numbering=_NUMBERINGS[numbering],
+    return _library.Style(size=ctypes.sizeof(_library.Style), numbering=_NUMBERINGS[numbering],
                           hard_break=_HARD_BREAKS[hard_break], rule=_RULES[rule], fence_length=fence_length,
                           table_width=table_width, wrap=_WRAPS.get(wrap, wrap),
                           list_indent=0 if list_indent == "marker" else 4, **codes)

@@ -5,7 +5,7 @@ from dataclasses import dataclass, field
 from functools import lru_cache
 from typing import Any, Iterable, Iterator, List, Optional, Tuple
 
-from ._calls import Given, encoded, end_of, listed
+from ._calls import Given, encoded, end_of, listed, with_range
 from ._errors import UnexpectedEvent
 from .events import Event, Placed
 
@@ -82,7 +82,7 @@ class Node:
     @property
     def name(self) -> str:
         """The name of the container or of the leaf, such as "Heading", "Text" or "SoftBreak"."""
-        return self._content if isinstance(self._content, str) else next(iter(self._content))
+        return str(self._content if isinstance(self._content, str) else next(iter(self._content)))
 
     @property
     def value(self) -> Any:
@@ -164,13 +164,13 @@ def tree(events: Iterable[Given], source: Optional[str] = None) -> List[Node]:
     top: List[Node] = []
     open_nodes: List[Tuple[Node, int]] = []
     for number, item in enumerate(listed(events)):
-        event, place = item if isinstance(item, (tuple, list)) else (item, None)
+        event, place = with_range(item)
         if isinstance(event, dict) and "End" in event:
             if not open_nodes:
                 raise UnexpectedEvent(-10, number)
             open_nodes.pop()
             continue
-        node = Node(event, place, source=source)
+        node = Node(event, place, source=source)  # type: ignore[arg-type]
         (open_nodes[-1][0].children if open_nodes else top).append(node)
         if node.is_container:
             open_nodes.append((node, number))

@@ -1,5 +1,5 @@
 """Types of events, for type checkers. An event is a string or a dictionary with one key, as docs/JSON.md has them."""
-from typing import Callable, Dict, List, Literal, Optional, Tuple, TypedDict, Union
+from typing import Callable, Dict, List, Literal, Optional, Protocol, Sequence, Tuple, TypedDict, Union
 
 Level = Literal["H1", "H2", "H3", "H4", "H5", "H6"]
 Alignment = Literal["None", "Left", "Center", "Right"]
@@ -72,10 +72,21 @@ TaskListMarker = TypedDict("TaskListMarker", {"TaskListMarker": bool})
 Event = Union[
     Literal["SoftBreak", "HardBreak", "Rule"], Start, End, Text, Code, InlineMath, DisplayMath, Html, InlineHtml,
     FootnoteReference, TaskListMarker]
-#: An event with its range in bytes of UTF-8.
+#: An event with its range in bytes of UTF-8, if it has one.
 Placed = Tuple[Event, Optional[range]]
-#: A change of an event: in place, or by the event that it returns.
-Change = Callable[[Event], Optional[Event]]
+#: An event that was read, with its range in bytes of UTF-8.
+Found = Tuple[Event, range]
+
+
+class HasEvents(Protocol):
+    """What has events, such as a `Node`."""
+
+    def events(self) -> List[Placed]:
+        """Returns its events."""
+
+
+#: A change of an event: in place, or by the event or the list of events that it returns.
+Change = Callable[[Event], Union[Event, HasEvents, Sequence[Union[Event, Placed, HasEvents]], None]]
 
 
 class Options(TypedDict, total=False):

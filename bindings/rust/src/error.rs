@@ -5,6 +5,7 @@ use std::fmt;
 
 /// Why events aren't written.
 #[derive(Debug)]
+#[non_exhaustive]
 pub enum Error {
     /// The writer refused the text.
     FormatFailed(fmt::Error),
@@ -20,6 +21,8 @@ pub enum Error {
     Failed,
     /// Nothing can be written under these options.
     InvalidOptions(OptionsError),
+    /// A style has no such value.
+    InvalidStyle,
     /// Memory ran out.
     OutOfMemory,
     /// Another error of the library: its code in `tocmark.h`.
@@ -36,6 +39,7 @@ impl Error {
             -12 => Error::InvalidSourceRange,
             -13 => Error::Finished,
             -14 => Error::Failed,
+            -15 => Error::InvalidStyle,
             _ => Error::Other(code),
         }
     }
@@ -53,6 +57,7 @@ impl fmt::Display for Error {
             Error::Finished => f.write_str("Markdown serializer has already finished"),
             Error::Failed => f.write_str("Markdown serializer cannot be used after an error"),
             Error::InvalidOptions(error) => write!(f, "{error}"),
+            Error::InvalidStyle => f.write_str("a style has no such value"),
             Error::OutOfMemory => f.write_str("out of memory"),
             Error::Other(code) => write!(f, "the library returned the error {code}"),
         }
@@ -95,6 +100,7 @@ impl fmt::Display for Place {
 
 /// Why a source isn't rewritten.
 #[derive(Debug)]
+#[non_exhaustive]
 pub enum Fault {
     /// This block isn't written.
     Refused(Place, Error),
@@ -107,6 +113,14 @@ pub enum Fault {
 }
 
 impl Fault {
+    /// The fault with the number that its event had in the caller's list.
+    pub(crate) fn numbered(mut self, numbers: &[usize]) -> Fault {
+        if let Fault::Refused(place, _) | Fault::ReadOtherwise(place) = &mut self {
+            place.event = numbers.get(place.event).copied().unwrap_or(place.event);
+        }
+        self
+    }
+
     /// The fault of a code of `tocmark.h`.
     pub(crate) fn from_code(code: isize, place: Place) -> Fault {
         match code {

@@ -1,31 +1,13 @@
-//! Events as JSON, appended to one text, and strings of options.
+//! Events as JSON, and strings of options.
 
 use pulldown_cmark::{CodeBlockKind, CowStr, Event, HeadingLevel, LinkType, Tag, TagEnd};
 use std::fmt::Write;
 
-/// A list of events, as it grows.
-pub struct Events {
-    text: String,
-}
-
-impl Events {
-    pub fn new() -> Events {
-        Events {
-            text: String::from("["),
-        }
-    }
-
-    pub fn push(&mut self, event: &Event<'_>) {
-        if self.text.len() > 1 {
-            self.text.push(',');
-        }
-        put_event(&mut self.text, event);
-    }
-
-    pub fn finish(mut self) -> String {
-        self.text.push(']');
-        self.text
-    }
+/// An event as JSON.
+pub fn event(event: &Event<'_>) -> String {
+    let mut text = String::new();
+    put_event(&mut text, event);
+    text
 }
 
 /// A text as a JSON string.

@@ -23,7 +23,64 @@ impl PlaceInC {
     }
 }
 
+/// `struct tocmark_style`.
+#[repr(C)]
+pub struct Style {
+    pub size: u32,
+    pub bullet: u32,
+    pub delimiter: u32,
+    pub numbering: u32,
+    pub emphasis: u32,
+    pub strong: u32,
+    pub fence: u32,
+    pub fence_length: u32,
+    pub hard_break: u32,
+    pub rule: u32,
+    pub table_width: u32,
+    pub wrap: u32,
+    pub list_indent: u32,
+}
+
+impl Default for Style {
+    fn default() -> Style {
+        Style {
+            size: size_of::<Style>() as u32,
+            bullet: 0,
+            delimiter: 0,
+            numbering: 0,
+            emphasis: 0,
+            strong: 0,
+            fence: 0,
+            fence_length: 0,
+            hard_break: 0,
+            rule: 0,
+            table_width: 0,
+            wrap: 0,
+            list_indent: 0,
+        }
+    }
+}
+
 extern "C" {
+    fn tocmark_format_also(
+        text: *const u8,
+        text_len: usize,
+        flags: u32,
+        also: *const u32,
+        also_len: usize,
+        style: *const Style,
+        out: *mut u8,
+        out_len: usize,
+    ) -> isize;
+
+    fn tocmark_read_json(
+        text: *const u8,
+        text_len: usize,
+        flags: u32,
+        out: *mut u8,
+        out_len: usize,
+    ) -> isize;
+
     fn tocmark_write_packed_at(
         packed: *const u8,
         packed_len: usize,
@@ -63,6 +120,41 @@ fn text_of(room: usize, mut call: impl FnMut(&mut [u8]) -> isize) -> Result<Stri
         }
         out.resize(length, 0);
     }
+}
+
+/// The JSON of a text's events with their ranges.
+pub fn read(text: &str, flags: u32) -> Result<String, isize> {
+    text_of(12 * text.len() + 4096, |out| {
+        // A slice's pointer is never null, and `out` overlaps nothing that is read.
+        unsafe {
+            tocmark_read_json(
+                text.as_ptr(),
+                text.len(),
+                flags,
+                out.as_mut_ptr(),
+                out.len(),
+            )
+        }
+    })
+}
+
+/// The text in this style.
+pub fn format(text: &str, flags: u32, also: &[u32], style: &Style) -> Result<String, isize> {
+    text_of(2 * text.len() + 256, |out| {
+        // A slice's pointer is never null, and `out` overlaps nothing that is read.
+        unsafe {
+            tocmark_format_also(
+                text.as_ptr(),
+                text.len(),
+                flags,
+                also.as_ptr(),
+                also.len(),
+                style,
+                out.as_mut_ptr(),
+                out.len(),
+            )
+        }
+    })
 }
 
 /// What both functions get. The events are packed for `write`, and JSON for `rewrite`.

@@ -7,8 +7,9 @@ use pulldown_cmark::{
 use std::fmt;
 use tocmark::{
     calculate_code_block_token_count, cmark, cmark_with_options, cmark_with_source_range,
-    cmark_with_source_range_and_options, rewrite, Error, Fault, Options, OptionsError, Place,
-    Progress, State, DEFAULT_CODE_BLOCK_TOKEN_COUNT, SUPPORTED_PARSER_OPTIONS,
+    cmark_with_source_range_and_options, edit, format, read, rewrite, Bullet, Delimiter, Error,
+    Fault, FormatOptions, ListIndent, Marker, Options, OptionsError, Place, Progress, State, Wrap,
+    DEFAULT_CODE_BLOCK_TOKEN_COUNT, SUPPORTED_PARSER_OPTIONS,
 };
 
 type Events = Vec<Event<'static>>;
@@ -661,5 +662,78 @@ fn a_fault_has_a_place() {
     assert_eq!(
         fault.to_string(),
         "list_token must use a standard Markdown delimiter"
+    );
+}
+
+#[test]
+fn events_are_edited_without_a_parser() {
+    let source = "*  a [b\nc](/old) &eacute;\n\n\n***\n\nd\n";
+    let relinked = edit(source, NONE, Options::default(), |mut event| {
+        if let Event::Start(Tag::Link { dest_url, .. }) = &mut event {
+            *dest_url = "/new".into();
+        }
+        [event]
+    });
+    assert_eq!(relinked.unwrap(), source.replace("/old", "/new"));
+    let without_rule = edit(source, NONE, Options::default(), |event| {
+        Some(event).filter(|event| !matches!(event, Event::Rule))
+    });
+    assert_eq!(without_rule.unwrap(), "*  a [b\nc](/old) &eacute;\n\n\nd\n");
+    let options = Options {
+        list_token: 'x',
+        ..Options::default()
+    };
+    let fault = edit(source, NONE, options, |event| [event]);
+    assert!(matches!(fault, Err(Fault::InvalidOptions(_))));
+}
+
+#[test]
+fn events_that_are_read_are_written() {
+    let flags = SUPPORTED_PARSER_OPTIONS;
+    let text = "# a {#b .c d=e}\n\n> [!NOTE]\n> f[^g] $h$ ^j^\n\n[^g]: k\n\n1. [x] l\n\nm\n: n\n\n|o|p|\n|:-|-|\n|`q`|[r](s \"t\")|\n\n![u][] <v@w.x> *\u{e9}* \u{1}\n\n[u]: /B\n\n```C\nD\n```\n\n<p>\n\n---\n";
+    let events: Vec<_> = read(text, flags).unwrap();
+    assert!(events.iter().all(|(_, range)| range.end <= text.len()));
+    let kept = rewrite(
+        text,
+        events.iter().map(|(event, _)| event),
+        flags,
+        Options::default(),
+    );
+    assert_eq!(kept.unwrap(), text);
+    assert_eq!(
+        edit(text, flags, Options::default(), |event| [event]).unwrap(),
+        text
+    );
+}
+
+#[test]
+fn a_text_is_formatted() {
+    let source = "Title\n=====\n*  a\n*  b _c_ __d__\n\n1.  e\n";
+    let plain = format(source, NONE, &FormatOptions::default()).unwrap();
+    assert_eq!(plain, "# Title\n\n* a\n* b *c* **d**\n\n1. e\n");
+    let options = FormatOptions {
+        bullet: Bullet::Plus,
+        ordered: Delimiter::Parenthesis,
+        emphasis: Marker::Underscore,
+        strong: Marker::Underscore,
+        list_indent: ListIndent::Four,
+        ..Default::default()
+    };
+    let styled = format(source, NONE, &options).unwrap();
+    assert_eq!(styled, "# Title\n\n+   a\n+   b _c_ __d__\n\n1)  e\n");
+    let joined = FormatOptions {
+        wrap: Wrap::No,
+        ..Default::default()
+    };
+    assert_eq!(format("a\nb\n", NONE, &joined).unwrap(), "a b\n");
+    // To CommonMark, a table directly below a text is part of that paragraph.
+    let kept = FormatOptions {
+        also_read: vec![NONE],
+        ..Default::default()
+    };
+    let table = "a\n|b|\n|-|\n";
+    assert_eq!(
+        format(table, ParserOptions::ENABLE_TABLES, &kept).unwrap(),
+        table
     );
 }

@@ -138,3 +138,73 @@ fn a_destination_is_changed_and_nothing_else() {
     let output = rewrite(source, events, flags, Options::default()).unwrap();
     assert_eq!(output, source.replace("/old", "/new"));
 }
+
+/// What the library and pulldown-cmark spell differently.
+const SPELLED_OTHERWISE: [&str; 6] = [
+    "a [b\nc] d\n\n[b c]: x\n",
+    "*  a ![b\n   c][] [b\n   c]\n\n[b c]: x\n",
+    "  <p>\nx\n\n   <!-- a\n  b -->\n",
+    "*  a <img b=\"c\"\n   d=\"e\"/> f\n",
+    "<p>\r\na\r\n</p>\r\n\r\n*  b\r\n",
+    "> <p>\n>   a\n\n*  b &amp; c\n",
+];
+
+#[test]
+fn an_unchanged_document_stays() {
+    let none = ParserOptions::empty();
+    for source in SPELLED_OTHERWISE {
+        let events = Parser::new(source);
+        assert_eq!(
+            rewrite(source, events, none, Options::default()).unwrap(),
+            source
+        );
+    }
+}
+
+#[test]
+fn all_but_a_change_stays() {
+    let none = ParserOptions::empty();
+    for source in SPELLED_OTHERWISE {
+        let source = format!("[link](/old)\n\n{source}\n[link](/old) again\n");
+        let events = Parser::new(&source).map(|mut event| {
+            if let Event::Start(Tag::Link { dest_url, .. }) = &mut event {
+                if &**dest_url == "/old" {
+                    *dest_url = "/new".into();
+                }
+            }
+            event
+        });
+        let output = rewrite(&source, events, none, Options::default()).unwrap();
+        assert_eq!(output, source.replace("/old", "/new"));
+    }
+}
+
+#[test]
+fn a_place_counts_the_given_events() {
+    let source = "a &amp; b [c\nd]\n\nx\n\n[c d]: y\n";
+    let none = ParserOptions::empty();
+    let events: Vec<Event<'_>> = Parser::new(source)
+        .chain([Event::Start(Tag::Paragraph)])
+        .collect();
+    let fault = rewrite(source, events.iter(), none, Options::default()).unwrap_err();
+    assert!(
+        fault
+            .to_string()
+            .starts_with(&format!("event {}", events.len() - 1)),
+        "{fault}"
+    );
+}
+
+#[test]
+fn the_library_reads_what_the_parser_reads() {
+    let flags = ParserOptions::all() & tocmark::SUPPORTED_PARSER_OPTIONS;
+    let text = "# a {#b .c d=e}\n\n> [!NOTE]\n> f[^g] $h$ ~i~ ^j^\n\n[^g]: k\n\n1. [x] l\n\nm\n: n\n\n|o|p|\n|:-|-|\n|`q`|[r](s \"t\")|\n\n\
+                ![u][] <v@w.x> <https://y.z>\\\n***A***\n\n[u]: /B\n\n```C\nD\n```\n\n---\n";
+    let found: Vec<Event<'_>> = tocmark::read(text, flags)
+        .unwrap()
+        .into_iter()
+        .map(|(event, _)| event)
+        .collect();
+    let found: Vec<Event<'_>> = pulldown_cmark::TextMergeStream::new(found.into_iter()).collect();
+    assert_eq!(found, events(text, flags));
+}

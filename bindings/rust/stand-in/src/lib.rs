@@ -3,9 +3,10 @@
 
 use std::ops::Deref;
 
-/// A text that is borrowed.
+/// A text.
 #[derive(Clone, Debug)]
 pub enum CowStr<'a> {
+    Boxed(Box<str>),
     Borrowed(&'a str),
 }
 
@@ -13,14 +14,22 @@ impl Deref for CowStr<'_> {
     type Target = str;
 
     fn deref(&self) -> &str {
-        let CowStr::Borrowed(text) = self;
-        text
+        match self {
+            CowStr::Boxed(text) => text,
+            CowStr::Borrowed(text) => text,
+        }
     }
 }
 
 impl AsRef<str> for CowStr<'_> {
     fn as_ref(&self) -> &str {
         self
+    }
+}
+
+impl From<String> for CowStr<'_> {
+    fn from(text: String) -> Self {
+        CowStr::Boxed(text.into())
     }
 }
 
