@@ -321,6 +321,35 @@ COMPARED = [
 
 
 
+# One shape of each common construct, of some words, again and again: what the large texts leave out shows here.
+SHAPES = {
+    "headings": "# A first heading of words\n\n## A second one\n\nA paragraph of a few words.\n\n",
+    "underlined headings": "A first heading of words\n========================\n\nA second one\n------------\n\nA paragraph.\n\n",
+    "quotes": "> A quote of some words that takes\n> two lines of the text.\n>\n> And a second paragraph in it.\n\n",
+    "quotes in quotes": "> A quote of some words\n>\n> > with another one in it\n> > on two lines.\n\n",
+    "lists in quotes": "> - a first item of words\n> - a second one\n>   on two lines\n\n",
+    "loose lists": "- a first item of words\n\n  with a second paragraph\n\n- a second one\n\nA paragraph stands between.\n\n",
+    "deep lists": "- a first item\n  - in it a second one\n    - and a third one\n      1. and a fourth one\n\nA paragraph.\n\n",
+    "numbered lists": "1. a first item of words\n2. a second one\n10. a third one\n\nA paragraph stands between.\n\n",
+    "lists with emphasis": "- a *first* item of **some** words\n- a `second` one, *too*\n- a **third** one\n\nA paragraph.\n\n",
+    "three kinds of emphasis": "Some *soft* words, some **strong** ones, and ***both*** of them in a line of text.\n\n",
+    "emphasis in words": "Some wo*rd*s, snake_case_names, __init__ and 2*3*4 in a line of text.\n\n",
+    "code spans": "Call `run()` with `--help` or ``a ` b`` and read `stdout` in a line of text.\n\n",
+    "indented code": "A paragraph of words:\n\n    fn main() {\n        run();\n    }\n\n",
+    "HTML blocks": "<div class=\"note\">\n  <p>Some words of a note.</p>\n  <!-- a comment -->\n</div>\n\nA paragraph.\n\n",
+    "HTML in lines": "Press <kbd>Ctrl</kbd> and <b>some <i>words</i></b> of a line,<br>and go on.\n\n",
+    "images": "See ![a picture](pictures/a.png \"A title\") and ![another one](b.svg) in a line of text.\n\n",
+    "reference links": "See [the guide][guide], [a page][] and [the last one] of these words.\n\n[guide]: /g\n[a page]: /p \"P\"\n\n",
+    "addresses": "See <https://example.com/a?b=c&d>, <mail@example.com> and https://example.com in a line.\n\n",
+    "hard breaks": "A first line of words  \nand a second one\\\nand a third one.\n\n",
+    "marks and references": "1 < 2 &amp; 3 > 2 \\* a_b &copy; 50 % of [these] words # and + more - marks!\n\n",
+}
+
+
+def shape(name):
+    return megabyte_of(SHAPES[name])
+
+
 def rows_to_fill(size):
     """A header of so many columns, and as many rows of one cell."""
     side = int(size**0.5)

@@ -12,7 +12,8 @@ declare -A crate_of=(
 )
 # Each script that runs as it is, and is installed beside the programs.
 scripts=(tocmark-filter)
-builder="tools/install proves and builds the programs, in some 60 processor minutes"
+builder="tools/install proves and builds the programs, in some 80 minutes on four cores"
+chooser="tools/install --quick compiles and installs them without a proof, in minutes"
 
 # name_crate NAME: from now on it is this crate.
 name_crate() {
@@ -45,7 +46,7 @@ trap 'say interrupted; trap - INT; kill -INT $$' INT
 
 ask_for_rt() {
   command -v rt >/dev/null ||
-    fail "rt isn't on PATH. Install the Rattle toolchain; README.md says what 'rt version' prints of the right one"
+    fail "rt isn't on PATH. Install the Rattle toolchain (README.md says which one), or install a release, which needs none"
 }
 
 # Sets crates: the named crate and those that it stands on, lowest first, as they stand in crates.txt.
