@@ -66,8 +66,13 @@ fn push_character(
     folded.push(' ')
 }
 
-/// Adds a text with one blank for each run of white space; whether it ends with some.
-fn push_folded(folded: &mut String, text: &str, is_behind_white: bool) -> Result<bool, AllocError>
+/// Adds a text with one blank for each run of white space; none for a run at its front if white space comes before it.
+/// Returns whether white space comes before the next text. It fails if memory runs out.
+pub fn push_folded(
+    folded: &mut String,
+    text: &str,
+    is_behind_white: bool,
+) -> Result<bool, AllocError>
     ensures text { OnOk result (string_bytes folded.new
         ≡ string_bytes folded.old ++ folded_text is_behind_white text.now) }
     ensures white { IfOk result (λ white.
@@ -126,8 +131,8 @@ pub fn same_definitions(one: &[ReferenceDefinition], other: &[ReferenceDefinitio
     true
 }
 
-/// Whether the text in a container keeps its lines.
-fn keeps_lines(tag: &Tag<'_>) -> bool
+/// Whether the text in a container keeps its lines: in a code block, an HTML block or metadata.
+pub fn keeps_lines(tag: &Tag<'_>) -> bool
     ensures { result ≡ keeps_lines (tag_view text_of tag.now) }
 {
     match tag {
@@ -138,8 +143,8 @@ fn keeps_lines(tag: &Tag<'_>) -> bool
     }
 }
 
-/// Folds the label of a link or an image.
-fn fold_label(alloc: Global, tag: &mut Tag<'static>) -> Result<(), AllocError>
+/// Folds white space in the label of a link or an image; other tags stay as they are. It fails if memory runs out.
+pub fn fold_label(alloc: Global, tag: &mut Tag<'static>) -> Result<(), AllocError>
     ensures { OnOk result (tag_view text_of tag.new ≡ folded_tag (tag_view text_of tag.old)) }
 {
     match tag {
