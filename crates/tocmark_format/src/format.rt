@@ -5,8 +5,9 @@ ghost use Rattle.std.specs.List.{All};
 ghost use Rattle.tocmark_compare.specs.Given.{found_events};
 ghost use Rattle.tocmark_event.specs.declared.event.flags.ParserOptions.{ParserOptions};
 ghost use Rattle.tocmark_judge.specs.Alike.{AreAlike};
+ghost use Rattle.tocmark_judge.specs.Letters.{letters};
 ghost use Rattle.tocmark_judge.specs.LinkDefinitions.{link_defined};
-ghost use Rattle.tocmark_judge.specs.Marks.{after_mark, has_mark};
+ghost use Rattle.tocmark_judge.specs.Marks.{after_mark, has_mark, mark};
 ghost use Rattle.tocmark_judge.specs.Same.{SaySame};
 ghost use Rattle.tocmark_judge.specs.Shape.{has_same_shape};
 ghost use Rattle.tocmark_judge.specs.Summaries.{Sums, SumsFirst};
@@ -270,6 +271,8 @@ impl<R: PartReader> Formatter<'_, R> {
     /// Formats the text after a byte order mark, and puts the mark before the answer.
     fn format_after_mark(&self, text: &str) -> Result<Formatted, AllocError>
         ensures mark { IfOk result (λ answer. has_mark (string_bytes answer.text) ≡ true) }
+        ensures letters { IfOk result (λ answer.
+            letters (string_bytes answer.text) ≡ letters (mark ++ text.now)) }
         ensures alike { IfOk result (λ answer. AreAlike
             self.now.judge.folds self.now.judge.flags self.now.judge.also.now
             (R.reading self.now.judge.reader.now) (R.definitions self.now.judge.reader.now)
@@ -284,6 +287,8 @@ impl<R: PartReader> Formatter<'_, R> {
     fn format_document(&self, text: &str) -> Result<Formatted, AllocError>
         ensures mark { IfOk result (λ answer.
             has_mark (string_bytes answer.text) ≡ has_mark text.now) }
+        ensures letters { IfOk result (λ answer.
+            letters (string_bytes answer.text) ≡ letters text.now) }
         ensures alike { IfOk result (λ answer. AreAlike
             self.now.judge.folds self.now.judge.flags self.now.judge.also.now
             (R.reading self.now.judge.reader.now) (R.definitions self.now.judge.reader.now)
@@ -309,6 +314,9 @@ impl<R: PartReader> Formatter<'_, R> {
 /// A byte order mark at the front is no text: it stays there, and these promises are about what comes after it. The new text
 /// begins with a mark only if the old one does (`mark`).
 ///
+/// The letters of both texts are the same, in the same order, whatever the reader finds: ASCII letters and all characters past
+/// ASCII (`letters`).
+///
 /// It fails if memory runs out, or if a line begins behind 4 GiB.
 ///
 /// ```
@@ -325,6 +333,8 @@ pub fn formatted<R: PartReader>(
 ) -> Result<Formatted, AllocError>
     ensures mark { IfOk result (λ answer.
         has_mark (string_bytes answer.text) ≡ has_mark text.now) }
+    ensures letters { IfOk result (λ answer.
+        letters (string_bytes answer.text) ≡ letters text.now) }
     ensures same { IfOk result (λ answer. SaySame (fills style.wrap)
         (R.reading reader.now (after_mark (string_bytes answer.text)) flags)
         (R.reading reader.now (after_mark text.now) flags)) }

@@ -1,8 +1,9 @@
 -- What is written for a text, and for standard input.
-use Rattle.std.specs.Prelude.{ℕ, List, Option, IfSome, string_bytes}
+use Rattle.std.specs.Prelude.{◌≡◌, ℕ, List, Option, IfSome, string_bytes}
 use Rattle.std.specs.Io.KnownBytes.{Appends}
 use Rattle.tocmark_event.specs.declared.event.ParserOptions.{ParserOptions}
 use Rattle.tocmark_event.specs.Reading.{ReadingView}
+use Rattle.tocmark_judge.specs.Letters.{letters}
 use Rattle.tocmark_judge.specs.Marks.{after_mark}
 use Rattle.tocmark_judge.specs.Same.{SaySame}
 use Rattle.tocmark_print.specs.Fills.{fills}
@@ -20,10 +21,11 @@ abbrev pub KeepsWhatItSays : (List ℕ → ParserOptions → ReadingView) → De
 KeepsWhatItSays reading d = IfSome d.new (λ new. SaysTheSame d.settings.style.wrap
     (λ t. reading t d.settings.flags) (string_bytes d.old) (string_bytes new))
 
--- a text that says the same as the input stands behind what the output held
+-- a text that says the same as the input and has the same letters comes after what the output held
 pub record IsFormatted (wrap : Wrap) (reading : List ℕ → ReadingView) (input : List ℕ) (old new : Option (List ℕ)) : Type 0 where
   pub text : List ℕ
   pub same : SaysTheSame wrap reading input text
+  pub same_letters : letters text ≡ letters input
   pub appended : Appends old new text
 
 -- the output could not be written whole

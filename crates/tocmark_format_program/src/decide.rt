@@ -1,6 +1,7 @@
 //! What is written for a text.
 
 ghost use Rattle.std.specs.Prelude.{◌≡◌, ◌≢◌, IfOk, IfSome, string_bytes};
+ghost use Rattle.tocmark_judge.specs.Letters.{letters};
 ghost use Rattle.tocmark_judge.specs.Marks.{after_mark, has_mark};
 ghost use Rattle.tocmark_judge.specs.Shape.{HaveSameShapes};
 ghost use Rattle.tocmark_format_program.specs.AlsoRead.{also_flags};
@@ -26,7 +27,7 @@ pub struct Decision {
 
 /// What becomes of a text that was read. The reader finds in what is written what counts as the same as in the text, and the
 /// same link definitions. Under the flags of `also` it finds the same blocks. A byte order mark at the front stays there and
-/// is no text.
+/// is no text. Whatever the reader finds, the letters stay the same, in the same order.
 pub fn decided<R: PartReader>(
     alloc: Global,
     text: String,
@@ -46,6 +47,8 @@ pub fn decided<R: PartReader>(
         (after_mark (string_bytes new)) (after_mark (string_bytes decision.old)))) }
     ensures mark { IfOk result (λ decision. IfSome decision.new (λ new.
         has_mark (string_bytes new) ≡ has_mark (string_bytes decision.old))) }
+    ensures letters { IfOk result (λ decision. IfSome decision.new (λ new.
+        letters (string_bytes new) ≡ letters (string_bytes decision.old))) }
 {
     let Settings { flags, style, also } = settings;
     let also = also.flags(alloc)?;

@@ -2,6 +2,7 @@
 
 ghost use Rattle.std.specs.Prelude.{◌≡◌, IfErr, IfOk, IfSome, OnOk, string_bytes};
 ghost use Rattle.std.specs.Io.KnownBytes.{Appends};
+ghost use Rattle.tocmark_judge.specs.Letters.{letters};
 ghost use Rattle.tocmark_format_program.specs.Formats.{IsFormatted, IsOutputFault, SaysTheSame};
 
 use crate::decide::{Decision, decided};
@@ -37,6 +38,8 @@ fn formatted_text<R: PartReader>(
     ensures same { IfOk result (λ done. SaysTheSame
         settings.style.wrap (λ t. R.reading reader.now t settings.flags)
         (string_bytes text) (string_bytes done.0)) }
+    ensures letters { IfOk result (λ done.
+        letters (string_bytes done.0) ≡ letters (string_bytes text)) }
     ensures fault { IfErr result (λ fault. ¬ (IsOutputFault fault)) }
 {
     let decision = decided(alloc, text, reader, settings)?;
@@ -59,14 +62,16 @@ fn formatted_input<R: PartReader, I: Read>(
     ensures same { IfSome (I.remaining input.old) (λ bytes. IfOk result (λ done. SaysTheSame
         settings.style.wrap (λ t. R.reading reader.now t settings.flags)
         bytes (string_bytes done.0))) }
+    ensures letters { IfSome (I.remaining input.old) (λ bytes. IfOk result (λ done.
+        letters (string_bytes done.0) ≡ letters bytes)) }
     ensures fault { IfErr result (λ fault. ¬ (IsOutputFault fault)) }
 {
     let text = text_in(alloc, input)?;
     formatted_text(alloc, reader, settings, text)
 }
 
-/// Writes all that an input has, as it is formatted. What is written says the same as the input. After an `Err` that
-/// isn't of the output, nothing is written.
+/// Writes all that an input has, as it is formatted. What is written says the same as the input, and has the same letters.
+/// After an `Err` that isn't of the output, nothing is written.
 pub fn format_stream<R: PartReader, I: Read, O: Write>(
     alloc: Global,
     reader: &R,

@@ -10,7 +10,7 @@ use Rattle.tocmark_judge.proofs.Marking.{rest-marked, rest-unmarked}
 -- those that have the same bytes
 pub same-alike : (folds : Bool) (flags : ParserOptions) (also : List ParserOptions) (reading : List ℕ → ParserOptions → ReadingView) (definitions : List ℕ → ParserOptions → List DefinedLink) (one other : List ℕ) → one ≡ other → AreAlike folds flags also reading definitions one other
 same-alike folds flags also reading definitions one other e =
-    subst (λ text. AreAlike folds flags also reading definitions one text) e (refl, refl, (λ k d l. refl), refl)
+    subst (λ text. AreAlike folds flags also reading definitions one text) e (refl, refl, (λ k d l. refl), refl, refl)
 
 -- one is alike what comes after the mark of another
 pub rest-alike : (folds : Bool) (flags : ParserOptions) (also : List ParserOptions) (reading : List ℕ → ParserOptions → ReadingView) (definitions : List ℕ → ParserOptions → List DefinedLink) (one text rest : List ℕ) → text ≡ mark ++ rest → AreAlike folds flags also reading definitions one rest → AreAlike folds flags also reading definitions one (after_mark text)

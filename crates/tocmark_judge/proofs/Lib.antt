@@ -1,5 +1,6 @@
 pub mod Alike
 pub mod Folding
 pub mod Handing
+pub mod Lettering
 pub mod Marking
 pub mod Shapes

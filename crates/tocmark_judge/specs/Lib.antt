@@ -1,4 +1,5 @@
 pub mod Alike
+pub mod Letters
 pub mod LinkDefinitions
 pub mod Marks
 pub mod Same

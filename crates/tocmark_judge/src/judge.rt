@@ -8,6 +8,7 @@ ghost use Rattle.tocmark_judge.specs.LinkDefinitions.{link_defined};
 ghost use Rattle.tocmark_judge.specs.Shape.{HaveSameShapes, has_same_shape, Outlines};
 ghost use Rattle.tocmark_judge.specs.Summaries.{Sums};
 
+use crate::letters::have_same_letters;
 use crate::mark::have_same_mark;
 use crate::parts::PartReader;
 use crate::shape::Outline;
@@ -121,6 +122,7 @@ impl<R: PartReader> Judge<'_, R> {
         if first.says.is_same(&second.says, self.folds)
             && same_definitions(&first.definitions, &second.definitions)
             && have_same_mark(one, other)
+            && have_same_letters(one, other)
         {
             self.have_same_shapes(one, other)
         } else {

@@ -1,11 +1,18 @@
-use Rattle.std.proofs.Common.{string_bytes, subst, sym}
+use Rattle.std.proofs.Common.{◌∙◌, ◌++◌, ap, string_bytes, subst, sym}
 use Rattle.tocmark_judge.specs.Alike.{AreAlike}
+use Rattle.tocmark_judge.specs.Letters.{letters}
+use Rattle.tocmark_judge.specs.Marks.{mark}
 use Rattle.tocmark_judge.proofs.Alike.{alike-rest}
 use Rattle.tocmark_judge.proofs.Marking.{marked}
 use Rattle.tocmark_format.proofs.format.Formatter.format_after_mark.Goals as goal
 
 pub returns-clause-mark : goal.returns-clause-mark
 returns-clause-mark g c = marked (string_bytes c.in_ok-text.text) c.as_str.result.now c.in_ok-text.ensures
+
+pub returns-clause-letters : goal.returns-clause-letters
+returns-clause-letters g c =
+    ap letters c.in_ok-text.ensures
+    ∙ ap (λ rest. letters mark ++ rest) (ap letters c.as_str.ensures.value ∙ c.in_ok-rest.ensures.4)
 
 pub returns-clause-alike : goal.returns-clause-alike
 returns-clause-alike g c =

@@ -1,7 +1,8 @@
-use Rattle.std.proofs.Common.{◌∙◌, string_bytes, sym}
+use Rattle.std.proofs.Common.{◌∙◌, ap, string_bytes, sym}
 use Rattle.std.proofs.lemmas.Result.{IfOk-weaker}
 use Rattle.tocmark_judge.proofs.Alike.{bare-alike, rest-alike}
 use Rattle.tocmark_judge.proofs.Marking.{marked}
+use Rattle.tocmark_judge.specs.Letters.{letters}
 use Rattle.tocmark_judge.specs.Marks.{after_mark}
 use Rattle.tocmark_format.proofs.format.Formatter.format_document.Goals as goal
 
@@ -10,6 +11,12 @@ returns-in-Some-clause-mark g c =
     IfOk-weaker c.format_after_mark.result _ _
     (λ answer h. h ∙ sym (marked c.args.text.now c.in-Some.rest.now c.in-Some.ensures))
     c.format_after_mark.ensures.mark
+
+pub returns-in-Some-clause-letters : goal.returns-in-Some-clause-letters
+returns-in-Some-clause-letters g c =
+    IfOk-weaker c.format_after_mark.result _ _
+    (λ answer h. h ∙ sym (ap letters c.in-Some.ensures))
+    c.format_after_mark.ensures.letters
 
 pub returns-in-Some-clause-alike : goal.returns-in-Some-clause-alike
 returns-in-Some-clause-alike g c =
@@ -20,6 +27,9 @@ returns-in-Some-clause-alike g c =
 
 pub returns-in-None-clause-mark : goal.returns-in-None-clause-mark
 returns-in-None-clause-mark g c = IfOk-weaker c.format_text.result _ _ (λ answer h. h.3) c.format_text.ensures
+
+pub returns-in-None-clause-letters : goal.returns-in-None-clause-letters
+returns-in-None-clause-letters g c = IfOk-weaker c.format_text.result _ _ (λ answer h. h.4) c.format_text.ensures
 
 pub returns-in-None-clause-alike : goal.returns-in-None-clause-alike
 returns-in-None-clause-alike g c =
