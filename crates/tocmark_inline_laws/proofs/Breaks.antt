@@ -133,7 +133,7 @@ break_goes bytes ahead defs p s done xs rest a in_it fits e h clear = record {
       (t_texts) (t_targets)
       (break_shows bytes s p xs)
       (subst (λ r. r ≤ q + 1) (sym t_resume) (let z : s.resume ≤ p = a.resume in omega arith))
-      (t_runs ∙ a.runs) (t_brackets ∙ a.brackets))
+      t_runs (t_brackets ∙ a.brackets))
       (clean_after bytes q (q + 1) (omega arith) (ap (λ c. c == 32) feed));
 }
   where
@@ -206,14 +206,14 @@ ended bytes q c h ten = by (nat_lt q (length bytes)) refl
     by true e = ap (λ (o : Option ℕ). unwrap_or o 10 == 10) h ∙ ap (λ b. b == 10) ten
     by false e = absurd (let k : slice_get bytes q ≡ None = not_got bytes q (let l : length bytes ≤ q = grind (arith, nat_tests, e) in l) in let m : slice_get bytes q ≡ Some c = h in cc)
 
--- a run of spaces
-spaces_end : (bytes : List ℕ) (p : ℕ) (xs : List ℕ) → take_while (λ c. c == 32) (drop p bytes) ≡ xs → p + length xs < 2 ^ 64 → run_end bytes p (Only 32) ≡ p + length xs
+-- a run of one byte
+pub only_end : (bytes : List ℕ) (p b : ℕ) (xs : List ℕ) → take_while (λ c. c == b) (drop p bytes) ≡ xs → p + length xs < 2 ^ 64 → run_end bytes p (Only b) ≡ p + length xs
 unfolding run_end is_in
-spaces_end bytes p xs h fits = ap (λ ys. plus p (length ys)) h ∙ (let k : plus p (length xs) ≡ p + length xs = omega arith in k)
+only_end bytes p b xs h fits = ap (λ ys. plus p (length ys)) h ∙ (let k : plus p (length xs) ≡ p + length xs = omega arith in k)
 
 pub spaces_goes : (bytes : List ℕ) (ahead : Known) (defs : List ℕ → Option Entry) (p : ℕ) (s : State) (done : List Atom) → Sim bytes p s done → p < length bytes → length bytes + 1 < 2 ^ 64 → byte_at bytes p ≡ 32 → Goes bytes ahead defs p s done (spaces bytes p (run_end bytes p (Only 32)))
 spaces_goes bytes ahead defs p s done a in_it fits is =
-    subst (λ n. Goes bytes ahead defs p s done (spaces bytes p n)) (sym (spaces_end bytes p f.text f.taken (omega (arith, m))))
+    subst (λ n. Goes bytes ahead defs p s done (spaces bytes p n)) (sym (only_end bytes p 32 f.text f.taken (omega (arith, m))))
     (some f.text f.whole f.each)
   where
     f : Front (λ c. c == 32) (drop p bytes)

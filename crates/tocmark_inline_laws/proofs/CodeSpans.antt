@@ -1,16 +1,15 @@
 -- Code spans of a content.
-use Rattle.std.proofs.Common.{◌≡◌, ℕ, zero, suc, ◌+◌, ◌-◌, ◌^◌, ◌<◌, ◌≤◌, Bool, true, false, ◌==◌, nat_lt, if◌then◌else◌, List, [], ◌∷◌, ◌++◌, length, drop, replicate, refl, ap, sym, subst, ◌∙◌, arith, append_assoc, append-nil, true≢false}
+use Rattle.std.proofs.Common.{◌≡◌, ℕ, ◌+◌, ◌-◌, ◌^◌, ◌<◌, ◌≤◌, Bool, true, false, ◌==◌, nat_lt, if◌then◌else◌, List, [], ◌∷◌, ◌++◌, length, drop, replicate, refl, ap, sym, subst, ◌∙◌, arith, append_assoc, append-nil, true≢false}
 use Rattle.std.proofs.lemmas.Bool.Decides.{nat_tests}
 use Rattle.std.proofs.lemmas.List.{length-replicate, replicate-append-replicate}
 use Rattle.std.specs.Prelude.{Option, Some, None}
-use Rattle.std.specs.List.{list_any}
 use Rattle.tocmark_event.specs.View as view
 use Rattle.tocmark_event.specs.View.{Leaf}
 use Rattle.tocmark_read_scan.specs.Basic.{plus, byte_at, bytes_between}
 use Rattle.tocmark_read_scan.specs.Class.{run_end}
 use Rattle.tocmark_read_scan.specs.Repeat.{iterated}
 use Rattle.tocmark_read_scan.specs.declared.class.Class.TheVariants.{Only}
-use Rattle.tocmark_read_scan.proofs.PlainTests.{eq_of, or_first, or_second}
+use Rattle.tocmark_read_scan.proofs.PlainTests.{eq_of}
 use Rattle.tocmark_read_inlines.specs.Scan.{State, Known, is_mark, put_leaf, kept_code, code_put, coded, coded_to, looked, looked_mark, looked_all, next_place, ticks_of, stretch}
 use Rattle.tocmark_read_spans.specs.Tick.{next_run, tick_end, push_shown, shown, stripped, last_ticks}
 use Rattle.tocmark_read_spans.specs.declared.definitions.Entry.{Entry}
@@ -22,7 +21,7 @@ use Rattle.tocmark_inline_laws.specs.Said.{Piece}
 use Rattle.tocmark_inline_laws.proofs.Ampersands.{kept_words}
 use Rattle.tocmark_inline_laws.proofs.Atoms.{Shows}
 use Rattle.tocmark_inline_laws.proofs.Passes.{step_look}
-use Rattle.tocmark_inline_laws.proofs.Places.{clean_after}
+use Rattle.tocmark_inline_laws.proofs.Places.{clean_after, any_byte}
 use Rattle.tocmark_inline_laws.proofs.Plains.{plains_show}
 use Rattle.tocmark_inline_laws.proofs.Sim.{beside, Sim, Goes, goes_by}
 use Rattle.tocmark_inline_laws.proofs.Stretches.{cut, cut_length}
@@ -39,14 +38,9 @@ pushed out (x ∷ xs) =
     ∙ ap (λ ys. out ++ ys) (sym (pushed (shown x ∷ []) xs))
 
 -- the runs are known, because there is one
-any_tick : (bytes : List ℕ) (p : ℕ) → p < length bytes → (byte_at bytes p == 96) ≡ true → list_any (λ b. b == 96) bytes ≡ true
-any_tick [] p l h = absurd (omega arith)
-any_tick (x ∷ xs) zero l h = or_first (x == 96) (list_any (λ b. b == 96) xs) h
-any_tick (x ∷ xs) (suc p) l h = or_second (x == 96) (list_any (λ b. b == 96) xs) (any_tick xs p (omega arith) h)
-
 ticks_known : (bytes : List ℕ) (p : ℕ) → p < length bytes → byte_at bytes p ≡ 96 → ticks_of bytes ≡ last_ticks bytes
 unfolding ticks_of
-ticks_known bytes p l h = ap (λ (z : Bool). if z then last_ticks bytes else []) (any_tick bytes p l (ap (λ c. c == 96) h))
+ticks_known bytes p l h = ap (λ (z : Bool). if z then last_ticks bytes else []) (any_byte (λ b. b == 96) bytes p l (ap (λ c. c == 96) h))
 
 code_looked : (bytes : List ℕ) (ahead : Known) (defs : List ℕ → Option Entry) (s : State) → looked_all bytes ahead defs 96 s ≡ coded bytes ahead.ticks s
 unfolding looked_all looked looked_mark
@@ -152,7 +146,7 @@ code_goes bytes ahead defs p s done a in_it fits is knows = by (nat_lt end (leng
         (ap (λ n. p + n) (length-replicate (ticks_to bytes p - p) role.Plain) ∙ (let k : p + (ticks_to bytes p - p) ≡ ticks_to bytes p = omega (arith, some) in k))
         refl refl
         (subst (λ n. Shows (beside bytes s) p (replicate n role.Plain) (Text (bytes_between bytes p (ticks_to bytes p)))) (cut_length bytes p (ticks_to bytes p) (omega (arith, some)) room) (plains_show (beside bytes s) (bytes_between bytes p (ticks_to bytes p)) (drop (ticks_to bytes p) bytes) p (cut bytes p (ticks_to bytes p) (omega (arith, some)) room)))
-        (omega arith) a.runs a.brackets)
+        (omega arith) refl a.brackets)
         (clean_after bytes (ticks_to bytes p - 1) (ticks_to bytes p) (omega (arith, some)) (ap (λ c. c == 32) last_tick))
         some room (omega arith) is
         (step_look bytes ahead defs s 96 tick_marks (let q : s.resume ≤ p = a.resume in let r : s.place ≡ p = a.place in omega arith)

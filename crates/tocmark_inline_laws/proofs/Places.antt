@@ -7,7 +7,7 @@ use Rattle.std.specs.List.{AllByRecursion, list_any, starts_with}
 use Rattle.tocmark_read_scan.specs.Basic.{byte_at, starts_at}
 use Rattle.tocmark_read_scan.specs.Repeat.{iterated, going_on}
 use Rattle.tocmark_read_scan.proofs.PlainPlaces.{byte_dropped}
-use Rattle.tocmark_read_scan.proofs.PlainTests.{eq_of, both_false}
+use Rattle.tocmark_read_scan.proofs.PlainTests.{eq_of, both_false, or_first, or_second}
 use Rattle.tocmark_read_inlines.specs.Scan.{before_space}
 use Rattle.tocmark_read_spans.specs.declared.role.Role.TheVariants as role
 use Rattle.tocmark_inline_laws.proofs.Sim.{Clean}
@@ -128,6 +128,12 @@ pub no_byte : (g : ℕ → Bool) (bytes : List ℕ) (p : ℕ) → list_any g byt
 no_byte g [] p h l = absurd (omega arith)
 no_byte g (x ∷ xs) zero h l = (both_false (g x) (list_any g xs) h).0
 no_byte g (x ∷ xs) (suc p) h l = no_byte g xs p ((both_false (g x) (list_any g xs) h).1) (omega arith)
+
+-- a byte of a content passes a test, so some byte does
+pub any_byte : (g : ℕ → Bool) (bytes : List ℕ) (p : ℕ) → p < length bytes → g (byte_at bytes p) ≡ true → list_any g bytes ≡ true
+any_byte g [] p l h = absurd (omega arith)
+any_byte g (x ∷ xs) zero l h = or_first (g x) (list_any g xs) h
+any_byte g (x ∷ xs) (suc p) l h = or_second (g x) (list_any g xs) (any_byte g xs p (omega arith) h)
 
 -- past the end a line feed is assumed
 pub past_end : (bytes : List ℕ) (p : ℕ) → length bytes ≤ p → byte_at bytes p ≡ 10

@@ -50,7 +50,8 @@ byte_is Q bytes [] rest p j e h l = absurd (omega arith)
 byte_is Q bytes (x ∷ xs) rest p zero e h l = subst Q (sym (ap (λ m. byte_at bytes m) (let k : p + 0 ≡ p = omega arith in k) ∙ byte_dropped bytes p x (xs ++ rest) e)) (h.0)
 byte_is Q bytes (x ∷ xs) rest p (suc j) e h l = subst (λ m. Q (byte_at bytes m)) (let k : suc p + j ≡ p + suc j = omega arith in k) (byte_is Q bytes xs rest (suc p) j (drop_more bytes p x (xs ++ rest) e) (h.1) (omega arith))
 
-plains_flow : (e : Beside) (xs rest : List ℕ) (p depth : ℕ) (out : List Piece) → drop p e.bytes ≡ xs ++ rest → fold (flow_step e) (flow_at depth p out) (replicate (length xs) role.Plain) ≡ flow_at depth (p + length xs) (out ++ letters depth xs)
+-- plain bytes, one by one
+pub plains_flow : (e : Beside) (xs rest : List ℕ) (p depth : ℕ) (out : List Piece) → drop p e.bytes ≡ xs ++ rest → fold (flow_step e) (flow_at depth p out) (replicate (length xs) role.Plain) ≡ flow_at depth (p + length xs) (out ++ letters depth xs)
 unfolding flow_step
 plains_flow e [] rest p depth out h = ap (λ q. flow_at depth q out) (let k : p ≡ p + 0 = omega arith in k) ∙ ap (λ ps. flow_at depth (p + 0) ps) (sym (append-nil out))
 plains_flow e (x ∷ xs) rest p depth out h =

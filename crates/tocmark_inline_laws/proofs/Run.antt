@@ -1,5 +1,5 @@
 -- The first pass over a content, token by token.
-use Rattle.std.proofs.Common.{◌≡◌, ℕ, zero, suc, ◌+◌, ◌-◌, ◌^◌, ◌<◌, ◌≤◌, Bool, true, false, nat_lt, List, [], ◌∷◌, ◌++◌, length, take, drop, replicate, refl, ap, sym, subst, ◌∙◌, arith, append-nil}
+use Rattle.std.proofs.Common.{◌≡◌, ℕ, zero, suc, ◌+◌, ◌-◌, ◌^◌, ◌<◌, ◌≤◌, Bool, true, false, nat_lt, List, [], ◌∷◌, ◌++◌, length, drop, replicate, refl, ap, sym, subst, ◌∙◌, arith, append-nil}
 use Rattle.std.proofs.lemmas.Bool.Decides.{nat_tests}
 use Rattle.std.proofs.Math.Seq.{drop-length}
 use Rattle.std.specs.Prelude.{Option, slice_get}
@@ -8,10 +8,8 @@ use Rattle.tocmark_read_scan.specs.Basic.{byte_at}
 use Rattle.tocmark_read_inlines.specs.Inlines.{scan_start}
 use Rattle.tocmark_read_inlines.specs.Scan.{State, Known, ahead_in, settled, scanned_in}
 use Rattle.tocmark_read_inlines.specs.Write.{written}
-use Rattle.tocmark_read_spans.specs.Emphasis as reader
 use Rattle.tocmark_read_spans.specs.declared.definitions.Entry.{Entry}
 use Rattle.tocmark_read_spans.specs.declared.role.Role.TheVariants as role
-use Rattle.tocmark_read_spans.specs.declared.run.Run.{Run}
 use Rattle.tocmark_read_spans.specs.declared.role.Stretch.{Stretch}
 use Rattle.tocmark_read_spans.specs.declared.role.Target.{Target}
 use Rattle.tocmark_commonmark.specs.InlineTree.{Atom}
@@ -23,12 +21,13 @@ use Rattle.tocmark_inline_laws.proofs.Atoms.{with_more, trail_says}
 use Rattle.tocmark_inline_laws.proofs.Flow.{Flow, Beside, flow_step, flow_start, written_flows}
 use Rattle.tocmark_inline_laws.proofs.Passes.{step}
 use Rattle.tocmark_inline_laws.proofs.Places.{clean_front}
-use Rattle.tocmark_inline_laws.proofs.Sim.{beside, Sim, Goes}
+use Rattle.tocmark_inline_laws.proofs.Sim.{beside, runs_of, weight, Sim, Goes}
 use Rattle.tocmark_inline_laws.proofs.Stretches.{got, not_got}
-use Rattle.tocmark_inline_laws.proofs.Whole.{whole_emphasized}
+use Rattle.tocmark_inline_laws.proofs.Unmatched.{unmatched}
+use Rattle.tocmark_inline_laws.proofs.Flat.{flat_emphasized}
 
--- both go on at a place with these atoms
-pub record Next (bytes : List ℕ) (ahead : Known) (defs : List ℕ → Option Entry) (labels : List Destination) (p : ℕ) (s : State) (done : List Atom) (b : ℕ) (k : Kind) : Type 0 where
+-- both go on at a place with these atoms, and what holds of the places of tokens holds there
+pub record Next (P : ℕ → List Atom → Type 0) (bytes : List ℕ) (ahead : Known) (defs : List ℕ → Option Entry) (labels : List Destination) (p : ℕ) (s : State) (done : List Atom) (b : ℕ) (k : Kind) : Type 0 where
   pub end : ℕ
   pub atoms : List Atom
   pub after : State
@@ -36,11 +35,12 @@ pub record Next (bytes : List ℕ) (ahead : Known) (defs : List ℕ → Option E
   pub further : p < end
   pub within : end ≤ length bytes
   pub sim : Sim bytes end after atoms
+  pub onward : P end atoms
   pub declares : (go : ℕ → List Atom → List Atom) → scanned_at go bytes labels p done b k ≡ go end atoms
 
 -- by a token
-pub next_by : (bytes : List ℕ) (ahead : Known) (defs : List ℕ → Option Entry) (labels : List Destination) (p : ℕ) (s : State) (done : List Atom) (b : ℕ) (k : Kind) (t : Token) → Goes bytes ahead defs p s done t → ((go : ℕ → List Atom → List Atom) → scanned_at go bytes labels p done b k ≡ go t.end (t.atom ∷ done)) → Next bytes ahead defs labels p s done b k
-next_by bytes ahead defs labels p s done b k t g d = record {
+pub next_by : (P : ℕ → List Atom → Type 0) (bytes : List ℕ) (ahead : Known) (defs : List ℕ → Option Entry) (labels : List Destination) (p : ℕ) (s : State) (done : List Atom) (b : ℕ) (k : Kind) (t : Token) → Goes bytes ahead defs p s done t → (p < t.end → P t.end (t.atom ∷ done)) → ((go : ℕ → List Atom → List Atom) → scanned_at go bytes labels p done b k ≡ go t.end (t.atom ∷ done)) → Next P bytes ahead defs labels p s done b k
+next_by P bytes ahead defs labels p s done b k t g onward d = record {
   end = t.end;
   atoms = t.atom ∷ done;
   after = g.after;
@@ -48,28 +48,29 @@ next_by bytes ahead defs labels p s done b k t g d = record {
   further = g.further;
   within = g.within;
   sim = g.sim;
+  onward = onward g.further;
   declares = d;
 }
 
--- each byte of a content is read as declared
-abbrev pub GoesOn : List ℕ → Known → (List ℕ → Option Entry) → List Destination → Type 0
-GoesOn bytes ahead defs labels = (p : ℕ) (s : State) (done : List Atom) → Sim bytes p s done → p < length bytes → Next bytes ahead defs labels p s done (byte_at bytes p) (kind_of (byte_at bytes p))
+-- each byte at the place of a token is read as declared
+abbrev pub GoesOn : (ℕ → List Atom → Type 0) → List ℕ → Known → (List ℕ → Option Entry) → List Destination → Type 0
+GoesOn P bytes ahead defs labels = (p : ℕ) (s : State) (done : List Atom) → Sim bytes p s done → P p done → p < length bytes → Next P bytes ahead defs labels p s done (byte_at bytes p) (kind_of (byte_at bytes p))
 
 record Reaches (bytes : List ℕ) (ahead : Known) (defs : List ℕ → Option Entry) (p : ℕ) (s : State) (atoms : List Atom) : Type 0 where
   after : State
   same : fold (step bytes ahead defs) s (drop p bytes) ≡ after
   sim : Sim bytes (length bytes) after atoms
 
-runs_on : (bytes : List ℕ) (ahead : Known) (defs : List ℕ → Option Entry) (labels : List Destination) → GoesOn bytes ahead defs labels → (fuel p : ℕ) (s : State) (done : List Atom) → Sim bytes p s done → p ≤ length bytes → length bytes < p + fuel → Reaches bytes ahead defs p s (scanned fuel bytes labels p done)
+runs_on : (P : ℕ → List Atom → Type 0) (bytes : List ℕ) (ahead : Known) (defs : List ℕ → Option Entry) (labels : List Destination) → GoesOn P bytes ahead defs labels → (fuel p : ℕ) (s : State) (done : List Atom) → Sim bytes p s done → P p done → p ≤ length bytes → length bytes < p + fuel → Reaches bytes ahead defs p s (scanned fuel bytes labels p done)
 unfolding scanned
-runs_on bytes ahead defs labels each zero p s done a l m = absurd (omega arith)
-runs_on bytes ahead defs labels each (suc fuel) p s done a l m = by (runs_on bytes ahead defs labels each fuel) (nat_lt p (length bytes)) refl
+runs_on P bytes ahead defs labels each zero p s done a h l m = absurd (omega arith)
+runs_on P bytes ahead defs labels each (suc fuel) p s done a h l m = by (runs_on P bytes ahead defs labels each fuel) (nat_lt p (length bytes)) refl
   where
-    by : ((q : ℕ) (u : State) (d : List Atom) → Sim bytes q u d → q ≤ length bytes → length bytes < q + fuel → Reaches bytes ahead defs q u (scanned fuel bytes labels q d)) → (z : Bool) → nat_lt p (length bytes) ≡ z → Reaches bytes ahead defs p s (scanned_if (λ q d. scanned fuel bytes labels q d) bytes labels p done (slice_get bytes p))
+    by : ((q : ℕ) (u : State) (d : List Atom) → Sim bytes q u d → P q d → q ≤ length bytes → length bytes < q + fuel → Reaches bytes ahead defs q u (scanned fuel bytes labels q d)) → (z : Bool) → nat_lt p (length bytes) ≡ z → Reaches bytes ahead defs p s (scanned_if (λ q d. scanned fuel bytes labels q d) bytes labels p done (slice_get bytes p))
     by later true e =
         let inner : p < length bytes = grind (arith, nat_tests, e) in
-        let n : Next bytes ahead defs labels p s done (byte_at bytes p) (kind_of (byte_at bytes p)) = each p s done a inner in
-        let rest : Reaches bytes ahead defs n.end n.after (scanned fuel bytes labels n.end n.atoms) = later n.end n.after n.atoms n.sim n.within (let f : p < n.end = n.further in omega arith) in
+        let n : Next P bytes ahead defs labels p s done (byte_at bytes p) (kind_of (byte_at bytes p)) = each p s done a h inner in
+        let rest : Reaches bytes ahead defs n.end n.after (scanned fuel bytes labels n.end n.atoms) = later n.end n.after n.atoms n.sim n.onward n.within (let f : p < n.end = n.further in omega arith) in
         subst (λ (o : Option ℕ). Reaches bytes ahead defs p s (scanned_if (λ q d. scanned fuel bytes labels q d) bytes labels p done o)) (sym (got bytes p inner))
         (subst (λ (xs : List Atom). Reaches bytes ahead defs p s xs) (sym (n.declares (λ q d. scanned fuel bytes labels q d)))
         (record { after = rest.after; same = n.same ∙ rest.same; sim = rest.sim }))
@@ -89,33 +90,29 @@ starts bytes targets texts missed = record {
   roles = ap (λ n. replicate n role.Plain) (let k : length bytes ≡ length bytes - 0 = omega arith in k);
   long = refl;
   trail = refl;
-  whole = tt;
+  flat = tt;
+  light = omega arith;
   runs = refl;
   brackets = refl;
   clean = clean_front bytes;
 }
 
--- no run is left
-unmatched : (s : State) → s.runs ≡ [] → settled 0 s ≡ record s { runs = [] }
-unfolding settled reader.emphasized
-unmatched s h = ap (λ (rs : List Run). record s { roles = reader.emphasized s.roles (drop 0 rs); runs = take 0 rs }) h
-
--- where each byte is read as declared, the whole content is
-pub read_as_declared : (bytes : List ℕ) (defs : List ℕ → Option Entry) (labels : List Destination) (targets : List Target) (texts : List ℕ) (missed : List Stretch) → length bytes + 2 < 2 ^ 64 → GoesOn bytes (ahead_in commonmark bytes) defs labels → said bytes defs targets texts missed ≡ declared 0 (inlines labels bytes)
+-- where each token is read as declared, the whole content is
+pub read_as_declared : (P : ℕ → List Atom → Type 0) (bytes : List ℕ) (defs : List ℕ → Option Entry) (labels : List Destination) (targets : List Target) (texts : List ℕ) (missed : List Stretch) → length bytes + 2 < 2 ^ 64 → P 0 [] → GoesOn P bytes (ahead_in commonmark bytes) defs labels → said bytes defs targets texts missed ≡ declared 0 (inlines labels bytes)
 unfolding scanned_in inlines
-read_as_declared bytes defs labels targets texts missed fits each =
-    ap (state_said bytes) (ap (settled 0) ends.same ∙ unmatched s a.runs)
+read_as_declared P bytes defs labels targets texts missed fits front each =
+    ap (state_said bytes) (ap (settled 0) ends.same ∙ unmatched s atoms a.runs a.flat (let l : weight (runs_of atoms) ≤ length bytes = a.light in omega arith))
     ∙ ap (λ rs. flat_map (node_said bytes s.texts s.targets) (written rs 0)) roles
     ∙ written_flows (beside bytes s) a.front long (omega arith)
     ∙ ap (λ (e : Beside). (fold (flow_step e) flow_start a.front).out) same
     ∙ ap (λ (f : Flow). f.out) (trail_says (beside bytes s) 0 a.front atoms a.trail)
-    ∙ ap (declared 0) (sym (whole_emphasized atoms a.whole))
+    ∙ ap (declared 0) (sym (flat_emphasized atoms a.flat))
   where
     atoms : List Atom
     atoms = scanned (length bytes + 1) bytes labels 0 []
 
     ends : Reaches bytes (ahead_in commonmark bytes) defs 0 (scan_start (length bytes) targets texts missed) atoms
-    ends = runs_on bytes (ahead_in commonmark bytes) defs labels each (length bytes + 1) 0 (scan_start (length bytes) targets texts missed) [] (starts bytes targets texts missed) (omega arith) (omega arith)
+    ends = runs_on P bytes (ahead_in commonmark bytes) defs labels each (length bytes + 1) 0 (scan_start (length bytes) targets texts missed) [] (starts bytes targets texts missed) front (omega arith) (omega arith)
 
     s : State
     s = ends.after

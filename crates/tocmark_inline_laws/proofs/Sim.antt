@@ -1,5 +1,5 @@
 -- The first pass and the declaration, side by side, at a place where a token begins.
-use Rattle.std.proofs.Common.{◌≡◌, ℕ, suc, ◌+◌, ◌-◌, ◌^◌, ◌<◌, ◌≤◌, Bool, true, false, ◌==◌, ◌||◌, nat_le, List, [], ◌∷◌, ◌++◌, length, drop, replicate, refl, ap, sym, subst, ◌∙◌, arith, append_assoc, length-append}
+use Rattle.std.proofs.Common.{◌≡◌, ℕ, suc, ◌+◌, ◌-◌, ◌^◌, ◌<◌, ◌≤◌, Bool, true, false, ◌==◌, ◌||◌, nat_le, if◌then◌else◌, List, [], ◌∷◌, ◌++◌, length, drop, replicate, refl, ap, sym, subst, ◌∙◌, arith, append_assoc, length-append}
 use Rattle.std.proofs.lemmas.Bool.Decides.{nat_tests}
 use Rattle.std.specs.Prelude.{Option, Some, None, slice_get, ⊤}
 use Rattle.std.specs.List.{fold}
@@ -9,8 +9,10 @@ use Rattle.tocmark_read_spans.specs.declared.definitions.Entry.{Entry}
 use Rattle.tocmark_read_spans.specs.declared.role.Role.{Role}
 use Rattle.tocmark_read_spans.specs.declared.role.Role.TheVariants as role
 use Rattle.tocmark_read_spans.specs.declared.role.Target.{Target}
-use Rattle.tocmark_commonmark.specs.InlineTree.{Inline, Atom, Whole}
+use Rattle.tocmark_read_spans.specs.declared.run.Run.{Run}
+use Rattle.tocmark_commonmark.specs.InlineTree.{Inline, Atom, Whole, Delimiters, Opening, as_inline}
 use Rattle.tocmark_commonmark.specs.Tokens.{Token, token}
+use Rattle.tocmark_inline_laws.specs.Statement.{runs_after, is_flat}
 use Rattle.tocmark_inline_laws.proofs.Flow.{Beside}
 use Rattle.tocmark_inline_laws.proofs.Stretches.{cut_length, first_cut, none}
 use Rattle.tocmark_inline_laws.proofs.Atoms.{with_more, Shows, Trail, trail_more}
@@ -28,11 +30,35 @@ is_gap c = (c == 32) || (c == 10)
 abbrev pub Clean : List ℕ → ℕ → Type 0
 Clean bytes p = (c : ℕ) → slice_get bytes p ≡ Some c → is_gap c ≡ true → before_space bytes p ≡ None
 
--- all atoms are whole
-abbrev pub AreWhole : List Atom → Type 0
-AreWhole [] = ⊤
-AreWhole (Whole i ∷ done) = AreWhole done
-AreWhole (a ∷ done) = ⊥
+-- the delimiter runs among atoms
+abbrev pub runs_of : List Atom → List Run
+runs_of [] = []
+runs_of (a ∷ done) = runs_after (runs_of done) a
+
+-- all atoms are inlines, or runs of `*` or `_` that match none before them
+abbrev pub AreFlat : List Atom → Type 0
+AreFlat [] = ⊤
+AreFlat (Whole i ∷ done) = AreFlat done
+AreFlat (Delimiters r ∷ done) = (is_flat (runs_of done) (Delimiters r) ≡ true) × ((r.byte == 126) ≡ false) × AreFlat done
+AreFlat (Opening b ∷ done) = ⊥
+
+-- how long runs are
+abbrev pub weight : List Run → ℕ
+weight [] = 0
+weight (r ∷ rs) = r.length + weight rs
+
+-- the runs that the reader keeps: those that can open or close
+abbrev pub runs_with : List Run → Run → List Run
+runs_with runs r = if r.opens || r.closes then runs ++ r ∷ [] else runs
+
+abbrev pub kept_after : List Run → Atom → List Run
+kept_after runs (Whole i) = runs
+kept_after runs (Delimiters r) = runs_with runs r
+kept_after runs (Opening b) = runs
+
+abbrev pub kept_of : List Atom → List Run
+kept_of [] = []
+kept_of (a ∷ done) = kept_after (kept_of done) a
 
 -- at a place the roles so far say the atoms so far
 pub record Sim (bytes : List ℕ) (p : ℕ) (s : State) (done : List Atom) : Type 0 where
@@ -42,8 +68,9 @@ pub record Sim (bytes : List ℕ) (p : ℕ) (s : State) (done : List Atom) : Typ
   pub roles : s.roles ≡ front ++ replicate (length bytes - p) role.Plain
   pub long : length front ≡ p
   pub trail : Trail (beside bytes s) front done
-  pub whole : AreWhole done
-  pub runs : s.runs ≡ []
+  pub flat : AreFlat done
+  pub light : weight (runs_of done) ≤ p
+  pub runs : s.runs ≡ kept_of done
   pub brackets : s.brackets ≡ []
   pub clean : Clean bytes p
 
@@ -56,29 +83,34 @@ pub record Goes (bytes : List ℕ) (ahead : Known) (defs : List ℕ → Option E
   pub sim : Sim bytes t.end after (t.atom ∷ done)
 
 -- what a token made of a state: these roles, texts and targets more
-pub record Took (bytes : List ℕ) (p end : ℕ) (s t : State) (front seg : List Role) (i : Inline) : Type 0 where
+pub record TookAtom (bytes : List ℕ) (p end : ℕ) (s t : State) (front seg : List Role) (x : Atom) : Type 0 where
   pub texts : List ℕ
   pub targets : List Target
   pub roles : t.roles ≡ front ++ (seg ++ replicate (length bytes - end) role.Plain)
   pub long : p + length seg ≡ end
   pub more_texts : t.texts ≡ s.texts ++ texts
   pub more_targets : t.targets ≡ s.targets ++ targets
-  pub shows : Shows (with_more (beside bytes s) texts targets) p seg i
+  pub shows : Shows (with_more (beside bytes s) texts targets) p seg (as_inline x)
   pub resume : t.resume ≤ end
-  pub runs : t.runs ≡ []
+  pub runs : t.runs ≡ kept_after s.runs x
   pub brackets : t.brackets ≡ []
 
+-- an inline
+abbrev pub Took : List ℕ → ℕ → ℕ → State → State → List Role → List Role → Inline → Type 0
+Took bytes p end s t front seg i = TookAtom bytes p end s t front seg (Whole i)
+
 -- the state behind a token
-pub took_sim : (bytes : List ℕ) (p end : ℕ) (s t : State) (done : List Atom) (seg : List Role) (i : Inline) (a : Sim bytes p s done) → Took bytes p end s t a.front seg i → Clean bytes end → Sim bytes end (with_place end t) (Whole i ∷ done)
-took_sim bytes p end s t done seg i a k clean = record {
+pub took_atom : (bytes : List ℕ) (p end : ℕ) (s t : State) (done : List Atom) (seg : List Role) (x : Atom) (a : Sim bytes p s done) → TookAtom bytes p end s t a.front seg x → AreFlat (x ∷ done) → weight (runs_of (x ∷ done)) ≤ end → Clean bytes end → Sim bytes end (with_place end t) (x ∷ done)
+took_atom bytes p end s t done seg x a k flat light clean = record {
   front = a.front ++ seg;
   place = refl;
   resume = k.resume;
   roles = k.roles ∙ sym (append_assoc a.front seg (replicate (length bytes - end) role.Plain));
   long = length-append a.front seg ∙ ap (λ n. n + length seg) a.long ∙ k.long;
   trail = (a.front, seg, refl, here, before);
-  whole = a.whole;
-  runs = k.runs;
+  flat = flat;
+  light = light;
+  runs = k.runs ∙ ap (λ rs. kept_after rs x) a.runs;
   brackets = k.brackets;
   clean = clean;
 }
@@ -86,15 +118,19 @@ took_sim bytes p end s t done seg i a k clean = record {
     same : with_more (beside bytes s) k.texts k.targets ≡ beside bytes t
     same = ap (λ (ts : List ℕ). record (with_more (beside bytes s) k.texts k.targets) { texts = ts }) (sym k.more_texts) ∙ ap (λ (gs : List Target). record (beside bytes t) { targets = gs }) (sym k.more_targets)
 
-    here : Shows (beside bytes t) (length a.front) seg i
-    here = subst (λ q. Shows (beside bytes t) q seg i) (sym a.long) (subst (λ (e : Beside). Shows e p seg i) same k.shows)
+    here : Shows (beside bytes t) (length a.front) seg (as_inline x)
+    here = subst (λ q. Shows (beside bytes t) q seg (as_inline x)) (sym a.long) (subst (λ (e : Beside). Shows e p seg (as_inline x)) same k.shows)
 
     before : Trail (beside bytes t) a.front done
     before = subst (λ (e : Beside). Trail e a.front done) same (trail_more (beside bytes s) k.texts k.targets a.front done a.trail)
 
+-- an inline
+pub took_sim : (bytes : List ℕ) (p end : ℕ) (s t : State) (done : List Atom) (seg : List Role) (i : Inline) (a : Sim bytes p s done) → Took bytes p end s t a.front seg i → Clean bytes end → Sim bytes end (with_place end t) (Whole i ∷ done)
+took_sim bytes p end s t done seg i a k clean = took_atom bytes p end s t done seg (Whole i) a k a.flat (let l : p + length seg ≡ end = k.long in let m : weight (runs_of done) ≤ p = a.light in omega arith) clean
+
 -- a token of which the first byte is read, and the others are passed by
-pub goes_by : (bytes : List ℕ) (ahead : Known) (defs : List ℕ → Option Entry) (p end b : ℕ) (s t : State) (done : List Atom) (seg : List Role) (i : Inline) (a : Sim bytes p s done) → Took bytes p end s t a.front seg i → Clean bytes end → p < end → end ≤ length bytes → length bytes + 1 < 2 ^ 64 → byte_at bytes p ≡ b → step bytes ahead defs s b ≡ next_place t → t.place ≡ p → end ≤ suc p + (t.resume - suc p) → Goes bytes ahead defs p s done (token i end)
-goes_by bytes ahead defs p end b s t done seg i a k clean more in_it fits is looked at far = record {
+pub goes_atom : (bytes : List ℕ) (ahead : Known) (defs : List ℕ → Option Entry) (p end b : ℕ) (s t : State) (done : List Atom) (seg : List Role) (x : Atom) (a : Sim bytes p s done) → TookAtom bytes p end s t a.front seg x → AreFlat (x ∷ done) → weight (runs_of (x ∷ done)) ≤ end → Clean bytes end → p < end → end ≤ length bytes → length bytes + 1 < 2 ^ 64 → byte_at bytes p ≡ b → step bytes ahead defs s b ≡ next_place t → t.place ≡ p → end ≤ suc p + (t.resume - suc p) → Goes bytes ahead defs p s done (record { atom = x; end = end })
+goes_atom bytes ahead defs p end b s t done seg x a k flat light clean more in_it fits is looked at far = record {
   after = with_place end t;
   same =
       ap (fold (step bytes ahead defs) s) (first_cut bytes p end more in_it)
@@ -102,7 +138,7 @@ goes_by bytes ahead defs p end b s t done seg i a k clean more in_it fits is loo
       ∙ by_resume (nat_le end t.resume) refl;
   further = more;
   within = in_it;
-  sim = took_sim bytes p end s t done seg i a k clean;
+  sim = took_atom bytes p end s t done seg x a k flat light clean;
 }
   where
     xs : List ℕ
@@ -119,3 +155,7 @@ goes_by bytes ahead defs p end b s t done seg i a k clean more in_it fits is loo
     by_resume false e =
         let one : end ≡ suc p = (let h : t.resume < end = grind (arith, nat_tests) in omega arith) in
         ap (λ ys. fold (step bytes ahead defs) (with_place (suc p) t) (ys ++ drop end bytes)) (none xs (let h : length xs ≡ 0 = omega (arith, len, one) in h)) ∙ ap (λ q. fold (step bytes ahead defs) (with_place q t) (drop end bytes)) (sym one)
+
+-- an inline
+pub goes_by : (bytes : List ℕ) (ahead : Known) (defs : List ℕ → Option Entry) (p end b : ℕ) (s t : State) (done : List Atom) (seg : List Role) (i : Inline) (a : Sim bytes p s done) → Took bytes p end s t a.front seg i → Clean bytes end → p < end → end ≤ length bytes → length bytes + 1 < 2 ^ 64 → byte_at bytes p ≡ b → step bytes ahead defs s b ≡ next_place t → t.place ≡ p → end ≤ suc p + (t.resume - suc p) → Goes bytes ahead defs p s done (token i end)
+goes_by bytes ahead defs p end b s t done seg i a k clean more in_it fits is looked at far = goes_atom bytes ahead defs p end b s t done seg (Whole i) a k a.flat (let m : weight (runs_of done) ≤ p = a.light in omega arith) clean more in_it fits is looked at far

@@ -197,7 +197,7 @@ named_climbs bytes q name h e = by (is_ascii_alphabetic (byte_at bytes q)) e
     by true k = some_climbs q (run_end bytes q class.TagName) name (run_climbs bytes q class.TagName h) k
     by false k = absurd (some_none name k)
 
-closing_angled : (bytes : List ℕ) (p end : ℕ) → p + 4 < 2 ^ 64 → closing_tag bytes p ≡ Some end → Angled bytes p end
+closing_angled : (bytes : List ℕ) (p end : ℕ) → p + 3 < 2 ^ 64 → closing_tag bytes p ≡ Some end → Angled bytes p end
 unfolding closing_tag
 closing_angled bytes p end fits e = by (name_end bytes (plus p 2)) refl e
   where
@@ -215,7 +215,7 @@ closing_angled bytes p end fits e = by (name_end bytes (plus p 2)) refl e
         of true x y = record { at = run_end bytes name class.White; bracket = eq_of (byte_at bytes (run_end bytes name class.White)) 62 x; end_is = same_some (plus (run_end bytes name class.White) 1) end y; behind = (let u : plus p 2 ≤ name = c.up in let v : name ≤ run_end bytes name class.White = w.up in omega arith) }
         of false x y = absurd (some_none end y)
 
-open_angled : (bytes : List ℕ) (p end : ℕ) → p + 4 < 2 ^ 64 → open_tag bytes p ≡ Some end → Angled bytes p end
+open_angled : (bytes : List ℕ) (p end : ℕ) → p + 3 < 2 ^ 64 → open_tag bytes p ≡ Some end → Angled bytes p end
 unfolding open_tag tag_close
 open_angled bytes p end fits e = by (name_end bytes (plus p 1)) refl e
   where
@@ -244,7 +244,7 @@ open_angled bytes p end fits e = by (name_end bytes (plus p 1)) refl e
         of false false f g k2 = absurd (some_none end k2)
 
 -- 6.6: raw HTML
-pub html_angled : (bytes : List ℕ) (p end : ℕ) → p < length bytes → length bytes + 4 < 2 ^ 64 → html_end bytes p ≡ Some end → Angled bytes p end
+pub html_angled : (bytes : List ℕ) (p end : ℕ) → p < length bytes → length bytes + 2 < 2 ^ 64 → html_end bytes p ≡ Some end → Angled bytes p end
 html_angled bytes p end inner wide e = by (starts_at bytes p (codes "</")) (starts_at bytes p (codes "<?")) (starts_at bytes p (codes "<!--")) (starts_at bytes p (codes "<![CDATA[")) (starts_at bytes p (codes "<!")) refl refl refl refl e
   where
     comments : (x y : Bool) → starts_at bytes p (codes "<!--") ≡ true → starts_at bytes p (codes "<!-->") ≡ x → starts_at bytes p (codes "<!--->") ≡ y → (if x then Some (p + 5) else (if y then Some (p + 6) else after_word bytes (codes "-->") (p + 4))) ≡ Some end → Angled bytes p end
@@ -275,7 +275,7 @@ html_angled bytes p end inner wide e = by (starts_at bytes p (codes "</")) (star
     by false false false false false ea eb ec ed k = open_angled bytes p end (omega arith) k
 
 -- what the reader knows of the last ends changes nothing
-pub raw_so : (bytes : List ℕ) (p : ℕ) → p < length bytes → length bytes + 4 < 2 ^ 64 → raw_html bytes p (last_ends bytes) ≡ html_end bytes p
+pub raw_so : (bytes : List ℕ) (p : ℕ) → p < length bytes → length bytes + 2 < 2 ^ 64 → raw_html bytes p (last_ends bytes) ≡ html_end bytes p
 unfolding raw_html last_ends comment declaration
 raw_so bytes p inner wide = by (starts_at bytes p (codes "</")) (starts_at bytes p (codes "<?")) (starts_at bytes p (codes "<!--")) (starts_at bytes p (codes "<![CDATA[")) (starts_at bytes p (codes "<!")) refl refl refl refl
   where

@@ -29,7 +29,7 @@ use Rattle.tocmark_inline_laws.proofs.Plains.{drop_past, past_within, byte_is, p
 use Rattle.tocmark_inline_laws.proofs.Places.{set_here, set_next, plain_split, clean_after, two_at, past_end}
 
 -- roles of a token that adds no texts and no targets
-pub added : (bytes : List ℕ) (p end : ℕ) (s t : State) (front seg : List Role) (i : Inline) → t.roles ≡ front ++ (seg ++ replicate (length bytes - end) role.Plain) → p + length seg ≡ end → t.texts ≡ s.texts → t.targets ≡ s.targets → Shows (beside bytes s) p seg i → t.resume ≤ end → t.runs ≡ [] → t.brackets ≡ [] → Took bytes p end s t front seg i
+pub added : (bytes : List ℕ) (p end : ℕ) (s t : State) (front seg : List Role) (i : Inline) → t.roles ≡ front ++ (seg ++ replicate (length bytes - end) role.Plain) → p + length seg ≡ end → t.texts ≡ s.texts → t.targets ≡ s.targets → Shows (beside bytes s) p seg i → t.resume ≤ end → t.runs ≡ s.runs → t.brackets ≡ [] → Took bytes p end s t front seg i
 added bytes p end s t front seg i roles long same_texts same_targets shows resume runs brackets = record {
   texts = [];
   targets = [];
@@ -61,7 +61,7 @@ text_goes bytes ahead defs p b s done xs rest a in_it fits e h clean = record {
       refl refl
       (plains_show (beside bytes s) (b ∷ xs) rest p e)
       (let q : s.resume ≤ p = a.resume in omega arith)
-      a.runs a.brackets)
+      refl a.brackets)
       clean;
 }
   where
@@ -77,7 +77,7 @@ byte_goes bytes ahead defs p b s done a in_it fits is mark space same =
     refl refl refl
     (plains_show (beside bytes s) (b ∷ []) (drop (suc p) bytes) p (first_left bytes p in_it ∙ ap (λ c. c ∷ drop (suc p) bytes) is))
     (let q : s.resume ≤ p = a.resume in omega arith)
-    a.runs a.brackets)
+    refl a.brackets)
     (clean_after bytes p (p + 1) (omega arith) (ap (λ c. c == 32) is ∙ space))
     (omega arith) (omega arith) fits is
     (step_look bytes ahead defs s b mark (let q : s.resume ≤ p = a.resume in let r : s.place ≡ p = a.place in omega arith) ∙ ap next_place same)
@@ -97,7 +97,7 @@ leaf_goes bytes ahead defs p b end s t done l i more a further in_it fits is mar
       more_targets = sym (append-nil s.targets);
       shows = leaf_shows (with_more (beside bytes s) more []) p end l (replicate (end - suc p) role.Plain) (let q : length (replicate (end - suc p) role.Plain) ≡ end - suc p = length-replicate (end - suc p) role.Plain in omega arith) i says;
       resume = omega arith;
-      runs = a.runs;
+      runs = refl;
       brackets = a.brackets;
     })
     clean further in_it fits is
@@ -168,7 +168,7 @@ backslash_goes bytes ahead defs p s done a in_it fits is = by (is_escape bytes p
         set refl refl refl
         (hidden_shows (beside bytes s) p (role.Fresh ∷ []) (Text (byte_at bytes (p + 1) ∷ []))
         (fresh_shows (beside bytes s) (suc p) (byte_at bytes (p + 1)) (Text (byte_at bytes (p + 1) ∷ [])) (ap (λ m. byte_at bytes m) (let k : suc p ≡ p + 1 = omega arith in k)) (λ d. refl)))
-        (omega arith) a.runs a.brackets)
+        (omega arith) refl a.brackets)
         (clean_after bytes (p + 1) (p + 2) (omega arith) (turned is_ascii_punctuation 32 (byte_at bytes (p + 1)) punct refl))
         (omega arith) (omega (arith, far)) fits is
         (step_look bytes ahead defs s 92 backslash_marks (let q : s.resume ≤ p = a.resume in let r : s.place ≡ p = a.place in omega arith)
