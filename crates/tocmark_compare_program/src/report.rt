@@ -1,0 +1,299 @@
+//! How differences are written.
+
+use std::alloc::{AllocError, Global};
+use std::fmt;
+use std::fmt::Write;
+use tocmark_differences::Difference;
+use tocmark_files::quoted::{OneLine, Quoted};
+
+/// How differences are written.
+#[derive(Clone, Copy)]
+pub enum Form {
+    /// A line each.
+    Lines,
+    /// A JSON array, with a line for each.
+    Json,
+    /// An annotation of GitHub each.
+    Annotations,
+}
+
+/// What became of a file that only one folder has.
+#[derive(Clone, Copy)]
+pub enum Way {
+    Removed,
+    Added,
+}
+
+/// The kind of what only the old text has.
+const REMOVED: &str = "removed";
+
+/// How a text is quoted.
+#[derive(Clone, Copy)]
+enum Quoting {
+    /// In a string of JSON.
+    Json,
+    /// In the message of an annotation.
+    Message,
+    /// In a property of an annotation.
+    Property,
+}
+
+/// What is shown with escapes.
+#[derive(Drop)]
+struct Escaped<'m, M: fmt::Display>(&'m M, Quoting);
+
+/// What writes a text with escapes.
+#[derive(Drop)]
+struct Escaping<W: fmt::Write + Drop> {
+    out: W,
+    quoting: Quoting,
+}
+
+/// What GitHub takes for a character of an annotation.
+fn percent_of(c: char, is_property: bool) -> Option<&'static str> {
+    match c {
+        '%' => Some("%25"),
+        '\r' => Some("%0D"),
+        '\n' => Some("%0A"),
+        ':' if is_property => Some("%3A"),
+        ',' if is_property => Some("%2C"),
+        _ => None,
+    }
+}
+
+/// Writes a character of a string of JSON.
+fn write_json<W: fmt::Write>(out: &mut W, c: char) -> fmt::Result {
+    match c {
+        '"' => out.write_str("\\\""),
+        '\\' => out.write_str("\\\\"),
+        '\n' => out.write_str("\\n"),
+        '\t' => out.write_str("\\t"),
+        c if c < ' ' => {
+            let number = c as u32;
+            write!(out, "\\u{number:04x}")
+        }
+        c => out.write_char(c),
+    }
+}
+
+impl<W: fmt::Write + Drop> fmt::Write for Escaping<W> {
+    fn write_str(&mut self, text: &str) -> fmt::Result {
+        for c in text.chars() {
+            let escape = match self.quoting {
+                Quoting::Json => {
+                    write_json(&mut self.out, c)?;
+                    continue;
+                }
+                Quoting::Message => percent_of(c, false),
+                Quoting::Property => percent_of(c, true),
+            };
+            match escape {
+                Some(escape) => self.out.write_str(escape)?,
+                None => self.out.write_char(c)?,
+            }
+        }
+        Ok(())
+    }
+}
+
+impl<M: fmt::Display> fmt::Display for Escaped<'_, M> {
+    fn fmt<W: fmt::Write>(&self, f: &mut fmt::Formatter<W>) -> fmt::Result {
+        let (message, quoting) = (self.0, self.1);
+        let mut out = Escaping { out: f, quoting };
+        write!(out, "{message}")
+    }
+}
+
+/// A part of a file, by its first and its last line, or a whole file.
+#[derive(Clone, Copy)]
+struct Spot<'d> {
+    file: &'d str,
+    lines: Option<(usize, usize)>,
+}
+
+/// What is written of a difference.
+#[derive(Drop)]
+struct Entry<'d, M: fmt::Display> {
+    kind: &'static str,
+    old: Option<Spot<'d>>,
+    new: Option<Spot<'d>>,
+    was: &'d str,
+    is: &'d str,
+    phrase: &'d M,
+}
+
+impl fmt::Display for Spot<'_> {
+    fn fmt<W: fmt::Write>(&self, f: &mut fmt::Formatter<W>) -> fmt::Result {
+        let file = Quoted(self.file);
+        match self.lines {
+            Some((first, _)) => write!(f, "{file}:{first}"),
+            None => write!(f, "{file}"),
+        }
+    }
+}
+
+/// What is different, and where it was if it is removed.
+impl<M: fmt::Display> fmt::Display for Entry<'_, M> {
+    fn fmt<W: fmt::Write>(&self, f: &mut fmt::Formatter<W>) -> fmt::Result {
+        let phrase = OneLine(self.phrase);
+        write!(f, "{phrase}")?;
+        match (self.old, self.new) {
+            (Some(old), Some(_)) if self.kind == REMOVED => write!(f, " (was {old})"),
+            _ => Ok(()),
+        }
+    }
+}
+
+impl<M: fmt::Display> Entry<'_, M> {
+    /// Where the difference is shown: in the new text, if it is there.
+    fn spot(&self) -> Option<Spot<'_>> {
+        match self.new {
+            Some(new) => Some(new),
+            None => self.old,
+        }
+    }
+
+    fn write_line(&self, out: &mut String) -> Result<(), AllocError> {
+        if let Some(spot) = self.spot() {
+            write!(out, "{spot}: ")?;
+        }
+        writeln!(out, "{self}")
+    }
+
+    fn write_annotation(&self, out: &mut String) -> Result<(), AllocError> {
+        out.push_str("::error")?;
+        if let Some(Spot { file, lines }) = self.spot() {
+            let file = Escaped(&file, Quoting::Property);
+            write!(out, " file={file}")?;
+            if let Some((first, last)) = lines {
+                write!(out, ",line={first},endLine={last}")?;
+            }
+        }
+        let message = Escaped(self, Quoting::Message);
+        writeln!(out, "::{message}")
+    }
+
+    fn write_json(&self, out: &mut String) -> Result<(), AllocError> {
+        let kind = self.kind;
+        write!(out, "{{\"kind\": \"{kind}\", \"old\": ")?;
+        write_spot(out, self.old)?;
+        out.push_str(", \"new\": ")?;
+        write_spot(out, self.new)?;
+        let was = Escaped(&self.was, Quoting::Json);
+        let is = Escaped(&self.is, Quoting::Json);
+        write!(out, ", \"was\": \"{was}\", \"is\": \"{is}\"}}")
+    }
+}
+
+/// Writes a part of a file as JSON.
+fn write_spot(out: &mut String, spot: Option<Spot<'_>>) -> Result<(), AllocError> {
+    let Some(Spot { file, lines }) = spot else {
+        return out.push_str("null");
+    };
+    let file = Escaped(&file, Quoting::Json);
+    write!(out, "{{\"file\": \"{file}\", \"lines\": ")?;
+    match lines {
+        Some((first, last)) => write!(out, "[{first}, {last}]}}"),
+        None => out.push_str("null}"),
+    }
+}
+
+/// The differences that are to be written.
+#[derive(Drop)]
+pub struct Report {
+    form: Form,
+    text: String,
+    /// Whether a difference was added.
+    has_any: bool,
+}
+
+impl Report {
+    /// A report of nothing. It fails if memory runs out.
+    pub fn new(alloc: Global, form: Form) -> Result<Report, AllocError> {
+        let text = match form {
+            Form::Json => "[",
+            _ => "",
+        };
+        Ok(Report {
+            form,
+            text: String::from_str(alloc, text)?,
+            has_any: false,
+        })
+    }
+
+    /// What is to be written.
+    pub fn text(&self) -> &str {
+        self.text.as_str()
+    }
+
+    /// Removes what is written.
+    pub fn clear(&mut self) {
+        self.text.clear();
+    }
+
+    fn add<M: fmt::Display>(&mut self, entry: &Entry<'_, M>) -> Result<(), AllocError> {
+        let had_any = self.has_any;
+        self.has_any = true;
+        match self.form {
+            Form::Lines => entry.write_line(&mut self.text),
+            Form::Annotations => entry.write_annotation(&mut self.text),
+            Form::Json => {
+                self.text.push_str(if had_any { ",\n" } else { "\n" })?;
+                entry.write_json(&mut self.text)
+            }
+        }
+    }
+
+    /// Adds a difference between two texts with these names.
+    pub fn add_difference(
+        &mut self,
+        old: &str,
+        new: &str,
+        it: &Difference,
+    ) -> Result<(), AllocError> {
+        self.add(&Entry {
+            kind: it.kind.name(),
+            old: Some(Spot {
+                file: old,
+                lines: Some(it.old),
+            }),
+            new: Some(Spot {
+                file: new,
+                lines: Some(it.new),
+            }),
+            was: it.was.as_str(),
+            is: it.is.as_str(),
+            phrase: it,
+        })
+    }
+
+    /// Adds a file that only one folder has.
+    pub fn add_file(&mut self, file: &str, way: Way) -> Result<(), AllocError> {
+        let spot = Some(Spot { file, lines: None });
+        let (kind, old, new) = match way {
+            Way::Removed => (REMOVED, spot, None),
+            Way::Added => ("added", None, spot),
+        };
+        let phrase = match way {
+            Way::Removed => "removed: file",
+            Way::Added => "added: file",
+        };
+        self.add(&Entry {
+            kind,
+            old,
+            new,
+            was: "",
+            is: "",
+            phrase: &phrase,
+        })
+    }
+
+    /// Adds what comes after the last difference.
+    pub fn end(&mut self) -> Result<(), AllocError> {
+        match self.form {
+            Form::Json if self.has_any => self.text.push_str("\n]\n"),
+            Form::Json => self.text.push_str("]\n"),
+            _ => Ok(()),
+        }
+    }
+}

@@ -1,0 +1,374 @@
+//! What differs between two texts, in words.
+
+use crate::erase::Within;
+use crate::marks::Mark;
+use std::alloc::{AllocError, Global};
+use std::fmt;
+use tocmark_event::event::{CodeBlockKind, Event, HeadingLevel, Tag};
+
+/// How many characters of a text a message shows.
+const SHOWN: usize = 60;
+
+/// What kind of thing differs.
+#[derive(Clone, Copy, Debug, PartialEq, Eq)]
+pub enum Kind {
+    /// The words of a text.
+    Text,
+    /// Where a link or an image leads.
+    Destination,
+    /// The title of a link or an image.
+    Title,
+    /// The label of a link, or how it is spelled.
+    Label,
+    /// The level of a heading.
+    Level,
+    /// The first number of a list.
+    Number,
+    /// Code or math.
+    Code,
+    /// The info string of fenced code.
+    Info,
+    /// HTML.
+    Html,
+    /// What front matter says.
+    FrontMatter,
+    /// A link definition.
+    Definition,
+    /// Only the old text has it.
+    Removed,
+    /// Only the new text has it.
+    Added,
+    /// Anything else.
+    Structure,
+}
+
+/// A thing that differs.
+#[derive(Drop)]
+pub struct Difference {
+    /// What kind of thing it is.
+    pub kind: Kind,
+    /// What it is, in words.
+    pub what: &'static str,
+    /// The first and the last line in the old text, counted from 1. If only the new text has it: where it would be.
+    pub old: (usize, usize),
+    /// The same in the new text.
+    pub new: (usize, usize),
+    /// What the old text says, as far as it differs.
+    pub was: String,
+    /// What the new text says, as far as it differs.
+    pub is: String,
+}
+
+impl Kind {
+    /// The name of the kind, for programs.
+    pub fn name(self) -> &'static str {
+        match self {
+            Kind::Text => "text",
+            Kind::Destination => "destination",
+            Kind::Title => "title",
+            Kind::Label => "label",
+            Kind::Level => "level",
+            Kind::Number => "number",
+            Kind::Code => "code",
+            Kind::Info => "info",
+            Kind::Html => "html",
+            Kind::FrontMatter => "front-matter",
+            Kind::Definition => "definition",
+            Kind::Removed => "removed",
+            Kind::Added => "added",
+            Kind::Structure => "structure",
+        }
+    }
+}
+
+/// What a container is, in words.
+fn container_word(tag: &Tag<'_>) -> &'static str {
+    match tag {
+        Tag::Paragraph => "paragraph",
+        Tag::Heading { .. } => "heading",
+        Tag::BlockQuote(_) => "quote",
+        Tag::CodeBlock(_) => "code block",
+        Tag::HtmlBlock => "HTML block",
+        Tag::List(Some(_)) => "numbered list",
+        Tag::List(None) => "list",
+        Tag::Item => "list item",
+        Tag::FootnoteDefinition(_) => "footnote",
+        Tag::DefinitionList => "definition list",
+        Tag::DefinitionListTitle => "title of a definition list",
+        Tag::DefinitionListDefinition => "definition of a definition list",
+        Tag::Table(_) => "table",
+        Tag::TableHead => "table header",
+        Tag::TableRow => "table row",
+        Tag::TableCell => "table cell",
+        Tag::Emphasis => "emphasis",
+        Tag::Strong => "strong emphasis",
+        Tag::Strikethrough => "strikethrough",
+        Tag::Superscript => "superscript",
+        Tag::Subscript => "subscript",
+        Tag::Link { .. } => "link",
+        Tag::Image { .. } => "image",
+        Tag::MetadataBlock(_) => "front matter",
+    }
+}
+
+/// What a mark is, in words.
+pub fn word_of(mark: &Mark) -> &'static str {
+    match &mark.event {
+        Event::Start(tag) => container_word(tag),
+        Event::End(_) => "end",
+        Event::Text(_) => match mark.within {
+            Within::Prose => "text",
+            Within::Code => "code",
+            Within::Metadata => "front matter",
+        },
+        Event::Code(_) => "code span",
+        Event::InlineMath(_) => "inline math",
+        Event::DisplayMath(_) => "display math",
+        Event::Html(_) => "HTML",
+        Event::InlineHtml(_) => "inline HTML",
+        Event::FootnoteReference(_) => "footnote reference",
+        Event::SoftBreak => "line break in the source",
+        Event::HardBreak => "hard line break",
+        Event::Rule => "thematic break",
+        Event::TaskListMarker(_) => "task marker",
+    }
+}
+
+fn level_text(level: HeadingLevel) -> &'static str {
+    match level {
+        HeadingLevel::H1 => "1",
+        HeadingLevel::H2 => "2",
+        HeadingLevel::H3 => "3",
+        HeadingLevel::H4 => "4",
+        HeadingLevel::H5 => "5",
+        HeadingLevel::H6 => "6",
+    }
+}
+
+/// The info string of a code block; "indented" for one without fences.
+fn info_of<'c>(kind: &'c CodeBlockKind<'static>) -> &'c str {
+    match kind {
+        CodeBlockKind::Indented => "indented",
+        CodeBlockKind::Fenced(info) => info.as_ref(),
+    }
+}
+
+/// The first number of a list; none for bullets.
+fn number_text(alloc: Global, number: Option<u64>) -> Result<String, AllocError> {
+    let Some(number) = number else {
+        return String::from_str(alloc, "none");
+    };
+    match format!(in alloc; "{number}") {
+        Ok(text) => Ok(text),
+        Err(_) => Err(AllocError),
+    }
+}
+
+/// The bytes that two texts have in common at their front, up to a blank.
+fn common_front(was: &str, is: &str) -> usize {
+    let mut end = 0usize;
+    for ((at, one), other) in was.char_indices().zip(is.chars()) {
+        if one != other {
+            return end;
+        }
+        if one == ' ' || one == '\n' {
+            end = at.saturating_add(1);
+        }
+    }
+    end
+}
+
+/// The bytes that two texts have in common at their end, from a blank on.
+fn common_end(was: &str, is: &str) -> usize {
+    let mut length = 0usize;
+    let mut common = 0usize;
+    for (one, other) in was.bytes().rev().zip(is.bytes().rev()) {
+        if one != other {
+            return common;
+        }
+        length = length.saturating_add(1);
+        if one == b' ' || one == b'\n' {
+            common = length;
+        }
+    }
+    common
+}
+
+/// The words of two texts from the first one that differs to the last one.
+pub fn differing<'t>(was: &'t str, is: &'t str) -> (&'t str, &'t str) {
+    let front = common_front(was, is);
+    let was = was.get(front..).unwrap_or(was);
+    let is = is.get(front..).unwrap_or(is);
+    let end = common_end(was, is);
+    let was_end = was.len().saturating_sub(end);
+    let is_end = is.len().saturating_sub(end);
+    (
+        was.get(..was_end).unwrap_or(was),
+        is.get(..is_end).unwrap_or(is),
+    )
+}
+
+/// What a link or an image says beside its text.
+#[derive(Clone, Copy)]
+struct LinkTexts<'c> {
+    destination: &'c str,
+    title: &'c str,
+    label: &'c str,
+}
+
+fn link_texts<'c>(tag: &'c Tag<'static>) -> Option<LinkTexts<'c>> {
+    let (destination, title, label) = match tag {
+        Tag::Link {
+            dest_url,
+            title,
+            id,
+            ..
+        } => (dest_url, title, id),
+        Tag::Image {
+            dest_url,
+            title,
+            id,
+            ..
+        } => (dest_url, title, id),
+        _ => return None,
+    };
+    Some(LinkTexts {
+        destination: destination.as_ref(),
+        title: title.as_ref(),
+        label: label.as_ref(),
+    })
+}
+
+/// What differs between two starts, if they start the same kind of container.
+fn start_change<'c>(
+    old: &'c Tag<'static>,
+    new: &'c Tag<'static>,
+) -> Option<(Kind, &'c str, &'c str)> {
+    match (old, new) {
+        (Tag::Heading { level: was, .. }, Tag::Heading { level: is, .. }) => {
+            Some((Kind::Level, level_text(*was), level_text(*is)))
+        }
+        (Tag::CodeBlock(was), Tag::CodeBlock(is)) => Some((Kind::Info, info_of(was), info_of(is))),
+        _ => {
+            let (was, is) = (link_texts(old)?, link_texts(new)?);
+            if was.destination != is.destination {
+                return Some((Kind::Destination, was.destination, is.destination));
+            }
+            if was.title != is.title {
+                return Some((Kind::Title, was.title, is.title));
+            }
+            Some((Kind::Label, was.label, is.label))
+        }
+    }
+}
+
+/// The words of an event that is only words, and their kind.
+fn words_of<'c>(mark: &'c Mark) -> Option<(Kind, &'c str)> {
+    match &mark.event {
+        Event::Text(_) => {
+            let kind = match mark.within {
+                Within::Prose => Kind::Text,
+                Within::Code => Kind::Code,
+                Within::Metadata => Kind::FrontMatter,
+            };
+            Some((kind, mark.key.as_str()))
+        }
+        Event::Code(text) => Some((Kind::Code, text.as_ref())),
+        Event::InlineMath(text) => Some((Kind::Code, text.as_ref())),
+        Event::DisplayMath(text) => Some((Kind::Code, text.as_ref())),
+        Event::Html(text) => Some((Kind::Html, text.as_ref())),
+        Event::InlineHtml(text) => Some((Kind::Html, text.as_ref())),
+        Event::FootnoteReference(text) => Some((Kind::Structure, text.as_ref())),
+        _ => None,
+    }
+}
+
+/// What differs between two marks of the same word: its kind, and what each says.
+pub fn change_between(
+    alloc: Global,
+    old: &Mark,
+    new: &Mark,
+) -> Result<Option<(Kind, String, String)>, AllocError> {
+    let change = match (&old.event, &new.event) {
+        (Event::Start(Tag::List(was)), Event::Start(Tag::List(is))) => {
+            let (was, is) = (number_text(alloc, *was)?, number_text(alloc, *is)?);
+            return Ok(Some((Kind::Number, was, is)));
+        }
+        (Event::Start(was), Event::Start(is)) => start_change(was, is),
+        _ => match (words_of(old), words_of(new)) {
+            (Some((_, was)), Some((kind, is))) => {
+                let (was, is) = differing(was, is);
+                Some((kind, was, is))
+            }
+            _ => None,
+        },
+    };
+    let Some((kind, was, is)) = change else {
+        return Ok(None);
+    };
+    let kind = if new.is_definition {
+        Kind::Definition
+    } else {
+        kind
+    };
+    let was = String::from_str(alloc, was)?;
+    let is = String::from_str(alloc, is)?;
+    Ok(Some((kind, was, is)))
+}
+
+/// What of a thing differs, in words; none if it is the thing itself.
+fn part_word(kind: Kind) -> Option<&'static str> {
+    match kind {
+        Kind::Destination => Some("destination"),
+        Kind::Title => Some("title"),
+        Kind::Label => Some("label or spelling"),
+        Kind::Level => Some("level"),
+        Kind::Number => Some("first number"),
+        Kind::Info => Some("info string"),
+        _ => None,
+    }
+}
+
+/// Writes a text between quotation marks, or the front of a long one.
+fn write_quoted<W: fmt::Write>(f: &mut fmt::Formatter<W>, text: &str) -> fmt::Result {
+    match text.char_indices().nth(SHOWN) {
+        Some((end, _)) => {
+            let front = text.get(..end).unwrap_or(text);
+            write!(f, "\"{front}...\"")
+        }
+        None => write!(f, "\"{text}\""),
+    }
+}
+
+/// Writes that only one of the texts has a thing.
+fn write_alone<W: fmt::Write>(
+    f: &mut fmt::Formatter<W>,
+    how: &str,
+    what: &str,
+    text: &str,
+) -> fmt::Result {
+    write!(f, "{how}: {what}")?;
+    if text.is_empty() {
+        return Ok(());
+    }
+    f.write_str(" ")?;
+    write_quoted(f, text)
+}
+
+impl fmt::Display for Difference {
+    fn fmt<W: fmt::Write>(&self, f: &mut fmt::Formatter<W>) -> fmt::Result {
+        let what = self.what;
+        match self.kind {
+            Kind::Removed => return write_alone(f, "removed", what, self.was.as_str()),
+            Kind::Added => return write_alone(f, "added", what, self.is.as_str()),
+            _ => {}
+        }
+        match part_word(self.kind) {
+            Some(part) => write!(f, "the {what}'s {part} ")?,
+            None => write!(f, "the {what} ")?,
+        }
+        write_quoted(f, self.was.as_str())?;
+        f.write_str(" became ")?;
+        write_quoted(f, self.is.as_str())
+    }
+}

@@ -1,0 +1,18 @@
+//! Finds what two Markdown texts say differently.
+//!
+//! Enter at `compared` (`compare`). `allowed` names the kinds of things that may differ. `fold` and `erase` make of a reader's
+//! events those that count: white space as one blank, if it may differ, and one fixed value for all else that may. `marks` has
+//! these events as short texts, so that `align` finds which of them differ, and `difference` says what that is.
+#![tactic(auto)]
+
+pub mod align;
+pub mod allowed;
+pub mod compare;
+pub mod difference;
+pub mod erase;
+pub mod fold;
+pub mod marks;
+
+pub use allowed::{Allowed, KINDS};
+pub use compare::compared;
+pub use difference::{Difference, Kind};
