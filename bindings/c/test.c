@@ -42,7 +42,10 @@ static void *memory(size_t size) {
   return block;
 }
 
-/* --- one call, of one of four kinds --- */
+/* --- one call, of one of five kinds --- */
+
+/* What is done with a text and a source. */
+enum way { WRITES, REWRITES, COMPARES };
 
 struct call {
   const struct text *text;
@@ -50,7 +53,7 @@ struct call {
   const char *options;
   uint32_t flags;
   const struct tocmark_style *style; /* where there is one, the text is formatted */
-  int rewrites;                      /* the source is rewritten to the text's events */
+  enum way way;                      /* the source is rewritten to the text's events, or compared with the text */
 };
 
 static const struct tocmark_style hyphens = {.size = sizeof hyphens, .bullet = '-', .numbering = 1, .emphasis = '_'};
@@ -61,7 +64,10 @@ static ptrdiff_t made(const struct call *call, uint8_t *out, size_t out_len) {
   if (call->source == NULL)
     return tocmark_read_json(call->text->bytes, call->text->size, call->flags, out, out_len);
   const uint8_t *options = (const uint8_t *)call->options;
-  if (call->rewrites)
+  if (call->way == COMPARES)
+    return tocmark_compare(call->source->bytes, call->source->size, call->text->bytes, call->text->size, call->flags, 0, out,
+                           out_len);
+  if (call->way == REWRITES)
     return tocmark_rewrite(call->text->bytes, call->text->size, call->source->bytes, call->source->size, call->flags,
                            options, strlen(call->options), NULL, out, out_len);
   return tocmark_write_json(call->text->bytes, call->text->size, call->source->bytes, call->source->size, call->flags,
@@ -117,25 +123,25 @@ static uint64_t round_trip(uint64_t sum, const struct text *text, uint32_t flags
   static const char *const options[] = {"", "{\"list_token\": \"-\", \"newlines_after_headline\": 1}"};
   static const struct text nothing = {(uint8_t *)"", 0};
   struct text json, markdown;
-  ptrdiff_t code = answer(&(struct call){text, NULL, "", flags, NULL, 0}, &json);
+  ptrdiff_t code = answer(&(struct call){text, NULL, "", flags, NULL, WRITES}, &json);
   sum = noted(sum, code, &json);
   if (code < 0 && !(is_mutated && code == TOCMARK_NOT_UTF8))
     wrong("it isn't read", text);
   for (size_t i = 0; code >= 0 && i < 2; i++) {
-    struct call call = {&json, i ? text : &nothing, options[i], flags, NULL, 0};
+    struct call call = {&json, i ? text : &nothing, options[i], flags, NULL, WRITES};
     ptrdiff_t ended = answer(&call, &markdown);
     sum = noted(sum, ended, &markdown);
     if (ended < 0 && !(is_mutated && ended == TOCMARK_UNREPRESENTABLE))
       wrong("it isn't written", text);
     free(markdown.bytes);
   }
-  if (code >= 0 && (answer(&(struct call){&json, text, "", flags, NULL, 1}, &markdown) != (ptrdiff_t)text->size ||
+  if (code >= 0 && (answer(&(struct call){&json, text, "", flags, NULL, REWRITES}, &markdown) != (ptrdiff_t)text->size ||
                     memcmp(markdown.bytes, text->bytes, text->size) != 0))
     wrong("it is rewritten to another text", text);
   if (code >= 0)
     free(markdown.bytes);
   free(json.bytes);
-  ptrdiff_t formatted = answer(&(struct call){text, NULL, "", flags, &hyphens, 0}, &markdown);
+  ptrdiff_t formatted = answer(&(struct call){text, NULL, "", flags, &hyphens, WRITES}, &markdown);
   sum = noted(sum, formatted, &markdown);
   if (formatted < 0 && formatted != code)
     wrong("it isn't formatted", text);
@@ -479,6 +485,38 @@ static void styles(void) {
     expect(formats("a", wrongs[i], ""), TOCMARK_INVALID_STYLE, "a style");
 }
 
+/* Compares two texts, whose differences are to be this JSON. */
+static ptrdiff_t compares(const char *old, const char *new, uint32_t flags, uint32_t allowed, const char *wanted) {
+  uint8_t out[1000];
+  ptrdiff_t size =
+      tocmark_compare((const uint8_t *)old, strlen(old), (const uint8_t *)new, strlen(new), flags, allowed, out, sizeof out);
+  if (size >= 0 && ((size_t)size != strlen(wanted) || memcmp(out, wanted, (size_t)size) != 0))
+    wrong("other differences", &(struct text){out, (size_t)size});
+  return size;
+}
+
+static void comparing(void) {
+  static const char linked[] = "[a](/b)", defined[] = "[a][]\n\n[a]: /b";
+  expect(compares("", "", 0, 0, "[]"), 2, "two empty texts");
+  expect(compares("*  a\n*  _b_", "- a\n- *b*\n", 0, 0, "[]"), 2, "another spelling");
+  expect(compares("\xEF\xBB\xBF" "a", "a", 0, 0, "[]"), 2, "a byte order mark");
+  static const char level[] = "[{\"kind\":\"level\",\"what\":\"heading\",\"old\":[2,2],\"new\":[1,1],\"was\":\"1\",\"is\":\"2\","
+                              "\"message\":\"the heading's level \\\"1\\\" became \\\"2\\\"\"}]";
+  expect(compares("\n# a", "## a", 0, 0, level), sizeof level - 1, "another level");
+  expect(compares("# a", "## a", 0, TOCMARK_ALLOW_LEVELS, "[]"), 2, "a level that may differ");
+  expect(compares("\n# a", "## a", 0, ~TOCMARK_ALLOW_LEVELS, level), sizeof level - 1, "a level that may not differ");
+  expect(compares(linked, defined, 0, TOCMARK_ALLOW_UNRENDERED, "[]"), 2, "what no page shows");
+  expect(compares("a b", "a\nb", 0, TOCMARK_ALLOW_WRAP, "[]"), 2, "where lines break");
+  expect(compares("~~a~~", "~~b~~", 0, TOCMARK_ALLOW_TEXT, "[]"), 2, "words");
+  expect(tocmark_compare((const uint8_t *)"~~a~~", 5, (const uint8_t *)"a", 1, TOCMARK_GFM, TOCMARK_ALLOW_TEXT, NULL, 0) > 2, 1,
+         "flags");
+  expect(tocmark_compare((const uint8_t *)linked, strlen(linked), (const uint8_t *)defined, strlen(defined), 0, 0, NULL, 0) > 2,
+         1, "how a link is spelled");
+  expect(compares("\xFF", "a", 0, 0, ""), TOCMARK_NOT_UTF8, "the old text");
+  expect(compares("a", "\xFF", 0, 0, ""), TOCMARK_NOT_UTF8, "the new text");
+  expect(tocmark_compare(NULL, 0, NULL, 0, 0, 0, NULL, 0), 2, "no texts");
+}
+
 static int is_no_error(ptrdiff_t code) {
   static const char none[] = "no error of tocmark";
   uint8_t out[100];
@@ -553,13 +591,15 @@ static void errors(void) {
 static void refusals(void) {
 #ifndef SHARED
   static const char markdown[] = "# A &copy; *b*\n\n* ~~c~~ [d](/e)\n  > f\n\n| g |\n|---|\n| h |\n";
-  struct text text = {(uint8_t *)markdown, sizeof markdown - 1}, json;
-  answer(&(struct call){&text, NULL, "", TOCMARK_GFM, NULL, 0}, &json);
-  struct call calls[] = {{&text, NULL, "", TOCMARK_GFM, NULL, 0},
-                         {&json, &text, "{\"list_token\": \"-\"}", TOCMARK_GFM, NULL, 0},
-                         {&text, NULL, "", TOCMARK_GFM, &hyphens, 0},
-                         {&json, &text, "", TOCMARK_GFM, NULL, 1}};
-  for (size_t i = 0; i < 4; i++) {
+  static const char changed[] = "## A &copy; *b*\n\n* ~~c~~ [d](/f)\n  > \"g\"\n\n[h]: /i\n";
+  struct text text = {(uint8_t *)markdown, sizeof markdown - 1}, other = {(uint8_t *)changed, sizeof changed - 1}, json;
+  answer(&(struct call){&text, NULL, "", TOCMARK_GFM, NULL, WRITES}, &json);
+  struct call calls[] = {{&text, NULL, "", TOCMARK_GFM, NULL, WRITES},
+                         {&json, &text, "{\"list_token\": \"-\"}", TOCMARK_GFM, NULL, WRITES},
+                         {&text, NULL, "", TOCMARK_GFM, &hyphens, WRITES},
+                         {&json, &text, "", TOCMARK_GFM, NULL, REWRITES},
+                         {&other, &text, "", TOCMARK_GFM, NULL, COMPARES}};
+  for (size_t i = 0; i < sizeof calls / sizeof *calls; i++) {
     /* The last call finds another destination of the link. */
     for (size_t j = 0; i == 3 && j + 3 < json.size; j++)
       if (memcmp(&json.bytes[j], "\"/e\"", 4) == 0)
@@ -628,6 +668,7 @@ int main(void) {
   nulls();
   styles();
   other_syntaxes();
+  comparing();
   refusals();
   pthread_t threads[2];
   uint64_t sums[2];

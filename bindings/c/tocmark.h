@@ -1,4 +1,4 @@
-/* tocmark: parses Markdown to events as JSON, writes or rewrites Markdown from such events, and formats Markdown.
+/* tocmark: parses Markdown to events as JSON, writes or rewrites Markdown from such events, and formats and compares Markdown.
  *
  * Buffers. The caller owns all memory. A function reads the texts that it gets, writes into the buffer that it is lent (`out`,
  * `out_len` bytes), and keeps neither. It frees all memory that it allocates before it returns.
@@ -205,8 +205,8 @@ struct tocmark_style {
 
 /* Formats Markdown. The result parses to the same events under these flags; texts side by side count as one. If `wrap` isn't 0,
  * a soft line break counts as a space, and so does each run of white space. The definitions of links are the same, too. A block
- * that would parse otherwise keeps its lines. A byte order mark at the front stays there and isn't parsed. If `style` is NULL,
- * all parts of it are the default.
+ * that would parse otherwise keeps its lines. The letters of both texts are the same, whatever parses them. A byte order mark at
+ * the front stays there and isn't parsed. If `style` is NULL, all parts of it are the default.
  *
  * Errors: TOCMARK_NOT_UTF8, TOCMARK_INVALID_STYLE, and TOCMARK_OUT_OF_MEMORY. */
 ptrdiff_t tocmark_format(const uint8_t *text, size_t text_len, uint32_t flags, const struct tocmark_style *style, uint8_t *out,
@@ -218,6 +218,39 @@ ptrdiff_t tocmark_format(const uint8_t *text, size_t text_len, uint32_t flags, c
  * Errors: those of tocmark_format. */
 ptrdiff_t tocmark_format_also(const uint8_t *text, size_t text_len, uint32_t flags, const uint32_t *also, size_t also_len,
                               const struct tocmark_style *style, uint8_t *out, size_t out_len);
+
+/* What may differ between texts that say the same, as bits of `allowed`. */
+#define TOCMARK_ALLOW_WRAP (1u << 0)          /* white space in texts, and where lines break */
+#define TOCMARK_ALLOW_TEXT (1u << 1)          /* the words of texts */
+#define TOCMARK_ALLOW_DESTINATIONS (1u << 2)  /* where links and images lead */
+#define TOCMARK_ALLOW_TITLES (1u << 3)        /* titles of links and images */
+#define TOCMARK_ALLOW_LABELS (1u << 4)        /* labels, and how links are spelled */
+#define TOCMARK_ALLOW_FENCES (1u << 5)        /* whether code is fenced or indented */
+#define TOCMARK_ALLOW_LEVELS (1u << 6)        /* levels of headings */
+#define TOCMARK_ALLOW_NUMBERS (1u << 7)       /* first numbers of lists */
+#define TOCMARK_ALLOW_CODE (1u << 8)          /* code and math */
+#define TOCMARK_ALLOW_INFO (1u << 9)          /* info strings of fenced code */
+#define TOCMARK_ALLOW_HTML (1u << 10)         /* HTML */
+#define TOCMARK_ALLOW_FRONT_MATTER (1u << 11) /* what front matter says */
+#define TOCMARK_ALLOW_DEFINITIONS (1u << 12)  /* link definitions */
+
+/* What no page shows: how links are spelled and defined, and whether code is fenced or indented. */
+#define TOCMARK_ALLOW_UNRENDERED (TOCMARK_ALLOW_LABELS | TOCMARK_ALLOW_FENCES | TOCMARK_ALLOW_DEFINITIONS)
+
+/* Compares two texts by what they say under these flags, and writes a JSON array of what differs. The array is [] exactly if both
+ * texts parse to the same events and define the same links, but for what may differ; texts side by side count as one. A byte
+ * order mark at the front isn't parsed. Other bits of `allowed` don't count. Each difference is an object:
+ *
+ *   kind       "text", "destination", "title", "label", "level", "number", "code", "info", "html", "front-matter",
+ *              "definition", "removed" (only the old text has it), "added" (only the new text has it), or "structure"
+ *   what       what differs, in words, such as "link"
+ *   old, new   its first and its last line in each text, counted from 1
+ *   was, is    what each text says, as far as it differs
+ *   message    the difference in one phrase
+ *
+ * Errors: TOCMARK_NOT_UTF8 (one of the texts), and TOCMARK_OUT_OF_MEMORY. */
+ptrdiff_t tocmark_compare(const uint8_t *old_text, size_t old_len, const uint8_t *new_text, size_t new_len, uint32_t flags,
+                          uint32_t allowed, uint8_t *out, size_t out_len);
 
 /* The functions in the library take no NULL. So each name above stands for one of the following, which replaces NULL. A program
  * that calls the library without this header passes other pointers. */
@@ -317,6 +350,12 @@ static inline ptrdiff_t tocmark_format_also_(const uint8_t *text, size_t text_le
                              tocmark_room_(out), out_len);
 }
 
+static inline ptrdiff_t tocmark_compare_(const uint8_t *old_text, size_t old_len, const uint8_t *new_text, size_t new_len,
+                                         uint32_t flags, uint32_t allowed, uint8_t *out, size_t out_len) {
+  return tocmark_compare(tocmark_text_(old_text), old_len, tocmark_text_(new_text), new_len, flags, allowed,
+                         tocmark_room_(out), out_len);
+}
+
 #define tocmark_error_text tocmark_error_text_
 #define tocmark_read_json tocmark_read_json_
 #define tocmark_read_marshal tocmark_read_marshal_
@@ -329,6 +368,7 @@ static inline ptrdiff_t tocmark_format_also_(const uint8_t *text, size_t text_le
 #define tocmark_rewrite tocmark_rewrite_
 #define tocmark_format tocmark_format_
 #define tocmark_format_also tocmark_format_also_
+#define tocmark_compare tocmark_compare_
 
 #ifdef __cplusplus
 }

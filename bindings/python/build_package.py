@@ -25,7 +25,12 @@ HERE = os.path.dirname(os.path.realpath(__file__))
 PACKAGE = os.path.join(HERE, NAME)
 TOP = os.path.join(HERE, "..", "..")
 #: Each command, with its crate if it is a program and not a script.
-COMMANDS = {"tocmark-format": "tocmark_format_program", "tocmark-events": "tocmark_events_program", "tocmark-filter": None}
+COMMANDS = {
+    "tocmark-format": "tocmark_format_program",
+    "tocmark-compare": "tocmark_compare_program",
+    "tocmark-events": "tocmark_events_program",
+    "tocmark-filter": None,
+}
 #: What makes a Git repository of a source distribution a hook and an action.
 HOOKS = [".pre-commit-hooks.yaml", "action.yml"]
 # The C library of a wheel with the tag manylinux2014.

@@ -35,7 +35,7 @@ def has_program():
 
 
 def load_tests(loader, tests, pattern):
-    for name in ("", "._calls", "._tree"):
+    for name in ("", "._calls", "._compare", "._tree"):
         tests.addTests(doctest.DocTestSuite(importlib.import_module(f"tocmark{name}")))
     return tests
 
@@ -507,6 +507,58 @@ class Formatting(unittest.TestCase):
 
 
 @unittest.skipUnless(has_program(), "tocmark-format is neither built nor installed")
+class Comparing(unittest.TestCase):
+    def test_what_no_page_shows_may_differ(self):
+        pairs = [("[a](/b)", "[a][]\n\n[a]: /b"), ("    a\n", "```\na\n```\n"), ("<https://a.b/>", "[https://a.b/](https://a.b/)")]
+        for old, new in pairs:
+            with self.subTest(old=old):
+                self.assertEqual(tocmark.compare(old, new), [])
+                self.assertTrue(tocmark.same(old, new))
+                self.assertFalse(tocmark.same(old, new, exact=True))
+                self.assertTrue(tocmark.same(old, new, exact=True, allow=["labels", "fences", "definitions"]))
+
+    def test_each_kind_may_differ(self):
+        pairs = {"wrap": ("a b", "a\nb"), "text": ("a", "b"), "destinations": ("[a](/b)", "[a](/c)"),
+                 "titles": ("[a](/b 'c')", "[a](/b 'd')"), "labels": ("[a][b]\n\n[b]: /c", "[a][B]\n\n[b]: /c"),
+                 "fences": ("    a\n", "```\na\n```\n"), "levels": ("# a", "## a"), "numbers": ("1. a", "2. a"),
+                 "code": ("`a`", "`b`"), "info": ("```a\n```", "```b\n```"), "html": ("<a>\n", "<b>\n"),
+                 "front-matter": ("---\na: b\n---\n", "---\na: c\n---\n"), "definitions": ("[a]: /b", "[a]: /c")}
+        self.assertEqual(set(pairs), set(tocmark.KINDS))
+        for kind, (old, new) in pairs.items():
+            with self.subTest(kind=kind):
+                self.assertTrue(tocmark.same(old, new, allow=[kind], exact=True))
+                others = [other for other in pairs if other not in (kind, "text")]
+                self.assertFalse(tocmark.same(old, new, allow=others, exact=True))
+
+    def test_differences(self):
+        found = tocmark.compare("# a\n\nb \"c\"\n", "## a\n\nb \\\\d\n\n- e\n")
+        self.assertEqual([(it.kind, it.old, it.new) for it in found],
+                         [("level", (1, 1), (1, 1)), ("text", (3, 3), (3, 3)), ("added", found[2].old, (5, 5))])
+        self.assertEqual((found[1].was, found[1].is_), ('"c"', "\\d"))
+        self.assertEqual([str(it) for it in found], [it.message for it in found])
+
+    def test_texts_with_controls_and_others(self):
+        difference, = tocmark.compare("`a\t\x01\x7f\u00e9\U0001f600`", "`b`")
+        self.assertEqual(difference.was, "a\t\x01\x7f\u00e9\U0001f600")
+
+    def test_the_same_is_said(self):
+        for text in examples():
+            self.assertEqual(tocmark.compare(text, text, exact=True), [])
+            self.assertEqual(tocmark.compare(text, tocmark.format(text, bullet="-"), exact=True), [])
+
+    def test_errors(self):
+        with self.assertRaisesRegex(ValueError, "'words' is none of wrap, text, destinations"):
+            tocmark.same("", "", allow=["words"])
+        with self.assertRaisesRegex(TypeError, "allow must be a list of kinds"):
+            tocmark.compare("", "", allow="wrap")
+        with self.assertRaisesRegex(TypeError, "new must be a str"):
+            tocmark.compare("", b"")
+        with self.assertRaises(UnicodeEncodeError):
+            tocmark.compare("", "\ud800")
+        with self.assertRaises(ValueError):
+            tocmark.compare("", "", syntax="none")
+
+
 class Files(unittest.TestCase):
     def setUp(self):
         folder = tempfile.TemporaryDirectory()

@@ -1,4 +1,4 @@
-"""Changes and formats Markdown, and keeps what you don't touch.
+"""Changes, formats and compares Markdown, and keeps what you don't touch.
 
 >>> import tocmark
 >>> tocmark.format("*  a\\n*  b", bullet="-")
@@ -21,9 +21,16 @@ dictionary with one key. A document is a list of pairs of an event and its range
 >>> tocmark.rewrite(source, events)
 'An &eacute; and a [link](/new)\\n\\n*  item\\n'
 
+`compare` says what two texts say differently:
+
+>>> for difference in tocmark.compare("Hello *you*\\n", "Hello _me_\\n"):
+...     print(difference)
+the text "you" became "me"
+
 Calls take no lock, so several threads may call at once.
 """
 from ._calls import edit, format, read, rewrite, write
+from ._compare import KINDS, Difference, compare, same
 from ._errors import (Changed, Error, InvalidOptions, InvalidSourceRange, InvalidStyle, NotEvents, UnexpectedEvent,
                       Unrepresentable)
 from ._files import format_file
@@ -34,9 +41,9 @@ from .events import Event, Placed
 
 __version__ = "0.1.0"
 __all__ = [
-    "EXTENSIONS", "SYNTAXES", "Changed", "Chapter", "Error", "Event", "InvalidOptions", "InvalidSourceRange", "InvalidStyle", "Node",
-    "NotEvents", "Placed", "UnexpectedEvent", "Unrepresentable", "edit", "format", "format_file", "mdbook", "position_of",
-    "read", "rewrite", "text_of", "tree", "walk", "write"]
+    "EXTENSIONS", "KINDS", "SYNTAXES", "Changed", "Chapter", "Difference", "Error", "Event", "InvalidOptions",
+    "InvalidSourceRange", "InvalidStyle", "Node", "NotEvents", "Placed", "UnexpectedEvent", "Unrepresentable", "compare", "edit",
+    "format", "format_file", "mdbook", "position_of", "read", "rewrite", "same", "text_of", "tree", "walk", "write"]
 for _error in (Changed, Error, InvalidOptions, InvalidSourceRange, InvalidStyle, NotEvents, UnexpectedEvent, Unrepresentable):
     _error.__module__ = __name__
 del _error

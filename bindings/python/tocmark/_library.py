@@ -62,6 +62,7 @@ class Place(ctypes.Structure):
                 ("last_line", ctypes.c_size_t)]
 
 
+compare = _function("tocmark_compare", *_text, *_text, ctypes.c_uint32, ctypes.c_uint32, *_room)
 error_text = _function("tocmark_error_text", ctypes.c_ssize_t, *_room)
 format_text = _function("tocmark_format_also", *_text, ctypes.c_uint32, ctypes.POINTER(ctypes.c_uint32), ctypes.c_size_t,
                         ctypes.POINTER(Style), *_room)

@@ -1,5 +1,6 @@
 mod Answers
 mod Causes
 mod DumpCauses
+mod Listed
 mod PackedCauses
 mod Rewritten

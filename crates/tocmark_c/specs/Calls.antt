@@ -18,6 +18,7 @@ use Rattle.tocmark_reader.specs.Reading.{reading_of}
 use Rattle.tocmark_reader.specs.Flags.{syntax_of}
 use Rattle.tocmark_read_scan.specs.declared.syntax.Names.TheVariants.{All}
 use Rattle.tocmark_event.specs.Reading.{ReadingView}
+use Rattle.tocmark_judge.specs.Letters.{letters}
 use Rattle.tocmark_judge.specs.LinkDefinitions.{DefinedLink, unplaced}
 use Rattle.tocmark_judge.specs.Marks.{after_mark, has_mark}
 use Rattle.tocmark_judge.specs.Same.{SaySame}
@@ -51,13 +52,13 @@ read_under bits text = reading_of (syntax_of All (flags_of bits)) text
 abbrev pub defined_under : ℕ → List ℕ → List DefinedLink
 defined_under bits text = map unplaced (definitions_of (syntax_of All (flags_of bits)) text)
 
--- both texts say the same under a style, and have the same definitions of links; a byte order mark at the front is no text,
--- and both have one or neither
+-- both texts say the same under a style, and have the same definitions of links and the same letters; a byte order mark at
+-- the front is no text, and both have one or neither
 abbrev pub IsSameDocument : ℕ → TocmarkStyle → List ℕ → List ℕ → Type 0
 IsSameDocument bits style text output =
     SaySame (fills (wrap_of style.wrap)) (read_under bits (after_mark output)) (read_under bits (after_mark text))
     × (defined_under bits (after_mark output) ≡ defined_under bits (after_mark text))
-    × (has_mark output ≡ has_mark text)
+    × (has_mark output ≡ has_mark text) × (letters output ≡ letters text)
 
 -- both texts have the same blocks under each of these flags
 abbrev pub HaveSameBlocks : List ℕ → List ℕ → List ℕ → Type 0

@@ -7,3 +7,4 @@ pub mod PackedCalls
 pub mod Place
 pub mod Calls
 pub mod Rewriting
+pub mod Comparing

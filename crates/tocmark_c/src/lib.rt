@@ -4,12 +4,14 @@
 //! bytes, or a negative number, the code of an error (`cause`). If the buffer is too small, nothing is written. No
 //! state is kept between calls. `style` takes a style from C, and `place` tells C where an error is; `refusal` has an
 //! error with its place. `marshal_reading` parses Markdown for Python, and `marshal_writing` writes events that Python gives.
-//! `writing` and `packed_events` write events, too, and `rewriting` rewrites a source.
+//! `writing` and `packed_events` write events, too, and `rewriting` rewrites a source. `comparing` lists what two texts say
+//! differently.
 //!
-//! The crate stands on `tocmark_interchange` and `tocmark_format`.
+//! The crate stands on `tocmark_interchange`, `tocmark_format` and `tocmark_differences`.
 #![tactic(auto)]
 
 mod cause;
+mod comparing;
 mod marshal_reading;
 mod marshal_writing;
 mod packed_events;
@@ -23,6 +25,7 @@ mod writing;
 ghost use Rattle.std.specs.Prelude.{◌≡◌, IfErr, IfOk, map, string_bytes};
 ghost use Rattle.tocmark_c.specs.Answer.{IsAnswer, IsErrorText, IsNever};
 ghost use Rattle.tocmark_c.specs.Calls.{IsDocumentCauseOf, IsFormatCause, IsMarkdownOf, IsReadCause, IsReadFrom, IsSameDocument, IsSameMarkdownOf, IsSameToAll, IsWriteCause, flags_of};
+ghost use Rattle.tocmark_c.specs.Comparing.{IsCompareCause, IsComparison};
 ghost use Rattle.tocmark_c.specs.MarshalCalls.{IsMarshalCause, IsMarshalOf};
 ghost use Rattle.tocmark_c.specs.MarshalWriting.{IsDumpMarkdown, IsDumpWriteCause};
 ghost use Rattle.tocmark_c.specs.PackedCalls.{IsPackedMarkdown, IsPackedWriteCause};
@@ -30,6 +33,7 @@ ghost use Rattle.tocmark_c.specs.Place.{IsTold};
 ghost use Rattle.tocmark_c.specs.Rewriting.{IsRewriteCauseOf, IsRewrittenOf};
 
 use cause::{Cause, error_text};
+use comparing::compare;
 use marshal_reading::read_bytes;
 use marshal_writing::write_marshal_events;
 use packed_events::write_packed_events;
@@ -244,8 +248,8 @@ pub extern "C" fn tocmark_rewrite(
     }
 }
 
-/// Formats Markdown in a style, and writes the result into `out`. It parses to the events of the text that is given. A byte
-/// order mark at the front stays there and is no text.
+/// Formats Markdown in a style, and writes the result into `out`. It parses to the events of the text that is given, and has its
+/// letters. A byte order mark at the front stays there and is no text.
 #[unsafe(no_mangle)]
 #[tactic(auto, using(crate::proofs::Answers::answered))]
 pub extern "C" fn tocmark_format(
@@ -276,6 +280,27 @@ pub extern "C" fn tocmark_format_also(
         (IsFormatCause text.now style.now) result out.old out.new }
 {
     answer(format(alloc, text, flags, also, style), out)
+}
+
+/// Compares two texts by what they say under these flags, and writes a JSON array of what differs into `out`. It is empty
+/// exactly if both say the same but for what `allowed` has a bit for, in the order of `tocmark_differences::KINDS`.
+#[unsafe(no_mangle)]
+#[tactic(auto, using(crate::proofs::Answers::text_answered, crate::proofs::Answers::cause_answered))]
+pub extern "C" fn tocmark_compare(
+    alloc: Global,
+    old: &[u8],
+    new: &[u8],
+    flags: u32,
+    allowed: u32,
+    out: &mut [u8],
+) -> isize
+    ensures { IsAnswer (IsComparison flags allowed old.now new.now)
+        (IsCompareCause old.now new.now) result out.old out.new }
+{
+    match compare(alloc, old, new, flags, allowed) {
+        Ok(differences) => lay_bytes(&differences, out),
+        Err(cause) => cause.code(),
+    }
 }
 
 /// Makes flags of bits, one after the other.
