@@ -506,7 +506,6 @@ class Formatting(unittest.TestCase):
                 self.assertEqual(merged(tocmark.read(found, syntax="all")), merged(tocmark.read(text, syntax="all")), text)
 
 
-@unittest.skipUnless(has_program(), "tocmark-format is neither built nor installed")
 class Comparing(unittest.TestCase):
     def test_what_no_page_shows_may_differ(self):
         pairs = [("[a](/b)", "[a][]\n\n[a]: /b"), ("    a\n", "```\na\n```\n"), ("<https://a.b/>", "[https://a.b/](https://a.b/)")]
@@ -522,7 +521,7 @@ class Comparing(unittest.TestCase):
                  "titles": ("[a](/b 'c')", "[a](/b 'd')"), "labels": ("[a][b]\n\n[b]: /c", "[a][B]\n\n[b]: /c"),
                  "fences": ("    a\n", "```\na\n```\n"), "levels": ("# a", "## a"), "numbers": ("1. a", "2. a"),
                  "code": ("`a`", "`b`"), "info": ("```a\n```", "```b\n```"), "html": ("<a>\n", "<b>\n"),
-                 "front-matter": ("---\na: b\n---\n", "---\na: c\n---\n"), "definitions": ("[a]: /b", "[a]: /c")}
+                 "front-matter": ("---\na: b\n---\n", "---\na: c\n---\n"), "definitions": ("[a]: /b", "")}
         self.assertEqual(set(pairs), set(tocmark.KINDS))
         for kind, (old, new) in pairs.items():
             with self.subTest(kind=kind):
@@ -559,6 +558,7 @@ class Comparing(unittest.TestCase):
             tocmark.compare("", "", syntax="none")
 
 
+@unittest.skipUnless(has_program(), "tocmark-format is neither built nor installed")
 class Files(unittest.TestCase):
     def setUp(self):
         folder = tempfile.TemporaryDirectory()
