@@ -7,7 +7,7 @@
 //! `writing` and `packed_events` write events, too, and `rewriting` rewrites a source. `comparing` lists what two texts say
 //! differently.
 //!
-//! The crate stands on `tocmark_interchange`, `tocmark_format` and `tocmark_differences`.
+//! The crate uses `tocmark_interchange` for events, `tocmark_format` for formatting, and `tocmark_differences` for comparing.
 #![tactic(auto)]
 
 mod cause;
@@ -248,8 +248,8 @@ pub extern "C" fn tocmark_rewrite(
     }
 }
 
-/// Formats Markdown in a style, and writes the result into `out`. It parses to the events of the text that is given, and has its
-/// letters. A byte order mark at the front stays there and is no text.
+/// Formats Markdown in a style, and writes the result into `out`. The result parses to the same events as the text that is
+/// given, and has the same letters. A byte order mark at the front stays there and is no text.
 #[unsafe(no_mangle)]
 #[tactic(auto, using(crate::proofs::Answers::answered))]
 pub extern "C" fn tocmark_format(

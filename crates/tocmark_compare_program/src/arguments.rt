@@ -70,8 +70,8 @@ impl<'a> Text<'a> {
 pub const NAME: &str = "tocmark-compare";
 
 /// What `--help` says of the paths.
-const PATHS: &str = "Two files, - for standard input, or two folders, of which
-all files *.md and *.markdown are compared";
+const PATHS: &str =
+    "Two files, or two folders. One file can be - for standard\ninput. Of folders, the files *.md and *.markdown are compared";
 
 /// The options of this program alone.
 static OPTIONS: [CommandOption<'static>; 6] = [

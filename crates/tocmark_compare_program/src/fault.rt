@@ -12,7 +12,7 @@ pub enum Fault {
     Usage(&'static str),
     /// `--allow` names no kind.
     Kind,
-    /// A folder and what is none.
+    /// One path is a folder, and the other one isn't.
     Mixed(String, String),
     Unreadable(String, io::Error),
     /// A file and its first line that isn't UTF-8.
@@ -22,7 +22,7 @@ pub enum Fault {
 }
 
 impl Fault {
-    /// Two paths, of which only the first is a folder.
+    /// The first path is a folder, and the other one isn't.
     pub fn mixed(alloc: Global, folder: &str, other: &str) -> Result<Fault, AllocError> {
         Ok(Fault::Mixed(in_quotes(alloc, folder)?, in_quotes(alloc, other)?))
     }

@@ -1,8 +1,8 @@
 //! Compares two Markdown texts, or the Markdown files of two folders, by what they say. `docs/COMPARE.md` has the options.
 //!
-//! It stands on `tocmark_differences`, which finds what two texts say differently, and on `tocmark_command`, which has what
-//! it shares with the other programs. `arguments` has the command line, `texts` reads texts and finds the files of folders,
-//! `outcome` judges texts and has the status, `report` writes differences, and `fault` has the messages on standard error.
+//! `tocmark_differences` finds what two texts say differently, and `tocmark_command` has what all programs share. `arguments`
+//! has the command line. `texts` reads texts and finds the files of folders. `outcome` judges texts and has the status.
+//! `report` writes differences, and `fault` has the messages on standard error.
 #![tactic(auto)]
 
 mod arguments;

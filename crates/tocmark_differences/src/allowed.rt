@@ -78,7 +78,7 @@ impl Allowed {
         }
     }
 
-    /// The same, and things of this kind may differ, too. `None`: `KINDS` has no such kind.
+    /// Allows one more kind of thing to differ. The answer is `None` if `KINDS` has no kind of this name.
     pub fn with(self, kind: &str) -> Option<Allowed> {
         let mut allowed = self;
         match kind {

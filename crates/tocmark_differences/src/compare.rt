@@ -81,7 +81,7 @@ impl<R: PartReader> Comparer<'_, R> {
         Ok(events)
     }
 
-    /// The same, and then the link definitions in the text, unless they may differ.
+    /// The events of a text, and after them its link definitions, unless definitions may differ.
     fn counted_and_defined_in(&self, text: &str) -> Result<Vec<Placed>, AllocError>
         ensures { IfOk result (λ events. given_events events.items
             ≡ counted self.now.allowed.wrap
