@@ -162,10 +162,10 @@ static WRITE_OPTIONS: [CommandOption<'static>; 3] = [
         help: "Parse each block back before it is written",
     },
     CommandOption {
-        name: "check-document",
+        name: "unchecked",
         letter: None,
         takes: Takes::Nothing,
-        help: "Parse the whole output, and refuse it unless it\nhas just these events",
+        help: "Don't parse the output back: also write what would\nparse to other events",
     },
 ];
 
@@ -372,7 +372,7 @@ pub fn asked<'a>(
             flags,
             options,
             source: matches.get_str("source"),
-            is_document: matches.get_flag("check-document"),
+            is_document: !matches.get_flag("unchecked"),
             lines,
         }));
     }

@@ -32,7 +32,7 @@ pub enum Fault {
     Refused(WriteError),
     #[error("{0}")]
     NotRewritten(RewriteError),
-    #[error("event {0}: the output would parse differently")]
+    #[error("event {0}: the output would parse differently (--unchecked writes it)")]
     Changed(usize),
     #[error("out of memory")]
     OutOfMemory,
