@@ -12,7 +12,7 @@ declare -A crate_of=(
   [tocmark-events]=tocmark_events_program
 )
 # Each script that runs as it is, and is installed beside the programs.
-scripts=(tocmark-filter)
+scripts=(tocmark-filter tocmark-guard)
 builder="tools/install proves and builds the programs, in some 80 minutes on four cores"
 chooser="tools/install --quick compiles and installs them without a proof, in minutes"
 

@@ -30,6 +30,7 @@ COMMANDS = {
     "tocmark-compare": "tocmark_compare_program",
     "tocmark-events": "tocmark_events_program",
     "tocmark-filter": None,
+    "tocmark-guard": None,
 }
 #: What makes a Git repository of a source distribution a hook and an action.
 HOOKS = [".pre-commit-hooks.yaml", "action.yml"]

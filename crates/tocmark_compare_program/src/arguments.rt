@@ -11,12 +11,26 @@ use tocmark_command::syntax::{extended, syntax_named, with_syntax};
 use tocmark_differences::{Allowed, KINDS};
 use tocmark_event::event::ParserOptions;
 
+/// What of two texts is compared.
+#[derive(Clone, Copy)]
+pub enum Measure {
+    /// What a reader finds in them.
+    Events,
+    /// The same, and then their letters.
+    EventsAndLetters,
+    /// Their letters alone.
+    Letters,
+}
+
 /// How texts are compared, and what is written.
 #[derive(Clone, Copy)]
 pub struct Terms {
     pub flags: ParserOptions,
     pub allowed: Allowed,
+    pub measure: Measure,
     pub form: Form,
+    /// The new text takes the place of the old one, if both say the same.
+    pub replaces: bool,
     /// Nothing is written.
     pub is_quiet: bool,
     /// Git calls, and takes another status than 0 for a failure.
@@ -56,7 +70,7 @@ impl<'a> Text<'a> {
 
     /// The text that an argument names.
     fn named(word: &'a str) -> Text<'a> {
-        if word == "-" {
+        if word == INPUT {
             return Text {
                 place: Place::Input,
                 name: word,
@@ -66,6 +80,9 @@ impl<'a> Text<'a> {
     }
 }
 
+/// The name of standard input.
+pub const INPUT: &str = "-";
+
 /// The command's name.
 pub const NAME: &str = "tocmark-compare";
 
@@ -74,7 +91,7 @@ const PATHS: &str =
     "Two files, or two folders. One file can be - for standard\ninput. Of folders, the files *.md and *.markdown are compared";
 
 /// The options of this program alone.
-static OPTIONS: [CommandOption<'static>; 6] = [
+static OPTIONS: [CommandOption<'static>; 9] = [
     CommandOption {
         name: "allow",
         letter: Some('a'),
@@ -86,6 +103,24 @@ static OPTIONS: [CommandOption<'static>; 6] = [
         letter: None,
         takes: Takes::Value("WHAT"),
         help: "Compare texts as rendered (default: what no page\nshows may differ) or as events (nothing may)",
+    },
+    CommandOption {
+        name: "letters",
+        letter: None,
+        takes: Takes::Nothing,
+        help: "Compare the letters alone, without a parser: those\nof ASCII, and all characters past ASCII",
+    },
+    CommandOption {
+        name: "also-letters",
+        letter: None,
+        takes: Takes::Nothing,
+        help: "Compare the letters, too",
+    },
+    CommandOption {
+        name: "replace",
+        letter: None,
+        takes: Takes::Nothing,
+        help: "Give OLD the text of NEW, if nothing differs",
     },
     CommandOption {
         name: "quiet",
@@ -181,6 +216,33 @@ fn allowed_of(matches: &ArgMatches<'_>) -> Result<Allowed, Fault> {
     Ok(allowed)
 }
 
+/// Whether an option says how events are found or compared.
+fn is_about_events(matches: &ArgMatches<'_>) -> bool {
+    matches.get_flag("also-letters")
+        || matches.get_str("as").is_some()
+        || matches.get_str("syntax").is_some()
+        || matches.get_strs("allow").is_some()
+        || matches.get_strs("extension").is_some()
+}
+
+/// What of two texts is compared.
+fn measure_of(matches: &ArgMatches<'_>) -> Result<Measure, Fault> {
+    if !matches.get_flag("letters") {
+        let counts_letters = matches.get_flag("also-letters");
+        return Ok(if counts_letters {
+            Measure::EventsAndLetters
+        } else {
+            Measure::Events
+        });
+    }
+    if is_about_events(matches) {
+        return Err(Fault::Usage(
+            "--letters compares letters alone: leave out --also-letters, --allow, --as, --syntax and --extension",
+        ));
+    }
+    Ok(Measure::Letters)
+}
+
 /// How texts are compared, by a command line.
 pub fn terms_of(matches: &ArgMatches<'_>) -> Result<Terms, Fault> {
     let form = match (matches.get_flag("json"), matches.get_flag("github")) {
@@ -189,12 +251,18 @@ pub fn terms_of(matches: &ArgMatches<'_>) -> Result<Terms, Fault> {
         (false, true) => Form::Annotations,
         (true, true) => return Err(Fault::Usage("only one of --json and --github can be passed")),
     };
+    let (replaces, is_for_git) = (matches.get_flag("replace"), matches.get_flag("git"));
+    if replaces && is_for_git {
+        return Err(Fault::Usage("only one of --replace and --git can be passed"));
+    }
     Ok(Terms {
         flags: flags_of(matches)?,
         allowed: allowed_of(matches)?,
+        measure: measure_of(matches)?,
         form,
+        replaces,
         is_quiet: matches.get_flag("quiet"),
-        is_for_git: matches.get_flag("git"),
+        is_for_git,
     })
 }
 
@@ -219,12 +287,13 @@ fn pair_of_git<'a>(words: &[&'a str]) -> Result<Option<Pair<'a>>, Fault> {
 }
 
 /// What is compared, by a command line. `None`: nothing.
-pub fn pair_of<'a>(matches: &ArgMatches<'a>, is_for_git: bool) -> Result<Option<Pair<'a>>, Fault> {
+pub fn pair_of<'a>(matches: &ArgMatches<'a>, terms: Terms) -> Result<Option<Pair<'a>>, Fault> {
     let words = matches.get_strs("text").unwrap_or(&[]);
-    if is_for_git {
+    if terms.is_for_git {
         return pair_of_git(words);
     }
     match words {
+        ["-", _] if terms.replaces => Err(Fault::Usage("--replace wants a file as OLD")),
         ["-", "-"] => Err(Fault::Usage("standard input cannot be both texts")),
         [old, new] => Ok(Some(Pair {
             old: Text::named(old),

@@ -4,6 +4,7 @@ use std::alloc::{AllocError, AllocFailed, Global};
 use std::{fmt, io};
 use tocmark_differences::KINDS;
 use tocmark_files::quoted::in_quotes;
+use tocmark_files::replace::ReplaceError;
 
 /// Why a file or a call fails, shown as one line on standard error, after the name of the program.
 #[derive(Debug, Drop)]
@@ -17,6 +18,8 @@ pub enum Fault {
     Unreadable(String, io::Error),
     /// A file and its first line that isn't UTF-8.
     NotUtf8(String, usize),
+    /// A file that isn't replaced. It stays as it was.
+    NotReplaced(String, ReplaceError),
     Output(io::Error),
     OutOfMemory,
 }
@@ -43,9 +46,20 @@ impl Fault {
         }
     }
 
+    /// A file that isn't replaced.
+    pub fn not_replaced(alloc: Global, name: &str, error: ReplaceError) -> Fault {
+        match in_quotes(alloc, name) {
+            Ok(name) => Fault::NotReplaced(name, error),
+            Err(_) => Fault::OutOfMemory,
+        }
+    }
+
     /// Whether other files can still be compared.
     pub fn is_of_file(&self) -> bool {
-        matches!(self, Fault::Unreadable(..) | Fault::NotUtf8(..))
+        matches!(
+            self,
+            Fault::Unreadable(..) | Fault::NotUtf8(..) | Fault::NotReplaced(..)
+        )
     }
 
     /// Whether nobody reads standard output any more.
@@ -76,6 +90,7 @@ impl fmt::Display for Fault {
             Fault::Mixed(folder, other) => write!(f, "{folder} is a folder, but {other} is none"),
             Fault::Unreadable(name, error) => write!(f, "{name}: cannot be read: {error}"),
             Fault::NotUtf8(name, line) => write!(f, "{name}: line {line} is not UTF-8"),
+            Fault::NotReplaced(name, error) => write!(f, "{name}: {error}"),
             Fault::Output(error) => write!(f, "standard output cannot be written: {error}"),
             Fault::OutOfMemory => f.write_str("out of memory"),
         }

@@ -2,19 +2,22 @@
 //!
 //! `tocmark_differences` finds what two texts say differently, and `tocmark_command` has what all programs share. `arguments`
 //! has the command line. `texts` reads texts and finds the files of folders. `outcome` judges texts and has the status.
-//! `report` writes differences, and `fault` has the messages on standard error.
+//! `replaced` gives a file a text that was judged the same. `report` writes differences, and `fault` has the messages on standard
+//! error.
 #![tactic(auto)]
 
 mod arguments;
 mod fault;
 mod outcome;
+mod replaced;
 mod report;
 mod texts;
 
-use arguments::{NAME, Pair, Terms, Text, command, kinds_help, pair_of, terms_of};
+use arguments::{NAME, Pair, Place, Terms, Text, command, kinds_help, pair_of, terms_of};
 use clap::ArgMatches;
 use fault::Fault;
 use outcome::{Outcome, judged, status_of};
+use replaced::Replaced;
 use report::{Report, Way};
 use std::process::ExitCode;
 use texts::{Shared, files_below, is_folder, joined, text_of};
@@ -51,14 +54,27 @@ impl Comparison {
         Ok(())
     }
 
-    /// Reports what two texts say differently.
+    /// Reports what two texts say differently. If that is nothing, the new one takes the place of the old one, if that is wanted.
     fn compare_texts(&mut self, rt: &HostRuntime, pair: Pair<'_>) -> Result<Outcome, Fault> {
-        let old = text_of(rt, pair.old)?;
-        let new = text_of(rt, pair.new)?;
-        let (found, outcome) = judged(rt.alloc(), &READER, self.terms, old.as_str(), new.as_str())?;
+        let (old, new) = (text_of(rt, pair.old)?, text_of(rt, pair.new)?);
+        let (reader, terms) = (&READER, self.terms);
+        let (found, outcome) = judged(rt.alloc(), reader, terms, old.as_str(), new.as_str())?;
         for difference in &found {
             self.report
                 .add_difference(pair.old.name, pair.new.name, difference)?;
+        }
+        if let Place::Path(path) = pair.old.place
+            && terms.replaces
+            && outcome.is_same()
+        {
+            let (old, new) = (old.as_str(), new.as_str());
+            let replaced = Replaced {
+                reader,
+                terms,
+                old,
+                new,
+            };
+            replaced.put(rt, path)?;
         }
         Ok(outcome)
     }
@@ -113,6 +129,9 @@ impl Comparison {
             (false, false) => return self.compare_files(rt, pair),
             (true, false) => return Err(Fault::mixed(rt.alloc(), old, new)?),
             (false, true) => return Err(Fault::mixed(rt.alloc(), new, old)?),
+            (true, true) if self.terms.replaces => {
+                return Err(Fault::Usage("--replace wants two texts, and no folders"));
+            }
             (true, true) => {}
         }
         for file in &files_below(rt, old, new)? {
@@ -146,7 +165,7 @@ fn fail(rt: &HostRuntime, fault: &Fault) -> ExitCode {
 /// Does what right arguments ask for.
 fn start(rt: &HostRuntime, matches: &ArgMatches<'_>) -> Result<u8, Fault> {
     let terms = terms_of(matches)?;
-    match pair_of(matches, terms.is_for_git)? {
+    match pair_of(matches, terms)? {
         Some(pair) => perform(rt, terms, pair),
         None => Ok(0),
     }

@@ -1,14 +1,14 @@
 //! What became of pairs of files, and the status of a call.
 
-ghost use Rattle.std.specs.Prelude.{◌≡◌, ◌↔◌, IfOk, []};
+ghost use Rattle.std.specs.Prelude.{◌≡◌, ◌↔◌, IfOk, IsTrue, []};
 ghost use Rattle.std.specs.List.{list_any};
-ghost use Rattle.tocmark_differences.specs.Said.{SayTheSame};
+ghost use Rattle.tocmark_compare_program.specs.Measures.{AreTheSame};
 ghost use Rattle.tocmark_compare_program.specs.Outcomes.{differs, has_failed, status};
 ghost use Rattle.tocmark_compare_program.specs.declared.outcome.Outcome.TheVariants.{Same};
 
-use crate::arguments::Terms;
+use crate::arguments::{Measure, Terms};
 use std::alloc::{AllocError, Global};
-use tocmark_differences::{Difference, compared};
+use tocmark_differences::{Difference, compared, compared_letters};
 use tocmark_judge::PartReader;
 
 /// What became of a pair of files.
@@ -22,6 +22,16 @@ pub enum Outcome {
 }
 
 impl Outcome {
+    /// Whether both say the same.
+    pub fn is_same(self) -> bool
+        ensures { IsTrue result ↔ (self ≡ Same) }
+    {
+        match self {
+            Outcome::Same => true,
+            _ => false,
+        }
+    }
+
     fn has_failed(self) -> bool
         ensures { result ≡ has_failed self }
     {
@@ -52,7 +62,28 @@ fn outcome_of(found: &[Difference]) -> Outcome
     }
 }
 
-/// What two texts say differently, and what became of them. It fails if memory runs out.
+/// What differs between two texts. It fails if memory runs out.
+fn differences<R: PartReader>(
+    alloc: Global,
+    reader: &R,
+    terms: Terms,
+    old: &str,
+    new: &str,
+) -> Result<Vec<Difference>, AllocError>
+    ensures { IfOk result (λ all. (all.items ≡ []) ↔ AreTheSame terms
+        (R.reading reader.now) (R.definitions reader.now) old.now new.now) }
+{
+    if let Measure::Letters = terms.measure {
+        return compared_letters(alloc, old, new);
+    }
+    let found = compared(alloc, reader, terms.flags, terms.allowed, old, new)?;
+    match terms.measure {
+        Measure::EventsAndLetters if found.is_empty() => compared_letters(alloc, old, new),
+        _ => Ok(found),
+    }
+}
+
+/// What differs between two texts, and what became of them. It fails if memory runs out.
 pub fn judged<R: PartReader>(
     alloc: Global,
     reader: &R,
@@ -60,10 +91,10 @@ pub fn judged<R: PartReader>(
     old: &str,
     new: &str,
 ) -> Result<(Vec<Difference>, Outcome), AllocError>
-    ensures same { IfOk result (λ it. (it.1 ≡ Same) ↔ SayTheSame terms.allowed terms.flags
+    ensures same { IfOk result (λ it. (it.1 ≡ Same) ↔ AreTheSame terms
         (R.reading reader.now) (R.definitions reader.now) old.now new.now) }
 {
-    let found = compared(alloc, reader, terms.flags, terms.allowed, old, new)?;
+    let found = differences(alloc, reader, terms, old, new)?;
     let outcome = outcome_of(&found);
     Ok((found, outcome))
 }

@@ -1,5 +1,6 @@
 //! How differences are written.
 
+use crate::arguments::INPUT;
 use std::alloc::{AllocError, Global};
 use std::fmt;
 use std::fmt::Write;
@@ -26,6 +27,9 @@ pub enum Way {
 
 /// The kind of what only the old text has.
 const REMOVED: &str = "removed";
+
+/// The kind of a difference between letters.
+const LETTERS: &str = "letters";
 
 /// How a text is quoted.
 #[derive(Clone, Copy)]
@@ -122,6 +126,13 @@ struct Entry<'d, M: fmt::Display> {
     phrase: &'d M,
 }
 
+impl Spot<'_> {
+    /// Whether it is in standard input, where nobody can look.
+    fn is_input(self) -> bool {
+        self.file == INPUT
+    }
+}
+
 impl fmt::Display for Spot<'_> {
     fn fmt<W: fmt::Write>(&self, f: &mut fmt::Formatter<W>) -> fmt::Result {
         let file = Quoted(self.file);
@@ -132,24 +143,32 @@ impl fmt::Display for Spot<'_> {
     }
 }
 
-/// What is different, and where it was if it is removed.
+/// What is different; and where it was, if that is in the other text than the place that is shown.
 impl<M: fmt::Display> fmt::Display for Entry<'_, M> {
     fn fmt<W: fmt::Write>(&self, f: &mut fmt::Formatter<W>) -> fmt::Result {
         let phrase = OneLine(self.phrase);
         write!(f, "{phrase}")?;
         match (self.old, self.new) {
-            (Some(old), Some(_)) if self.kind == REMOVED => write!(f, " (was {old})"),
+            (Some(old), Some(new)) if !new.is_input() && self.names_old() => {
+                write!(f, " (was {old})")
+            }
             _ => Ok(()),
         }
     }
 }
 
 impl<M: fmt::Display> Entry<'_, M> {
-    /// Where the difference is shown: in the new text, if it is there.
+    /// Whether its place in the old text is named, too: in the new one there is nothing, or other words.
+    fn names_old(&self) -> bool {
+        self.kind == REMOVED || self.kind == LETTERS
+    }
+
+    /// Where the difference is shown: in the new text, if that is a file.
     fn spot(&self) -> Option<Spot<'_>> {
-        match self.new {
-            Some(new) => Some(new),
-            None => self.old,
+        match (self.old, self.new) {
+            (Some(old), Some(new)) if new.is_input() => Some(old),
+            (_, Some(new)) => Some(new),
+            (old, None) => old,
         }
     }
 

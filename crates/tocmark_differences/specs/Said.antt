@@ -6,6 +6,7 @@ use Rattle.tocmark_event.specs.View.{Link, EventView, Start}
 use Rattle.tocmark_event.specs.declared.event.LinkType.TheVariants as link
 use Rattle.tocmark_event.specs.declared.event.flags.ParserOptions.{ParserOptions}
 use Rattle.tocmark_compare.specs.Given.{found_events}
+use Rattle.tocmark_judge.specs.Letters.{letters}
 use Rattle.tocmark_judge.specs.LinkDefinitions.{DefinedLink}
 use Rattle.tocmark_judge.specs.Marks.{after_mark}
 use Rattle.tocmark_judge.specs.Same.{counted}
@@ -36,3 +37,7 @@ said_by a flags reading definitions text =
 abbrev pub SayTheSame : Allowed → ParserOptions → (List ℕ → ParserOptions → ReadingView) → (List ℕ → ParserOptions → List DefinedLink) → List ℕ → List ℕ → Type 0
 SayTheSame a flags reading definitions old new =
     said_by a flags reading definitions old ≡ said_by a flags reading definitions new
+
+-- two texts have the same letters in the same order, whatever a reader finds
+abbrev pub HaveSameLetters : List ℕ → List ℕ → Type 0
+HaveSameLetters old new = letters (after_mark old) ≡ letters (after_mark new)

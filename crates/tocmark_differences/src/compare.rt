@@ -110,7 +110,7 @@ impl<R: PartReader> Comparer<'_, R> {
 }
 
 /// A text after its byte order mark; all of it, if it has none.
-fn after_mark(text: &str) -> &str
+pub fn after_mark(text: &str) -> &str
     ensures { result.now ≡ after_mark text.now }
 {
     match without_mark(text) {

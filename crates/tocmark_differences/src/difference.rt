@@ -38,6 +38,8 @@ pub enum Kind {
     Removed,
     /// Only the new text has it.
     Added,
+    /// The letters, if nothing else differs or counts.
+    Letters,
     /// Anything else.
     Structure,
 }
@@ -76,6 +78,7 @@ impl Kind {
             Kind::Definition => "definition",
             Kind::Removed => "removed",
             Kind::Added => "added",
+            Kind::Letters => "letters",
             Kind::Structure => "structure",
         }
     }

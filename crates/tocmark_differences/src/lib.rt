@@ -2,7 +2,8 @@
 //!
 //! Enter at `compared` (`compare`). `allowed` names the kinds of things that may differ. `fold` and `erase` make of a reader's
 //! events those that count: white space as one blank, if it may differ, and one fixed value for all else that may. `marks` has
-//! these events as short texts, so that `align` finds which of them differ, and `difference` says what that is.
+//! these events as short texts, so that `align` finds which of them differ, and `difference` says what that is. `letters`
+//! compares the letters of two texts alone, without a reader.
 #![tactic(auto)]
 
 pub mod align;
@@ -11,8 +12,10 @@ pub mod compare;
 pub mod difference;
 pub mod erase;
 pub mod fold;
+pub mod letters;
 pub mod marks;
 
 pub use allowed::{Allowed, KINDS};
 pub use compare::compared;
 pub use difference::{Difference, Kind};
+pub use letters::compared_letters;
