@@ -3,24 +3,25 @@ use Rattle.std.specs.Prelude.{None}
 use Rattle.tocmark_print.specs.declared.style.Style.{Style}
 use Rattle.tocmark_print.specs.declared.style.HardBreak.TheVariants as break
 use Rattle.tocmark_print.specs.declared.style.Rule.TheVariants.{Dashes}
-use Rattle.tocmark_print.specs.declared.style.Marker.TheVariants.{Asterisk}
 use Rattle.tocmark_print.specs.declared.style.Numbering.TheVariants.{Source}
 use Rattle.tocmark_print.specs.declared.style.ListIndent.TheVariants as indent
+use Rattle.tocmark_print.specs.declared.style.Tables.TheVariants.{Aligned}
 use Rattle.tocmark_print.specs.declared.style.Wrap.TheVariants.{Keep}
 
--- as in the source what the source has, also its lines; emphasis by asterisks, fences of three, rules of dashes, one blank
--- behind the markers of items, and tables of 120 columns
+-- as in the source what the source has, also its lines and its markers of emphasis; fences of three, rules of dashes, one
+-- blank behind the markers of items, and aligned tables of 120 columns
 abbrev pub usual_style : Style
 usual_style = record {
   bullet = None;
   delimiter = None;
   numbering = Source;
-  emphasis = Asterisk;
-  strong = Asterisk;
+  emphasis = None;
+  strong = None;
   fence = None;
   fence_length = 3;
   hard_break = break.Source;
   rule = Dashes;
+  tables = Aligned;
   table_width = 120;
   wrap = Keep;
   list_indent = indent.Marker;

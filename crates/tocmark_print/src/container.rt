@@ -153,7 +153,7 @@ impl Printer<'_> {
         }
         self.push_marker(&mut first, own.get(..digits).unwrap_or(""))?;
         let pad = match self.look.list_indent {
-            _ if self.look.is_literal => columns.pad,
+            ListIndent::Source => columns.pad,
             ListIndent::Marker => 1,
             ListIndent::Four => 4usize.saturating_sub(first.len()).max(1),
         };

@@ -215,7 +215,7 @@ impl<'d> Printer<'d> {
     fn print_pieces(&mut self, pieces: &Pieces) -> Result<(), AllocError> {
         let limit = match self.look.wrap {
             Wrap::Keep => return self.print_kept_lines(pieces),
-            Wrap::No => usize::MAX,
+            Wrap::No | Wrap::Sentence => usize::MAX,
             Wrap::At(limit) => limit,
         };
         let lines = self.filled_lines(pieces, limit)?;

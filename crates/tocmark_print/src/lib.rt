@@ -41,5 +41,5 @@ pub use part::Placed;
 pub use printing::Printing;
 pub use source::Source;
 pub use style::{
-    Bullet, Delimiter, Fence, HardBreak, ListIndent, Marker, Numbering, Rule, Style, Wrap,
+    Bullet, Delimiter, Fence, HardBreak, ListIndent, Marker, Numbering, Rule, Style, Tables, Wrap,
 };

@@ -1,7 +1,7 @@
 //! How blocks are printed: a style, or the source's own spelling.
 
 use crate::style::{
-    Bullet, Delimiter, Fence, HardBreak, ListIndent, Marker, Numbering, Rule, Style, Wrap,
+    Bullet, Delimiter, Fence, HardBreak, ListIndent, Marker, Numbering, Rule, Style, Tables, Wrap,
 };
 
 /// How blocks are printed. `None` says: as in the source.
@@ -16,6 +16,7 @@ pub(crate) struct Look {
     pub(crate) fence_length: usize,
     pub(crate) rule: Rule,
     pub(crate) hard_break: HardBreak,
+    pub(crate) tables: Tables,
     pub(crate) table_width: usize,
     pub(crate) wrap: Wrap,
     pub(crate) list_indent: ListIndent,
@@ -61,12 +62,13 @@ impl Look {
             bullet: style.bullet.map(bullet_byte),
             delimiter: style.delimiter.map(delimiter_byte),
             numbering: style.numbering,
-            emphasis: Some(marker_byte(style.emphasis)),
-            strong: Some(marker_byte(style.strong)),
+            emphasis: style.emphasis.map(marker_byte),
+            strong: style.strong.map(marker_byte),
             fence: style.fence.map(fence_byte),
             fence_length: style.fence_length.clamp(3, LONGEST_FENCE),
             rule: style.rule,
             hard_break: style.hard_break,
+            tables: style.tables,
             table_width: style.table_width,
             wrap: style.wrap,
             list_indent: style.list_indent,
@@ -86,9 +88,10 @@ impl Look {
             fence_length: 3,
             rule: Rule::Source,
             hard_break: HardBreak::Source,
+            tables: Tables::Source,
             table_width: 0,
             wrap: Wrap::Keep,
-            list_indent: ListIndent::Marker,
+            list_indent: ListIndent::Source,
             is_literal: true,
         }
     }

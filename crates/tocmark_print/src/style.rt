@@ -80,6 +80,8 @@ pub enum Wrap {
     Keep,
     /// Nowhere: a paragraph is one line, but for its hard breaks.
     No,
+    /// After each sentence, so that a change of one sentence changes one line.
+    Sentence,
     /// Lines are filled up to this many columns. A word that is longer has a line of its own.
     At(usize),
 }
@@ -91,7 +93,7 @@ impl Wrap {
     {
         match self {
             Wrap::Keep => false,
-            Wrap::No | Wrap::At(_) => true,
+            Wrap::No | Wrap::Sentence | Wrap::At(_) => true,
         }
     }
 }
@@ -103,6 +105,17 @@ pub enum ListIndent {
     Marker,
     /// Four columns behind the marker's front, as Python-Markdown wants it; one blank behind a marker that is longer.
     Four,
+    /// As many columns behind the marker as in the source, up to four.
+    Source,
+}
+
+/// How tables look.
+#[derive(Clone, Copy, PartialEq, Eq)]
+pub enum Tables {
+    /// Columns are padded to one width, unless the table gets too wide.
+    Aligned,
+    /// Columns are padded if those of the source are; other cells get one blank on each side.
+    Source,
 }
 
 /// How a document is to look. `None` says: as in the source.
@@ -113,23 +126,26 @@ pub struct Style {
     /// What stands behind the numbers of all lists; `None`: what stands behind the first one in the source.
     pub delimiter: Option<Delimiter>,
     pub numbering: Numbering,
-    pub emphasis: Marker,
-    pub strong: Marker,
+    /// What stands round emphasis; `None`: each has that of the source.
+    pub emphasis: Option<Marker>,
+    /// What stands round strong emphasis; `None`: each has that of the source.
+    pub strong: Option<Marker>,
     /// What fences are made of; `None`: each as in the source.
     pub fence: Option<Fence>,
     /// The least length of a fence: less than 3 is taken for 3, more than 1,000 for 1,000.
     pub fence_length: usize,
     pub hard_break: HardBreak,
     pub rule: Rule,
-    /// How many columns a table may take. The cells of wider ones aren't padded.
+    pub tables: Tables,
+    /// How many columns a table may take. The cells of wider ones aren't padded, unless those of the source are.
     pub table_width: usize,
     pub wrap: Wrap,
     pub list_indent: ListIndent,
 }
 
 impl Style {
-    /// Bullets, delimiters, numbers, fences and breaks of lines as in the source, asterisks for emphasis, rules of `---`,
-    /// fences of three, one blank behind the markers of items, and tables of 120 columns.
+    /// Bullets, delimiters, numbers, emphasis, fences and breaks of lines as in the source, rules of `---`, fences of three, one
+    /// blank behind the markers of items, and tables that are aligned up to 120 columns.
     pub fn new() -> Style
         ensures { result ≡ usual_style }
     {
@@ -137,12 +153,13 @@ impl Style {
             bullet: None,
             delimiter: None,
             numbering: Numbering::Source,
-            emphasis: Marker::Asterisk,
-            strong: Marker::Asterisk,
+            emphasis: None,
+            strong: None,
             fence: None,
             fence_length: 3,
             hard_break: HardBreak::Source,
             rule: Rule::Dashes,
+            tables: Tables::Aligned,
             table_width: 120,
             wrap: Wrap::Keep,
             list_indent: ListIndent::Marker,
