@@ -4,9 +4,11 @@
 //! It uses the reader of extensions, whose flags the names stand for, `tocmark_files`, which keeps messages to a line, and
 //! the kit's `clap`. `tocmark_events_program` and `tocmark_format_program` use it. Start at `Program` (`program`), which
 //! refuses wrong calls. `options` adds the rows of a table to a command, `syntax` has `--syntax` and `--extension` with
-//! their help, `streams` reads and writes whole texts, and `release` says which release a program is from.
+//! their help, `streams` reads and writes whole texts, `escaped` quotes texts for programs that read messages, and
+//! `release` says which release a program is from.
 #![tactic(auto)]
 
+pub mod escaped;
 pub mod options;
 pub mod program;
 pub mod release;

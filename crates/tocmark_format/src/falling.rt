@@ -4,6 +4,7 @@ ghost use Rattle.std.specs.Prelude.{[]};
 ghost use Rattle.tocmark_judge.specs.Summaries.{SumsFirst};
 
 use crate::answer::{Left, Reason};
+use crate::range::Lines;
 use crate::trees::{Places, TreeWalk};
 use std::alloc::{AllocError, Global};
 use tocmark_compare::digest::TreeEnd;
@@ -169,12 +170,13 @@ pub(crate) fn blocks_apart<R: PartReader>(
     Ok(apart)
 }
 
-/// The blocks that keep their lines.
+/// The blocks that keep their lines, of those that the lines to format touch.
 pub(crate) fn blocks_left(
     alloc: Global,
     source: &Source<'_>,
     ladder: &Ladder,
     blocks: &Blocks,
+    asked: Option<Lines>,
 ) -> Result<Vec<Left>, AllocError> {
     let mut all = Vec::new(alloc);
     let mut place = blocks.first();
@@ -192,11 +194,13 @@ pub(crate) fn blocks_left(
         } else {
             continue;
         };
-        let (from, to) = block.range;
-        all.push(Left {
-            lines: source.lines_between(from, to),
-            reason,
-        })?;
+        let lines = Lines::of(source, block);
+        if asked.is_none_or(|asked| asked.touch(lines)) {
+            all.push(Left {
+                lines: (lines.first, lines.last),
+                reason,
+            })?;
+        }
     }
     Ok(all)
 }

@@ -15,6 +15,7 @@ ghost use Rattle.tocmark_print.specs.Fills.{fills};
 
 use crate::answer::{Formatted, Left, Reason};
 use crate::falling::{ReadBack, blocks_apart, blocks_left, fall_all};
+use crate::range::{Lines, Patch, StyledLines, keep_others};
 use crate::trees::Places;
 use std::alloc::{AllocError, Global};
 use tocmark_event::event::ParserOptions;
@@ -33,7 +34,7 @@ const ROUNDS: usize = 4;
 #[derive(Clone, Copy)]
 struct Formatter<'f, R> {
     judge: Judge<'f, R>,
-    style: Style,
+    asked: StyledLines,
 }
 
 /// Prints the trees of the source as they come, and keeps what they say.
@@ -61,12 +62,20 @@ struct Printed {
     source: Found,
 }
 
-/// What the lines of a text end with: what its first line feed ends with, or a carriage return if it has no line feed.
+/// A printed document that reads as its source.
+#[derive(Drop)]
+struct Answer {
+    text: String,
+    blocks: Blocks,
+    left: Vec<Left>,
+}
+
+/// What the lines of a text end with: what its first line feed ends with; without one, a carriage return if it has one.
 fn line_ending(text: &str) -> &'static str {
     match text.find('\n') {
-        None => "\r",
+        None if text.contains('\r') => "\r",
         Some(at) if text.get(..at).unwrap_or("").ends_with('\r') => "\r\n",
-        Some(_) => "\n",
+        _ => "\n",
     }
 }
 
@@ -76,13 +85,13 @@ fn with_line_feeds(alloc: Global, text: &str) -> Result<String, AllocError> {
     pairless.as_str().replace(alloc, "\r", "\n")
 }
 
-/// A document that stays as it is, from its first line on.
-fn unchanged(alloc: Global, text: &str) -> Result<Formatted, AllocError>
+/// A document that stays as it is, from a line on.
+fn unchanged(alloc: Global, text: &str, line: usize) -> Result<Formatted, AllocError>
     ensures { IfOk result (λ answer. string_bytes answer.text ≡ text.now) }
 {
     let mut left = Vec::new(alloc);
     left.push(Left {
-        lines: (1, 1),
+        lines: (line, line),
         reason: Reason::ReadOtherwise,
     })?;
     let text = String::from_str(alloc, text)?;
@@ -99,7 +108,7 @@ impl<R: PartReader> Formatter<'_, R> {
             ≡ R.definitions self.now.judge.reader.now source.now.text.now self.now.judge.flags) }
     {
         let mut copying = Copying {
-            printing: Printing::new(self.judge.alloc, source, self.style, ladder),
+            printing: Printing::new(self.judge.alloc, source, self.asked.style, ladder),
             said: Summary::new(self.judge.alloc, self.judge.folds),
         };
         let text = source.text;
@@ -188,23 +197,34 @@ impl<R: PartReader> Formatter<'_, R> {
         source: &Source<'_>,
         ladder: &Ladder,
         printed: Printed,
-    ) -> Result<Option<Formatted>, AllocError>
+    ) -> Result<Option<Answer>, AllocError>
         ensures { IfOk result (λ answer. IfSome answer (λ answer.
             string_bytes answer.text ≡ string_bytes printed.text)) }
     {
-        let left = blocks_left(self.judge.alloc, source, ladder, &printed.blocks)?;
-        let Printed { text, .. } = printed;
-        Ok(Some(Formatted { text, left }))
+        let asked = self.asked.lines;
+        let left = blocks_left(self.judge.alloc, source, ladder, &printed.blocks, asked)?;
+        let Printed { text, blocks, .. } = printed;
+        Ok(Some(Answer { text, blocks, left }))
+    }
+
+    /// Where the rounds begin: all trees in the style, or if only some lines are asked for, the others by their lines.
+    fn first_ladder(&self, source: &Source<'_>) -> Result<Ladder, AllocError> {
+        let mut ladder = Ladder::new(self.judge.alloc, source.text)?;
+        if let Some(lines) = self.asked.lines {
+            let printed = self.print(source, &ladder)?;
+            keep_others(&mut ladder, source, &printed.blocks, lines)?;
+        }
+        Ok(ladder)
     }
 
     /// The document that reads as its source, if some round leads there. One that is printed as it was isn't read back.
-    fn rounds(&self, source: &Source<'_>) -> Result<Option<Formatted>, AllocError>
+    fn rounds(&self, source: &Source<'_>) -> Result<Option<Answer>, AllocError>
         ensures { IfOk result (λ answer. IfSome answer (λ answer. AreAlike
             self.now.judge.folds self.now.judge.flags self.now.judge.also.now
             (R.reading self.now.judge.reader.now) (R.definitions self.now.judge.reader.now)
             (string_bytes answer.text) source.now.text.now)) }
     {
-        let mut ladder = Ladder::new(self.judge.alloc, source.text)?;
+        let mut ladder = self.first_ladder(source)?;
         for _ in 0..ROUNDS {
             let printed = self.print(source, &ladder)?;
             if is_same_text(printed.text.as_str(), source.text) {
@@ -230,8 +250,8 @@ impl<R: PartReader> Formatter<'_, R> {
     {
         let source = Source::new(self.judge.alloc, text)?;
         match self.rounds(&source)? {
-            Some(answer) => Ok(answer),
-            None => unchanged(self.judge.alloc, text),
+            Some(Answer { text, left, .. }) => Ok(Formatted { text, left }),
+            None => unchanged(self.judge.alloc, text, 1),
         }
     }
 
@@ -250,7 +270,43 @@ impl<R: PartReader> Formatter<'_, R> {
         if self.judge.are_alike(whole.as_str(), text)? {
             Ok(Formatted { text: whole, left })
         } else {
-            unchanged(self.judge.alloc, text)
+            unchanged(self.judge.alloc, text, 1)
+        }
+    }
+
+    /// A text with some of its lines formatted, if these read as before.
+    fn patched(&self, text: &str, lines: Lines) -> Result<Option<(String, Vec<Left>)>, AllocError> {
+        let bare = with_line_feeds(self.judge.alloc, text)?;
+        let source = Source::new(self.judge.alloc, bare.as_str())?;
+        let Some(answer) = self.rounds(&source)? else {
+            return Ok(None);
+        };
+        let Answer {
+            text: printed,
+            blocks,
+            left,
+        } = answer;
+        let whole = match Patch::of(&source, &blocks, printed.as_str(), lines) {
+            Some(patch) => patch.put_in(self.judge.alloc, text, line_ending(text))?,
+            None => String::from_str(self.judge.alloc, text)?,
+        };
+        Ok(Some((whole, left)))
+    }
+
+    /// Formats some lines of a text. All bytes of the blocks that they don't touch stay, and so do the blank lines beside these.
+    fn format_some(&self, text: &str, lines: Lines) -> Result<Formatted, AllocError>
+        ensures { IfOk result (λ answer. AreAlike
+            self.now.judge.folds self.now.judge.flags self.now.judge.also.now
+            (R.reading self.now.judge.reader.now) (R.definitions self.now.judge.reader.now)
+            (string_bytes answer.text) text.now) }
+    {
+        let Some((new, left)) = self.patched(text, lines)? else {
+            return unchanged(self.judge.alloc, text, lines.first);
+        };
+        if self.judge.are_alike(new.as_str(), text)? {
+            Ok(Formatted { text: new, left })
+        } else {
+            unchanged(self.judge.alloc, text, lines.first)
         }
     }
 
@@ -261,7 +317,9 @@ impl<R: PartReader> Formatter<'_, R> {
             (R.reading self.now.judge.reader.now) (R.definitions self.now.judge.reader.now)
             (string_bytes answer.text) text.now) }
     {
-        if text.contains('\r') {
+        if let Some(lines) = self.asked.lines {
+            self.format_some(text, lines)
+        } else if text.contains('\r') {
             self.format_with_returns(text)
         } else {
             self.format_lines(text)
@@ -345,12 +403,42 @@ pub fn formatted<R: PartReader>(
         (R.reading reader.now (after_mark (string_bytes answer.text)) flags)
         (R.reading reader.now (after_mark text.now) flags)) also.now) }
 {
+    let asked = StyledLines { style, lines: None };
+    formatted_lines(alloc, text, reader, flags, asked, also)
+}
+
+/// Formats the blocks that some lines of a document touch, or all blocks. `formatted` says what holds of the new text. All
+/// bytes of the other blocks stay, and so do the blank lines between them and the blocks that are formatted.
+///
+/// It fails as `formatted` does.
+pub fn formatted_lines<R: PartReader>(
+    alloc: Global,
+    text: &str,
+    reader: &R,
+    flags: ParserOptions,
+    asked: StyledLines,
+    also: &[ParserOptions],
+) -> Result<Formatted, AllocError>
+    ensures mark { IfOk result (λ answer.
+        has_mark (string_bytes answer.text) ≡ has_mark text.now) }
+    ensures letters { IfOk result (λ answer.
+        letters (string_bytes answer.text) ≡ letters text.now) }
+    ensures same { IfOk result (λ answer. SaySame (fills asked.style.wrap)
+        (R.reading reader.now (after_mark (string_bytes answer.text)) flags)
+        (R.reading reader.now (after_mark text.now) flags)) }
+    ensures definitions { IfOk result (λ answer.
+        R.definitions reader.now (after_mark (string_bytes answer.text)) flags
+        ≡ R.definitions reader.now (after_mark text.now) flags) }
+    ensures also { IfOk result (λ answer. All (λ flags. has_same_shape
+        (R.reading reader.now (after_mark (string_bytes answer.text)) flags)
+        (R.reading reader.now (after_mark text.now) flags)) also.now) }
+{
     let judge = Judge {
         alloc,
         reader,
         flags,
-        folds: style.wrap.fills(),
+        folds: asked.style.wrap.fills(),
         also,
     };
-    Formatter { judge, style }.format_document(text)
+    Formatter { judge, asked }.format_document(text)
 }

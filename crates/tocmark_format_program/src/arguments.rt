@@ -2,12 +2,14 @@
 
 use crate::lookup::{Refused, whole_path};
 use crate::outcome::Terms;
-use crate::settings::{KEYS, Key, Setting, Settings, set_all};
+use crate::report::Form;
+use crate::settings::{KEYS, Key, Setting, Settings, named, set_all};
 use clap::{Arg, ArgAction, ArgMatches, Command};
 use std::alloc::{AllocError, Global};
 use tocmark_command::options::{CommandOption, Takes, with_options};
 use tocmark_command::syntax::with_syntax;
 use tocmark_files::rules::Rules;
+use tocmark_format::Lines;
 
 /// What becomes of formatted texts.
 #[derive(Clone, Copy)]
@@ -27,13 +29,21 @@ impl Task {
     }
 }
 
-/// How much is printed.
-#[derive(Drop)]
+/// How much is printed, and how.
+#[derive(Clone, Copy)]
 pub struct Voice {
+    pub form: Form,
     /// The summary isn't printed.
     pub is_quiet: bool,
     /// Each file that changes is named.
     pub is_verbose: bool,
+}
+
+impl Voice {
+    /// Whether people read it, and not a program.
+    pub fn is_for_people(&self) -> bool {
+        matches!(self.form, Form::Text)
+    }
 }
 
 /// What a command line says of all files.
@@ -46,6 +56,8 @@ pub struct Choice {
     pub include: Option<Rules>,
     /// Whether `.gitignore` files hold.
     pub respects_ignores: bool,
+    /// Which lines are formatted, if that is one text alone. `None`: all.
+    pub lines: Option<Lines>,
 }
 
 /// Whether a diff is coloured.
@@ -66,7 +78,10 @@ FOLDER: format the Markdown files below it
 - or no path: standard input to standard output";
 
 /// The last lines of `--help`.
-const LAST: &str = "The value source keeps what each list, fence, break or rule has.";
+const LAST: &str = "The value source keeps what the text has.";
+
+/// What `--lines` takes.
+const LINES: &str = "the first and the last line, as 10:20; lines count from 1";
 
 const COLORS: [(&str, Color); 3] = [
     ("auto", Color::Auto),
@@ -74,13 +89,25 @@ const COLORS: [(&str, Color); 3] = [
     ("never", Color::Never),
 ];
 
+const FORMS: [(&str, Form); 3] = [
+    ("text", Form::Text),
+    ("github", Form::Annotations),
+    ("json", Form::Json),
+];
+
 /// The options that say how a document looks.
-static STYLE: [CommandOption<'static>; 13] = [
+static STYLE: [CommandOption<'static>; 15] = [
     CommandOption {
         name: "also-read",
         letter: None,
         takes: Takes::Values("NAME"),
         help: "Keep the blocks that this syntax has, too:\ncommonmark, gfm, all or none; repeatable",
+    },
+    CommandOption {
+        name: "look",
+        letter: None,
+        takes: Takes::Value("LOOK"),
+        help: "source: keep all markers, and mend what is broken;\none: the same markers everywhere; the options\nbelow change this",
     },
     CommandOption {
         name: "bullet",
@@ -104,13 +131,13 @@ static STYLE: [CommandOption<'static>; 13] = [
         name: "emphasis",
         letter: None,
         takes: Takes::Value("MARKER"),
-        help: "Emphasis marker: * (default) or _",
+        help: "Emphasis marker: *, _ or source (default)",
     },
     CommandOption {
         name: "strong",
         letter: None,
         takes: Takes::Value("MARKER"),
-        help: "Strong emphasis marker: ** (default) or __",
+        help: "Strong emphasis marker: **, __ or source\n(default)",
     },
     CommandOption {
         name: "fence",
@@ -137,6 +164,12 @@ static STYLE: [CommandOption<'static>; 13] = [
         help: "Thematic break: --- (default) or source",
     },
     CommandOption {
+        name: "tables",
+        letter: None,
+        takes: Takes::Value("TABLES"),
+        help: "Cells of tables: aligned (default), or source:\nonly where they are aligned already",
+    },
+    CommandOption {
         name: "table-width",
         letter: None,
         takes: Takes::Value("N"),
@@ -146,18 +179,18 @@ static STYLE: [CommandOption<'static>; 13] = [
         name: "list-indent",
         letter: None,
         takes: Takes::Value("WIDTH"),
-        help: "Indentation of items: that of the marker\n(default), or 4 columns",
+        help: "Indentation of items: that of the marker\n(default), 4 columns, or source",
     },
     CommandOption {
         name: "wrap",
         letter: None,
         takes: Takes::Value("WHERE"),
-        help: "Lines of paragraphs: keep (default), no (join\nthem) or N (fill them up to N columns)",
+        help: "Lines of paragraphs: keep (default), no (join\nthem), sentence (a line each) or N (fill them up\nto N columns)",
     },
 ];
 
 /// The options that say what is done.
-static TASK: [CommandOption<'static>; 5] = [
+static TASK: [CommandOption<'static>; 6] = [
     CommandOption {
         name: "check",
         letter: None,
@@ -175,6 +208,12 @@ static TASK: [CommandOption<'static>; 5] = [
         letter: None,
         takes: Takes::Nothing,
         help: "Write nothing; show the changes as a unified diff",
+    },
+    CommandOption {
+        name: "lines",
+        letter: None,
+        takes: Takes::Value("FIRST:LAST"),
+        help: "Format the blocks that these lines of one file\ntouch, and keep all others as they are",
     },
     CommandOption {
         name: "strict",
@@ -231,12 +270,18 @@ static FILES: [CommandOption<'static>; 6] = [
 ];
 
 /// The options for the configuration and the messages.
-static VOICE: [CommandOption<'static>; 4] = [
+static VOICE: [CommandOption<'static>; 5] = [
     CommandOption {
         name: "config",
         letter: None,
         takes: Takes::Value("FILE"),
         help: "Use this configuration for all files, and not the\nnearest .tocmark.toml in or above each folder",
+    },
+    CommandOption {
+        name: "output",
+        letter: None,
+        takes: Takes::Value("FORM"),
+        help: "Form of what is found: text (default), github\n(annotations of a workflow) or json (an array)",
     },
     CommandOption {
         name: "quiet",
@@ -294,12 +339,23 @@ pub fn task_of(matches: &ArgMatches<'_>) -> Task {
     }
 }
 
-/// How much is printed, by a command line.
-pub fn voice_of(matches: &ArgMatches<'_>) -> Voice {
-    Voice {
+/// How much is printed, and how, by a command line.
+pub fn voice_of(matches: &ArgMatches<'_>) -> Result<Voice, Refused> {
+    let form = match matches.get_str("output") {
+        None => Form::Text,
+        Some(word) => match named(&FORMS, word) {
+            Some(form) => form,
+            None => return Err(Refused::Option("output", "text, github or json")),
+        },
+    };
+    if matches!(form, Form::Json) && matches.get_flag("diff") {
+        return Err(Refused::Usage("--output json takes no --diff"));
+    }
+    Ok(Voice {
+        form,
         is_quiet: matches.get_flag("quiet") || matches.get_flag("list-different"),
         is_verbose: matches.get_flag("verbose"),
-    }
+    })
 }
 
 /// When a diff is coloured, by a command line.
@@ -307,12 +363,34 @@ pub fn color_of(matches: &ArgMatches<'_>) -> Result<Color, Refused> {
     let Some(word) = matches.get_str("color") else {
         return Ok(Color::Auto);
     };
-    for (name, color) in &COLORS {
-        if *name == word {
-            return Ok(*color);
-        }
+    match named(&COLORS, word) {
+        Some(color) => Ok(color),
+        None => Err(Refused::Option("color", "auto, always or never")),
     }
-    Err(Refused::Option("color", "auto, always or never"))
+}
+
+/// The lines that a word says: the first and the last one, with a colon between.
+fn lines_in(word: &str) -> Option<Lines> {
+    let (first, last) = word.split_once(':')?;
+    let lines = Lines {
+        first: first.parse().ok()?,
+        last: last.parse().ok()?,
+    };
+    if lines.first == 0 || lines.first > lines.last {
+        return None;
+    }
+    Some(lines)
+}
+
+/// Which lines are formatted, by a command line.
+fn lines_of(matches: &ArgMatches<'_>) -> Result<Option<Lines>, Refused> {
+    let Some(word) = matches.get_str("lines") else {
+        return Ok(None);
+    };
+    match lines_in(word) {
+        Some(lines) => Ok(Some(lines)),
+        None => Err(Refused::Option("lines", LINES)),
+    }
 }
 
 /// The options of the style with their values, by a command line.
@@ -378,5 +456,6 @@ pub fn choice_of(rt: &HostRuntime, matches: &ArgMatches<'_>) -> Result<Choice, R
         exclude: exclude_of(rt, matches)?,
         include: globs_of(rt, matches, "include")?,
         respects_ignores: !matches.get_flag("no-ignore"),
+        lines: lines_of(matches)?,
     })
 }

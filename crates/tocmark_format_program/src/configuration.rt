@@ -12,7 +12,7 @@ use toml::{Table, Value};
 /// What a configuration file says.
 #[derive(Drop)]
 pub(crate) struct Configuration {
-    settings: Settings,
+    values: Vec<Setting>,
     /// Which files aren't formatted.
     pub(crate) exclude: Rules,
     /// Which files are formatted. `None`: those with names of Markdown.
@@ -59,6 +59,9 @@ const GLOBS: &str = "a list of globs, as [\"docs/**\", \"*.{md,txt}\"]";
 
 /// The keys that don't name an option, and that no override has.
 const GENERAL: [&str; 3] = ["exclude", "include", "overrides"];
+
+/// The keys that are read before the others.
+const FIRST: [&str; 2] = ["syntax", "look"];
 
 /// What `overrides` takes.
 const OVERRIDES: &str = "a list of tables, each with files = [globs]";
@@ -264,7 +267,8 @@ impl<'t> Source<'t> {
         Ok(())
     }
 
-    /// The options of a table, but for these keys. A syntax comes before the extensions that are added to it.
+    /// The options of a table, but for these keys. A syntax comes before the extensions that are added to it, and a look before
+    /// the options that it sets.
     fn values(self, table: &Table, others: &[&str]) -> Result<Vec<Setting>, ConfigError> {
         let mut values = Vec::new(self.alloc);
         self.add_values(&mut values, table, others)?;
@@ -278,12 +282,14 @@ impl<'t> Source<'t> {
         table: &Table,
         others: &[&str],
     ) -> Result<(), ConfigError> {
-        if let Some(value) = table.get("syntax") {
-            self.add_named(values, "syntax", value)?;
+        for name in FIRST {
+            if let Some(value) = table.get(name) {
+                self.add_named(values, name, value)?;
+            }
         }
         for (name, value) in table {
             let name = name.as_str();
-            if name != "syntax" && !is_among(others, name) {
+            if !is_among(&FIRST, name) && !is_among(others, name) {
                 self.add_named(values, name, value)?;
             }
         }
@@ -298,14 +304,6 @@ impl<'t> Source<'t> {
         }
     }
 
-    /// The settings that the keys of a table name.
-    fn settings(self, table: &Table) -> Result<Settings, ConfigError> {
-        let values = self.values(table, &GENERAL)?;
-        let mut settings = Settings::new();
-        let _ = set_all(&mut settings, &values);
-        Ok(settings)
-    }
-
     /// The globs of `exclude`.
     fn exclude(self, table: &Table) -> Result<Rules, ConfigError> {
         match self.globs(table, "exclude")? {
@@ -315,12 +313,12 @@ impl<'t> Source<'t> {
     }
 
     fn configuration(self, table: &Table) -> Result<Configuration, ConfigError> {
-        let settings = self.settings(table)?;
+        let values = self.values(table, &GENERAL)?;
         let exclude = self.exclude(table)?;
         let include = self.globs(table, "include")?;
         let overrides = self.overrides(table)?;
         Ok(Configuration {
-            settings,
+            values,
             exclude,
             include,
             overrides,
@@ -371,7 +369,7 @@ impl Configuration {
     /// The configuration of a folder that has no configuration file.
     pub(crate) fn new(alloc: Global) -> Result<Configuration, AllocError> {
         Ok(Configuration {
-            settings: Settings::new(),
+            values: Vec::new(alloc),
             exclude: Rules::new(alloc, "/")?,
             include: None,
             overrides: Vec::new(alloc),
@@ -399,22 +397,23 @@ impl Configuration {
         source.configuration(&table)
     }
 
-    /// The settings of the file with this path, and those of a text without a name.
-    pub(crate) fn settings(
+    /// Sets what it says of the file with this path, or of a text without a name.
+    pub(crate) fn set(
         &self,
         alloc: Global,
         path: Option<&str>,
-    ) -> Result<Settings, AllocError> {
-        let mut settings = self.settings;
+        settings: &mut Settings,
+    ) -> Result<(), AllocError> {
+        let _ = set_all(settings, &self.values);
         let Some(path) = path else {
-            return Ok(settings);
+            return Ok(());
         };
         let entry = Entry::file(path);
         for Override { files, values } in &self.overrides {
             if files.mean(alloc, entry)? {
-                let _ = set_all(&mut settings, values);
+                let _ = set_all(settings, values);
             }
         }
-        Ok(settings)
+        Ok(())
     }
 }

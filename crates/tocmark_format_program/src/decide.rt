@@ -9,7 +9,7 @@ ghost use Rattle.tocmark_format_program.specs.Formats.{KeepsWhatItSays};
 
 use crate::settings::Settings;
 use std::alloc::{AllocError, Global};
-use tocmark_format::{Formatted, Left, formatted};
+use tocmark_format::{Formatted, Left, StyledLines, formatted_lines};
 use tocmark_judge::PartReader;
 
 /// What becomes of a text.
@@ -50,14 +50,19 @@ pub fn decided<R: PartReader>(
     ensures letters { IfOk result (λ decision. IfSome decision.new (λ new.
         letters (string_bytes new) ≡ letters (string_bytes decision.old))) }
 {
-    let Settings { flags, style, also } = settings;
+    let Settings {
+        flags,
+        style,
+        also,
+        lines,
+    } = settings;
     let also = also.flags(alloc)?;
-    let Formatted { text: new, left } = formatted(
+    let Formatted { text: new, left } = formatted_lines(
         alloc,
         text.as_str(),
         reader,
         flags,
-        style,
+        StyledLines { style, lines },
         &also,
     )?;
     if new.as_str() == text.as_str() {

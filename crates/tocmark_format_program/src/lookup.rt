@@ -1,4 +1,5 @@
-//! The configuration of each folder: the nearest file in it or above. Each file is read once.
+//! The configuration of each folder: the nearest file in it or above, and whether it belongs to a site of MkDocs. Each file is
+//! read once.
 
 use crate::configuration::{ConfigError, Configuration};
 use crate::settings::Settings;
@@ -8,9 +9,13 @@ use std::path::{Path, PathBuf};
 use std::{fmt, fs, io};
 use tocmark_files::quoted::Quoted;
 use tocmark_files::trust::{Caller, Distrust};
+use tocmark_print::ListIndent;
 
 /// The name of configuration files.
 const NAME: &str = ".tocmark.toml";
+
+/// The name of the file that MkDocs reads.
+const SITE: &str = "mkdocs.yml";
 
 /// What is said of a file that isn't there.
 pub const MISSING: &str = "no such file";
@@ -151,18 +156,31 @@ fn named_configuration(rt: &HostRuntime, path: &str) -> Result<Configuration, Re
     }
 }
 
+/// The path and the bytes of a file in a folder, which must be one that counts. `Ok(None)`: it isn't there.
+fn file_in(
+    rt: &HostRuntime,
+    caller: Caller,
+    folder: Path<'_>,
+    name: &str,
+) -> Result<Option<(String, Vec<u8>)>, Refused> {
+    let path: PathBuf = folder.join(rt.alloc(), name)?;
+    let path = path.into_string();
+    match caller.read(rt, path.as_str(), true) {
+        Ok(Some(bytes)) => Ok(Some((path, bytes))),
+        Ok(None) => Ok(None),
+        Err(why) => Err(Refused::Untrusted(path, why)),
+    }
+}
+
 /// The configuration of a folder itself. `Ok(None)`: it has none.
 fn configuration_of(
     rt: &HostRuntime,
     caller: Caller,
     folder: Path<'_>,
 ) -> Result<Option<Configuration>, Refused> {
-    let path: PathBuf = folder.join(rt.alloc(), NAME)?;
-    let path = path.into_string();
-    match caller.read(rt, path.as_str(), true) {
-        Ok(Some(bytes)) => configuration_in(rt, path.as_str(), bytes).map(Some),
-        Ok(None) => Ok(None),
-        Err(why) => Err(Refused::Untrusted(path, why)),
+    match file_in(rt, caller, folder, NAME)? {
+        Some((path, bytes)) => configuration_in(rt, path.as_str(), bytes).map(Some),
+        None => Ok(None),
     }
 }
 
@@ -201,6 +219,10 @@ pub struct Configurations {
     /// Whether the first is for all folders.
     is_one: bool,
     by_folder: HashMap<String, usize>,
+    /// Which folders belong to a site of MkDocs.
+    sites: HashMap<String, bool>,
+    /// The files of MkDocs that were found.
+    pub(crate) site_files: Vec<String>,
 }
 
 impl Configurations {
@@ -217,6 +239,8 @@ impl Configurations {
             all,
             is_one: path.is_some(),
             by_folder: HashMap::new(rt.alloc()),
+            sites: HashMap::new(rt.alloc()),
+            site_files: Vec::new(rt.alloc()),
         })
     }
 
@@ -265,16 +289,52 @@ impl Configurations {
         self.all.get(at)
     }
 
-    /// The settings by a configuration of the file with this path, or of a text without a name.
+    /// Whether a folder, by its path from the root on, belongs to a site of MkDocs: its file is there or above. It isn't looked
+    /// for if one configuration is for all folders.
+    fn is_of_site(&mut self, rt: &HostRuntime, folder: &str) -> Result<bool, Refused> {
+        if self.is_one {
+            return Ok(false);
+        }
+        let mut is_of_site = false;
+        let mut passed = 0usize;
+        for above in Path::new(folder).ancestors() {
+            if let Some(known) = self.sites.get(above.as_str()) {
+                is_of_site = *known;
+                break;
+            }
+            passed = passed.saturating_add(1);
+            if let Some((path, _)) = file_in(rt, self.caller, above, SITE)? {
+                self.site_files.push(path)?;
+                is_of_site = true;
+                break;
+            }
+            if !goes_on(rt, self.caller, above)? {
+                break;
+            }
+        }
+        for above in Path::new(folder).ancestors().take(passed) {
+            let above = String::from_str(rt.alloc(), above.as_str())?;
+            self.sites.insert(above, is_of_site)?;
+        }
+        Ok(is_of_site)
+    }
+
+    /// The settings by a configuration, in this folder, of the file with this path, or of a text without a name. Nested lists of a
+    /// site of MkDocs need four columns.
     pub(crate) fn settings(
-        &self,
+        &mut self,
         rt: &HostRuntime,
         at: usize,
+        folder: &str,
         path: Option<&str>,
     ) -> Result<Settings, Refused> {
-        match self.all.get(at) {
-            Some(configuration) => Ok(configuration.settings(rt.alloc(), path)?),
-            None => Ok(Settings::new()),
+        let mut settings = Settings::new();
+        if self.is_of_site(rt, folder)? {
+            settings.style.list_indent = ListIndent::Four;
         }
+        if let Some(configuration) = self.all.get(at) {
+            configuration.set(rt.alloc(), path, &mut settings)?;
+        }
+        Ok(settings)
     }
 }

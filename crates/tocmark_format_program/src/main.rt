@@ -36,15 +36,15 @@ use decide::{Decision, decided};
 use fault::Fault;
 use list::add_list;
 use lookup::Refused;
-use outcome::{Outcome, outcome_of, status_of};
+use outcome::{Outcome, first_change, outcome_of, status_of};
 use replace::{Change, replace_text};
-use report::Report;
+use report::{Form, Report};
 use search::{Found, Origin, Search, Target};
 use settings::Settings;
 use std::alloc::{AllocError, Global};
-use std::env;
 use std::io::{BufWriter, IsTerminal, Read, Stderr, Write};
 use std::process::ExitCode;
+use std::{env, fs, io};
 use stream::{Passed, READER, format_stream};
 use text::text_in;
 use tocmark_command::program::Program;
@@ -69,6 +69,7 @@ const MANY: usize = 20;
 #[derive(Clone, Copy)]
 struct Work {
     task: Task,
+    voice: Voice,
     is_colored: bool,
 }
 
@@ -97,15 +98,23 @@ fn shown_change(
 /// What became of a text by a decision that is carried out.
 fn passed_by(decision: Decision) -> Passed {
     let outcome = outcome_of(&decision);
+    let line = first_change(&decision);
     let Decision { left, .. } = decision;
-    Passed { outcome, left }
+    Passed {
+        outcome,
+        line,
+        left,
+    }
 }
 
-/// Shows what a decision would change in the text of a file.
+/// Shows what a decision would change in the text of a file. The name alone isn't shown where a program is told.
 fn show_change(rt: &HostRuntime, work: Work, name: &str, decision: &Decision) -> Result<(), Fault> {
     let Some(new) = &decision.new else {
         return Ok(());
     };
+    if !work.task.shows && !work.voice.is_for_people() {
+        return Ok(());
+    }
     let shown = shown_change(rt.alloc(), work, name, decision.old.as_str(), new.as_str())?;
     write_out(&mut rt.stdout(), shown.as_str()).map_err(Fault::Output)
 }
@@ -169,6 +178,7 @@ fn copy_through(rt: &HostRuntime, work: Work) -> Result<Passed, Fault> {
     }
     Ok(Passed {
         outcome: Outcome::UNCHANGED,
+        line: 1,
         left: Vec::new(rt.alloc()),
     })
 }
@@ -193,18 +203,18 @@ fn outcome_said(
     report: &mut Report<BufWriter<Stderr>>,
     path: &str,
     done: &Result<Passed, Fault>,
-) -> Outcome {
+) -> Result<Outcome, AllocError> {
     match done {
-        Ok(Passed { outcome, left }) => {
-            report.left(path, left);
-            if outcome.is_changed {
-                report.changed(path);
+        Ok(passed) => {
+            report.left(path, &passed.left)?;
+            if passed.outcome.is_changed {
+                report.changed(path, passed.line)?;
             }
-            *outcome
+            Ok(passed.outcome)
         }
         Err(fault) => {
-            report.failed(path, fault);
-            Outcome::FAILED
+            report.failed(path, fault)?;
+            Ok(Outcome::FAILED)
         }
     }
 }
@@ -215,13 +225,14 @@ fn do_one(
     work: Work,
     target: &Target,
     report: &mut Report<BufWriter<Stderr>>,
-) -> (Outcome, bool) {
+) -> Result<(Outcome, bool), AllocError> {
     let done = done(rt, work, target);
     let is_last = match &done {
         Ok(_) => false,
         Err(fault) => fault.is_of_output(),
     };
-    (outcome_said(report, target.path.as_str(), &done), is_last)
+    let outcome = outcome_said(report, target.path.as_str(), &done)?;
+    Ok((outcome, is_last))
 }
 
 /// Formats all texts, or stops once standard output can't be written, and reports what became of them.
@@ -236,7 +247,7 @@ fn do_all(
         if work.task.is_dry() {
             report.clear();
         }
-        let (outcome, is_last) = do_one(rt, work, target, report);
+        let (outcome, is_last) = do_one(rt, work, target, report)?;
         outcomes.push(outcome)?;
         if is_last {
             break;
@@ -298,6 +309,22 @@ fn check_input(
     Ok(())
 }
 
+/// Refuses lines of more than one text.
+fn check_lines(rt: &HostRuntime, paths: &[&str], list: Option<&str>) -> Result<(), Refused> {
+    let is_folder = match paths {
+        [] => false,
+        [path] => match fs::metadata(rt, path) {
+            Ok(metadata) => metadata.is_dir(),
+            Err(_) => false,
+        },
+        _ => true,
+    };
+    if is_folder || list.is_some() {
+        return Err(Refused::Usage("--lines takes one file alone, or standard input"));
+    }
+    Ok(())
+}
+
 /// Adds what an argument names.
 fn add_path(
     rt: &HostRuntime,
@@ -329,6 +356,9 @@ fn add_all(
     let has_null = matches.get_flag("null");
     let name = matches.get_str("stdin-filepath");
     check_input(paths, list, has_null, name)?;
+    if matches.get_str("lines").is_some() {
+        check_lines(rt, paths, list)?;
+    }
     if let Some(name) = name {
         return search.add_input_as(rt, name);
     }
@@ -367,14 +397,17 @@ fn perform(
     let mut outcomes = Vec::new(rt.alloc());
     outcomes.reserve(found.targets.len().saturating_add(found.failures.len()))?;
     for failure in &found.failures {
-        report.failed(failure.path.as_str(), &failure.fault);
+        report.failed(failure.path.as_str(), &failure.fault)?;
         outcomes.push(Outcome::FAILED)?;
     }
     for path in &found.excluded {
         report.note(path.as_str(), "excluded");
     }
+    for path in &found.site_files {
+        report.site(path.as_str());
+    }
     for path in &found.empty {
-        report.found_nothing(path.as_str());
+        report.found_nothing(path.as_str())?;
     }
     do_all(rt, work, &found.targets, report, &mut outcomes)?;
     if !work.task.is_dry() {
@@ -392,53 +425,95 @@ fn perform(
     Ok(status_of(&outcomes, work.task.terms))
 }
 
+/// What is done, by a command line.
+fn work_of(rt: &HostRuntime, matches: &ArgMatches<'_>) -> Result<Work, Refused> {
+    let color = color_of(matches)?;
+    Ok(Work {
+        task: task_of(matches),
+        voice: voice_of(matches)?,
+        is_colored: is_colored(rt, color),
+    })
+}
+
 /// Does what right arguments ask for.
 fn start(rt: &HostRuntime, matches: &ArgMatches<'_>, broken: &[String]) -> ExitCode {
-    let color = match color_of(matches) {
-        Ok(color) => color,
+    let work = match work_of(rt, matches) {
+        Ok(work) => work,
         Err(refused) => return refuse_call(rt, &refused),
     };
-    let work = Work {
-        task: task_of(matches),
-        is_colored: is_colored(rt, color),
-    };
     match found_of(rt, matches, broken) {
-        Ok(found) => report_all(rt, work, &found, voice_of(matches)),
+        Ok(found) => report_all(rt, work, &found),
         Err(refused) => refuse_call(rt, &refused),
     }
 }
 
-/// Formats all texts that were found, and writes what became of them to standard error.
-fn report_all(rt: &HostRuntime, work: Work, found: &Found, voice: Voice) -> ExitCode {
-    let is_long = found.targets.len() >= MANY && !voice.is_quiet;
+/// Whether standard output gets a text.
+fn has_text_out(work: Work, found: &Found) -> bool {
+    if work.task.is_dry() {
+        return false;
+    }
+    for target in &found.targets {
+        match &target.origin {
+            Origin::File(_) => {}
+            _ => return true,
+        }
+    }
+    false
+}
+
+/// Writes what was found for a program: to standard output, or if that gets a text, to standard error.
+fn write_found(rt: &HostRuntime, work: Work, found: &Found, text: &str) -> io::Result<()> {
+    if has_text_out(work, found) {
+        write_out(&mut rt.stderr(), text)
+    } else {
+        write_out(&mut rt.stdout(), text)
+    }
+}
+
+/// Formats all texts that were found, and reports what became of them; the status.
+fn reported(
+    rt: &HostRuntime,
+    work: Work,
+    found: &Found,
+    report: Report<BufWriter<Stderr>>,
+) -> Result<u8, Fault> {
+    let mut report = report;
+    let status = perform(rt, work, found, &mut report)?;
+    let text = report.into_found()?;
+    write_found(rt, work, found, text.as_str()).map_err(Fault::Output)?;
+    Ok(status)
+}
+
+/// Formats all texts that were found, and writes what became of them.
+fn report_all(rt: &HostRuntime, work: Work, found: &Found) -> ExitCode {
+    let is_long = found.targets.len() >= MANY && !work.voice.is_quiet;
     let shows_progress = is_long && rt.stderr().is_terminal();
     let Ok(out) = BufWriter::new(rt.alloc(), rt.stderr()) else {
         return refuse_call(rt, &Refused::OutOfMemory);
     };
-    let mut report = Report::new(out, voice, work.task.is_dry());
+    let mut report = Report::new(rt.alloc(), out, work.voice, work.task.is_dry());
     if shows_progress {
         report.show_progress();
     }
-    match perform(rt, work, found, &mut report) {
+    match reported(rt, work, found, report) {
         Ok(status) => ExitCode::from(status),
-        Err(_) => {
-            FORMAT.complain(&mut rt.stderr(), &Fault::OutOfMemory);
-            ExitCode::from(1)
-        }
+        Err(fault) => fail_call(rt, &fault),
     }
+}
+
+/// Writes why a call fails, unless nobody reads standard output any more.
+fn fail_call(rt: &HostRuntime, fault: &Fault) -> ExitCode {
+    if !fault.is_broken_pipe() {
+        FORMAT.complain(&mut rt.stderr(), fault);
+    }
+    ExitCode::from(1)
 }
 
 /// Writes the help or the version, or why the arguments are wrong.
 fn show(rt: &HostRuntime, error: &clap::Error) -> ExitCode {
     match FORMAT.show(rt, error) {
         Ok(status) => status,
-        Err(error) => {
-            let fault = Fault::Output(error);
-            if !fault.is_broken_pipe() {
-                FORMAT.complain(&mut rt.stderr(), &fault);
-            }
-            ExitCode::from(1)
-        }
+        Err(error) => fail_call(rt, &Fault::Output(error)),
     }
 }
 

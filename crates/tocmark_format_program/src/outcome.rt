@@ -63,6 +63,22 @@ pub fn outcome_of(decision: &Decision) -> Outcome
     }
 }
 
+/// The first line that a decision changes, counted from 1.
+pub fn first_change(decision: &Decision) -> usize {
+    let Some(new) = &decision.new else {
+        return 1;
+    };
+    let old = decision.old.as_str().split_inclusive('\n');
+    let mut line = 1usize;
+    for (was, is) in old.zip(new.as_str().split_inclusive('\n')) {
+        if was != is {
+            break;
+        }
+        line = line.saturating_add(1);
+    }
+    line
+}
+
 /// The status of a call: 0 if nothing failed, nothing that is checked would change, and no strict call has a warning, else 1.
 pub fn status_of(outcomes: &[Outcome], terms: Terms) -> u8
     ensures { result ≡ status (list_any (is_reason terms) outcomes.now) }

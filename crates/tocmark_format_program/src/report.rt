@@ -1,10 +1,13 @@
-//! The messages on standard error. Each whole line is flushed at once, so that the lines of parallel calls don't mix.
+//! The messages on standard error, and what is found in the form that a program reads. Each whole line on standard error is
+//! flushed at once, so that the lines of parallel calls don't mix.
 
 use crate::arguments::Voice;
 use crate::fault::Fault;
 use crate::outcome::Outcome;
+use std::alloc::{AllocError, Global};
 use std::fmt;
 use std::io::Write;
+use tocmark_command::escaped::{Escaped, Quoting};
 use tocmark_files::quoted::{OneLine, Quoted};
 use tocmark_format::{Left, Reason};
 
@@ -41,13 +44,42 @@ impl Totals {
 
 /// What is said of a folder that has no files to format.
 const NOTHING: &str =
-    "warning: no Markdown file is found below it; look at the path, include, exclude and .gitignore";
+    "no Markdown file is found below it; look at the path, include, exclude and .gitignore";
+
+/// What is said of a file of MkDocs.
+const SITE: &str =
+    "items of lists are indented by 4 columns, as Python-Markdown wants, unless list-indent says otherwise";
+
+/// What is said of a file that would be changed.
+const WOULD: &str = "would be formatted";
+
+/// In which form it is written what is found.
+#[derive(Clone, Copy)]
+pub enum Form {
+    /// A line for a reader.
+    Text,
+    /// A JSON array, with a line for each.
+    Json,
+    /// An annotation of GitHub each.
+    Annotations,
+}
+
+/// How bad it is what is found.
+#[derive(Clone, Copy)]
+enum Level {
+    Error,
+    Warning,
+}
 
 /// Why a block keeps its lines.
 fn why(reason: Reason) -> &'static str {
     match reason {
-        Reason::ReadOtherwise => "in this style it would parse differently",
-        Reason::Outgrown => "the markers of its quotes and lists would make it four times as long",
+        Reason::ReadOtherwise => {
+            "this block keeps its lines: in this style it would parse differently"
+        }
+        Reason::Outgrown => {
+            "this block keeps its lines: the markers of its quotes and lists would make it four times as long"
+        }
     }
 }
 
@@ -106,20 +138,6 @@ impl fmt::Display for Summary {
     }
 }
 
-/// Why a file failed.
-#[derive(Drop)]
-struct Failed<'m> {
-    path: Quoted<'m>,
-    fault: &'m Fault,
-}
-
-impl fmt::Display for Failed<'_> {
-    fn fmt<W: fmt::Write>(&self, f: &mut fmt::Formatter<W>) -> fmt::Result {
-        let (path, fault) = (self.path, self.fault);
-        write!(f, "{path}: {fault}")
-    }
-}
-
 /// What became of a file, or what a folder has.
 #[derive(Drop)]
 struct Note<'m> {
@@ -134,25 +152,61 @@ impl fmt::Display for Note<'_> {
     }
 }
 
-/// A block that keeps its lines, by the first of them.
+/// What is found in a file or folder, and in which of its lines.
 #[derive(Drop)]
-struct Warning<'m> {
-    path: Quoted<'m>,
-    line: usize,
-    reason: Reason,
+struct Finding<'m, M: fmt::Display> {
+    level: Level,
+    /// What found it.
+    rule: &'static str,
+    path: &'m str,
+    line: Option<usize>,
+    message: &'m M,
 }
 
-impl fmt::Display for Warning<'_> {
+impl<M: fmt::Display> fmt::Display for Finding<'_, M> {
     fn fmt<W: fmt::Write>(&self, f: &mut fmt::Formatter<W>) -> fmt::Result {
-        let (path, line, why) = (self.path, self.line, why(self.reason));
-        write!(
-            f,
-            "{path}:{line}: warning: this block keeps its lines: {why}"
-        )
+        let (path, message) = (Quoted(self.path), self.message);
+        write!(f, "{path}")?;
+        if let Some(line) = self.line {
+            write!(f, ":{line}")?;
+        }
+        match self.level {
+            Level::Error => write!(f, ": {message}"),
+            Level::Warning => write!(f, ": warning: {message}"),
+        }
     }
 }
 
-/// What writes lines on standard error. A line that can't be written changes nothing.
+impl<M: fmt::Display> Finding<'_, M> {
+    /// Writes an annotation of GitHub.
+    fn write_annotation(&self, out: &mut String) -> Result<(), AllocError> {
+        let level = match self.level {
+            Level::Error => "error",
+            Level::Warning => "warning",
+        };
+        let path = Escaped(&self.path, Quoting::Property);
+        write!(out, "::{level} file={path}")?;
+        if let Some(line) = self.line {
+            write!(out, ",line={line}")?;
+        }
+        let message = Escaped(self.message, Quoting::Message);
+        writeln!(out, "::{message}")
+    }
+
+    /// Writes an object of JSON.
+    fn write_json(&self, out: &mut String) -> Result<(), AllocError> {
+        let path = Escaped(&self.path, Quoting::Json);
+        write!(out, "{{\"file\": \"{path}\", ")?;
+        match self.line {
+            Some(line) => write!(out, "\"line\": {line}, \"column\": 1, ")?,
+            None => out.push_str("\"line\": null, \"column\": null, ")?,
+        }
+        let (rule, message) = (self.rule, Escaped(self.message, Quoting::Json));
+        write!(out, "\"rule\": \"{rule}\", \"message\": \"{message}\"}}")
+    }
+}
+
+/// What writes lines on standard error, and gathers what a program reads. A line that can't be written changes nothing.
 #[derive(Drop)]
 pub struct Report<E: Write + Drop> {
     out: E,
@@ -161,15 +215,18 @@ pub struct Report<E: Write + Drop> {
     shows_progress: bool,
     /// Whether nothing is written, so that files would change.
     is_dry: bool,
+    /// What was found, if a program reads it.
+    found: String,
 }
 
 impl<E: Write + Drop> Report<E> {
-    pub fn new(out: E, voice: Voice, is_dry: bool) -> Report<E> {
+    pub fn new(alloc: Global, out: E, voice: Voice, is_dry: bool) -> Report<E> {
         Report {
             out,
             voice,
             shows_progress: false,
             is_dry,
+            found: String::new(alloc),
         }
     }
 
@@ -194,55 +251,94 @@ impl<E: Write + Drop> Report<E> {
         let _ = self.out.flush();
     }
 
+    /// Writes what is found, or adds it to what a program reads.
+    fn add<M: fmt::Display>(&mut self, finding: &Finding<'_, M>) -> Result<(), AllocError> {
+        match self.voice.form {
+            Form::Text => {
+                self.say(finding);
+                Ok(())
+            }
+            Form::Annotations => finding.write_annotation(&mut self.found),
+            Form::Json => {
+                let before = if self.found.is_empty() { "[\n" } else { ",\n" };
+                self.found.push_str(before)?;
+                finding.write_json(&mut self.found)
+            }
+        }
+    }
+
     /// Reports a file that failed, unless it failed because nobody reads standard output any more.
-    pub fn failed<'m>(&mut self, path: &'m str, fault: &'m Fault) {
-        if !fault.is_broken_pipe() {
-            self.say(&Failed {
+    pub fn failed<'m>(&mut self, path: &'m str, fault: &'m Fault) -> Result<(), AllocError> {
+        if fault.is_broken_pipe() {
+            return Ok(());
+        }
+        self.add(&Finding {
+            level: Level::Error,
+            rule: "failed",
+            path,
+            line: None,
+            message: fault,
+        })
+    }
+
+    /// Writes a line about a file or folder, if each file is named.
+    pub fn note(&mut self, path: &str, what: &'static str) {
+        if self.voice.is_verbose {
+            self.say(&Note {
                 path: Quoted(path),
-                fault,
+                what,
             });
         }
     }
 
-    /// Writes a line about a file or folder.
-    fn tell(&mut self, path: &str, what: &'static str) {
-        self.say(&Note {
-            path: Quoted(path),
-            what,
-        });
-    }
-
-    /// Writes a line about a file, if each file is named.
-    pub fn note(&mut self, path: &str, what: &'static str) {
-        if self.voice.is_verbose {
-            self.tell(path, what);
-        }
+    /// Reports a file of MkDocs.
+    pub fn site(&mut self, path: &str) {
+        self.note(path, SITE);
     }
 
     /// Warns of a folder that has no files to format.
-    pub fn found_nothing(&mut self, path: &str) {
-        self.tell(path, NOTHING);
+    pub fn found_nothing(&mut self, path: &str) -> Result<(), AllocError> {
+        self.add(&Finding {
+            level: Level::Warning,
+            rule: "no-files",
+            path,
+            line: None,
+            message: &NOTHING,
+        })
     }
 
-    /// Reports a file that was changed, or would be.
-    pub fn changed(&mut self, path: &str) {
-        let what = if self.is_dry {
-            "would be formatted"
-        } else {
-            "formatted"
-        };
-        self.note(path, what);
+    /// Reports a file that was changed; or that would be, from a line on, which only a program that reads this is told.
+    pub fn changed(&mut self, path: &str, line: usize) -> Result<(), AllocError> {
+        if !self.is_dry {
+            self.note(path, "formatted");
+            return Ok(());
+        }
+        self.note(path, WOULD);
+        if self.voice.is_for_people() {
+            return Ok(());
+        }
+        self.add(&Finding {
+            level: Level::Error,
+            rule: "format",
+            path,
+            line: Some(line),
+            message: &WOULD,
+        })
     }
 
     /// Warns of the blocks of a file that keep their lines.
-    pub fn left(&mut self, path: &str, left: &[Left]) {
+    pub fn left(&mut self, path: &str, left: &[Left]) -> Result<(), AllocError> {
         for Left { lines, reason } in left {
-            self.say(&Warning {
-                path: Quoted(path),
-                line: lines.0,
-                reason: *reason,
-            });
+            let message = why(*reason);
+            self.add(&Finding {
+                level: Level::Warning,
+                rule: "kept-lines",
+                path,
+                line: Some(lines.0),
+                message: &message,
+            })?;
         }
+        Ok(())
     }
 
     /// Shows how many of all texts are done.
@@ -263,5 +359,18 @@ impl<E: Write + Drop> Report<E> {
             totals: Totals::of(outcomes),
             is_dry: self.is_dry,
         });
+    }
+
+    /// All that was found, for a program that reads it.
+    pub fn into_found(self) -> Result<String, AllocError> {
+        let Report {
+            voice,
+            mut found,
+            ..
+        } = self;
+        if let Form::Json = voice.form {
+            found.push_str(if found.is_empty() { "[]\n" } else { "\n]\n" })?;
+        }
+        Ok(found)
     }
 }

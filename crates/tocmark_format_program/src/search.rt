@@ -55,6 +55,8 @@ pub struct Found {
     pub empty: Vec<String>,
     /// Files below folders that look as if an interrupted call left them behind.
     pub left_behind: Vec<Left>,
+    /// Files of MkDocs above those that are formatted.
+    pub site_files: Vec<String>,
 }
 
 /// The search for the texts of a call.
@@ -128,6 +130,7 @@ impl Search {
                 excluded: Vec::new(rt.alloc()),
                 empty: Vec::new(rt.alloc()),
                 left_behind: Vec::new(rt.alloc()),
+                site_files: Vec::new(rt.alloc()),
             },
         })
     }
@@ -232,16 +235,30 @@ impl Search {
         Ok(rules.mean(rt.alloc(), Entry::file(path))?)
     }
 
-    /// The settings of a file, or of a text without a name.
+    /// The settings in this folder of a file, or of a text without a name.
     fn settings(
-        &self,
+        &mut self,
         rt: &HostRuntime,
         configuration: usize,
+        folder: &str,
         path: Option<&str>,
     ) -> Result<Settings, Refused> {
-        let mut settings = self.configurations.settings(rt, configuration, path)?;
+        let mut settings = self
+            .configurations
+            .settings(rt, configuration, folder, path)?;
         let _ = set_all(&mut settings, &self.choice.values);
+        settings.lines = self.choice.lines;
         Ok(settings)
+    }
+
+    /// The settings of a file, by its path from the root on.
+    fn settings_of(
+        &mut self,
+        rt: &HostRuntime,
+        configuration: usize,
+        path: &str,
+    ) -> Result<Settings, Refused> {
+        self.settings(rt, configuration, folder_of(path), Some(path))
     }
 
     /// The file of this path and this whole path, unless it is there already.
@@ -253,7 +270,7 @@ impl Search {
         whole: String,
         place: Place,
     ) -> Result<Option<Target>, Refused> {
-        let settings = self.settings(rt, configuration, Some(whole.as_str()))?;
+        let settings = self.settings_of(rt, configuration, whole.as_str())?;
         let path = String::from_str(rt.alloc(), path)?;
         if !self.seen.insert(whole)? {
             return Ok(None);
@@ -330,7 +347,7 @@ impl Search {
         }
         let folder = whole_path(rt, ".")?;
         let configuration = self.nearest(rt, folder.as_str())?;
-        let settings = self.settings(rt, configuration, None)?;
+        let settings = self.settings(rt, configuration, folder.as_str(), None)?;
         self.found.targets.push(Target {
             path: String::from_str(rt.alloc(), "-")?,
             origin: Origin::Input,
@@ -348,7 +365,7 @@ impl Search {
         } else {
             Origin::Input
         };
-        let settings = self.settings(rt, configuration, Some(whole.as_str()))?;
+        let settings = self.settings_of(rt, configuration, whole.as_str())?;
         self.found.targets.push(Target {
             path: String::from_str(rt.alloc(), path)?,
             origin,
@@ -359,7 +376,14 @@ impl Search {
 
     /// What was found.
     pub fn end(self) -> Found {
-        let Search { found, .. } = self;
-        found
+        let Search {
+            found,
+            configurations,
+            ..
+        } = self;
+        Found {
+            site_files: configurations.site_files,
+            ..found
+        }
     }
 }

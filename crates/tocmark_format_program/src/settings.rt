@@ -6,8 +6,9 @@ ghost use Rattle.tocmark_format_program.specs.AlsoRead.{also_flags, asked_flags}
 use std::alloc::{AllocError, Global};
 use tocmark_command::syntax::{extended, syntax_named};
 use tocmark_event::event::ParserOptions;
+use tocmark_format::Lines;
 use tocmark_print::{
-    Bullet, Delimiter, Fence, HardBreak, ListIndent, Marker, Numbering, Rule, Style, Wrap,
+    Bullet, Delimiter, Fence, HardBreak, ListIndent, Marker, Numbering, Rule, Style, Tables, Wrap,
 };
 use tocmark_reader::{EXTENSIONS, GFM};
 
@@ -30,6 +31,8 @@ pub struct Settings {
     /// How it is to look.
     pub style: Style,
     pub also: AlsoRead,
+    /// Which of its lines are formatted; `None`: all.
+    pub lines: Option<Lines>,
 }
 
 /// An option of formatting.
@@ -38,6 +41,7 @@ pub(crate) enum Key {
     Syntax,
     Extension,
     AlsoRead,
+    Look,
     Bullet,
     Ordered,
     Numbering,
@@ -47,6 +51,7 @@ pub(crate) enum Key {
     FenceLength,
     HardBreak,
     Rule,
+    Tables,
     TableWidth,
     ListIndent,
     Wrap,
@@ -59,8 +64,8 @@ pub(crate) struct Setting {
     pub(crate) word: String,
 }
 
-/// The options by their names, with what each takes.
-pub(crate) const KEYS: [(&str, Key, &str); 15] = [
+/// The options by their names, with what each takes. Those that others change come first.
+pub(crate) const KEYS: [(&str, Key, &str); 17] = [
     ("syntax", Key::Syntax, "commonmark, gfm or all"),
     (
         "extension",
@@ -68,19 +73,36 @@ pub(crate) const KEYS: [(&str, Key, &str); 15] = [
         "a name that --help lists, or no- before one",
     ),
     ("also-read", Key::AlsoRead, "commonmark, gfm, all or none"),
+    ("look", Key::Look, "source or one"),
     ("bullet", Key::Bullet, "*, -, + or source"),
     ("ordered", Key::Ordered, "., ) or source"),
     ("numbering", Key::Numbering, "source, first or increment"),
-    ("emphasis", Key::Emphasis, "* or _"),
-    ("strong", Key::Strong, "** or __"),
+    ("emphasis", Key::Emphasis, "*, _ or source"),
+    ("strong", Key::Strong, "**, __ or source"),
     ("fence", Key::Fence, "`, ~ or source"),
     ("fence-length", Key::FenceLength, "a number from 3 to 1000"),
     ("hard-break", Key::HardBreak, "source, backslash or spaces"),
     ("rule", Key::Rule, "--- or source"),
+    ("tables", Key::Tables, "aligned or source"),
     ("table-width", Key::TableWidth, "a number from 1 to 1000"),
-    ("list-indent", Key::ListIndent, "marker or 4"),
-    ("wrap", Key::Wrap, "keep, no or a number from 1 to 1000"),
+    ("list-indent", Key::ListIndent, "marker, 4 or source"),
+    (
+        "wrap",
+        Key::Wrap,
+        "keep, no, sentence or a number from 1 to 1000",
+    ),
 ];
+
+/// What sets many options at once.
+#[derive(Clone, Copy)]
+enum Look {
+    /// All are as in the source.
+    Source,
+    /// All texts get the same bullets, numbers, markers and breaks.
+    One,
+}
+
+const LOOKS: [(&str, Look); 2] = [("source", Look::Source), ("one", Look::One)];
 
 const BULLETS: [(&str, Option<Bullet>); 4] = [
     ("*", Some(Bullet::Asterisk)),
@@ -101,9 +123,17 @@ const NUMBERINGS: [(&str, Numbering); 3] = [
     ("increment", Numbering::Increment),
 ];
 
-const EMPHASES: [(&str, Marker); 2] = [("*", Marker::Asterisk), ("_", Marker::Underscore)];
+const EMPHASES: [(&str, Option<Marker>); 3] = [
+    ("*", Some(Marker::Asterisk)),
+    ("_", Some(Marker::Underscore)),
+    ("source", None),
+];
 
-const STRONGS: [(&str, Marker); 2] = [("**", Marker::Asterisk), ("__", Marker::Underscore)];
+const STRONGS: [(&str, Option<Marker>); 3] = [
+    ("**", Some(Marker::Asterisk)),
+    ("__", Some(Marker::Underscore)),
+    ("source", None),
+];
 
 const FENCES: [(&str, Option<Fence>); 3] = [
     ("`", Some(Fence::Backtick)),
@@ -119,10 +149,52 @@ const HARD_BREAKS: [(&str, HardBreak); 3] = [
 
 const RULES: [(&str, Rule); 2] = [("---", Rule::Dashes), ("source", Rule::Source)];
 
-const LIST_INDENTS: [(&str, ListIndent); 2] = [
+const TABLES: [(&str, Tables); 2] = [("aligned", Tables::Aligned), ("source", Tables::Source)];
+
+const LIST_INDENTS: [(&str, ListIndent); 3] = [
     ("marker", ListIndent::Marker),
     ("4", ListIndent::Four),
+    ("source", ListIndent::Source),
 ];
+
+const WRAPS: [(&str, Wrap); 3] = [
+    ("keep", Wrap::Keep),
+    ("no", Wrap::No),
+    ("sentence", Wrap::Sentence),
+];
+
+impl Look {
+    /// A style with the options that it sets.
+    fn of(self, style: Style) -> Style {
+        match self {
+            Look::Source => Style {
+                bullet: None,
+                delimiter: None,
+                numbering: Numbering::Source,
+                emphasis: None,
+                strong: None,
+                fence: None,
+                hard_break: HardBreak::Source,
+                rule: Rule::Source,
+                tables: Tables::Source,
+                list_indent: ListIndent::Source,
+                ..style
+            },
+            Look::One => Style {
+                bullet: Some(Bullet::Hyphen),
+                delimiter: Some(Delimiter::Period),
+                numbering: Numbering::Increment,
+                emphasis: Some(Marker::Asterisk),
+                strong: Some(Marker::Asterisk),
+                fence: Some(Fence::Backtick),
+                hard_break: HardBreak::Backslash,
+                rule: Rule::Dashes,
+                tables: Tables::Aligned,
+                ..style
+            },
+        }
+    }
+}
 
 impl Settings {
     /// GFM with front matter, in the style that changes least.
@@ -131,6 +203,7 @@ impl Settings {
             flags: GFM,
             style: Style::new(),
             also: AlsoRead::NONE,
+            lines: None,
         }
     }
 }
@@ -183,7 +256,7 @@ fn push_asked(
 }
 
 /// The value that a name stands for.
-fn named<T: Copy>(table: &[(&str, T)], name: &str) -> Option<T> {
+pub(crate) fn named<T: Copy>(table: &[(&str, T)], name: &str) -> Option<T> {
     for (known, value) in table {
         if *known == name {
             return Some(*value);
@@ -233,15 +306,9 @@ fn width_of(word: &str) -> Option<usize> {
 
 /// Where lines break that a word says.
 fn wrap_of(word: &str) -> Option<Wrap> {
-    if word == "keep" {
-        return Some(Wrap::Keep);
-    }
-    if word == "no" {
-        return Some(Wrap::No);
-    }
     match width_of(word) {
         Some(width) => Some(Wrap::At(width)),
-        None => None,
+        None => named(&WRAPS, word),
     }
 }
 
@@ -257,7 +324,12 @@ pub(crate) fn set_all(settings: &mut Settings, values: &[Setting]) -> Result<(),
 
 /// Sets an option to what a word says. `false`: it takes no such word, and nothing is changed.
 pub(crate) fn set(settings: &mut Settings, key: Key, word: &str) -> bool {
-    let Settings { flags, style, also } = settings;
+    let Settings {
+        flags,
+        style,
+        also,
+        ..
+    } = settings;
     match key {
         Key::Syntax => put(flags, syntax_named(word)),
         Key::Extension => {
@@ -268,6 +340,10 @@ pub(crate) fn set(settings: &mut Settings, key: Key, word: &str) -> bool {
             let with = also.with(word);
             put(also, with)
         }
+        Key::Look => {
+            let look = named(&LOOKS, word).map(|look| look.of(*style));
+            put(style, look)
+        }
         Key::Bullet => put(&mut style.bullet, named(&BULLETS, word)),
         Key::Ordered => put(&mut style.delimiter, named(&DELIMITERS, word)),
         Key::Numbering => put(&mut style.numbering, named(&NUMBERINGS, word)),
@@ -277,6 +353,7 @@ pub(crate) fn set(settings: &mut Settings, key: Key, word: &str) -> bool {
         Key::FenceLength => put(&mut style.fence_length, length_of(word)),
         Key::HardBreak => put(&mut style.hard_break, named(&HARD_BREAKS, word)),
         Key::Rule => put(&mut style.rule, named(&RULES, word)),
+        Key::Tables => put(&mut style.tables, named(&TABLES, word)),
         Key::TableWidth => put(&mut style.table_width, width_of(word)),
         Key::ListIndent => put(&mut style.list_indent, named(&LIST_INDENTS, word)),
         Key::Wrap => put(&mut style.wrap, wrap_of(word)),

@@ -7,7 +7,7 @@ ghost use Rattle.tocmark_format_program.specs.Formats.{IsFormatted, IsOutputFaul
 
 use crate::decide::{Decision, decided};
 use crate::fault::Fault;
-use crate::outcome::{Outcome, outcome_of};
+use crate::outcome::{Outcome, first_change, outcome_of};
 use crate::settings::Settings;
 use crate::text::text_in;
 use std::alloc::Global;
@@ -24,6 +24,8 @@ pub const READER: ExtendedReader = ExtendedReader { names: Names::All };
 #[derive(Drop)]
 pub struct Passed {
     pub outcome: Outcome,
+    /// The first line that is changed, or would be; without one, 1.
+    pub line: usize,
     /// The blocks of it that keep their lines.
     pub left: Vec<Left>,
 }
@@ -44,8 +46,13 @@ fn formatted_text<R: PartReader>(
 {
     let decision = decided(alloc, text, reader, settings)?;
     let outcome = outcome_of(&decision);
+    let line = first_change(&decision);
     let Decision { old, new, left, .. } = decision;
-    let passed = Passed { outcome, left };
+    let passed = Passed {
+        outcome,
+        line,
+        left,
+    };
     match new {
         Some(new) => Ok((new, passed)),
         None => Ok((old, passed)),

@@ -1,0 +1,172 @@
+//! Some lines of a document: which blocks they touch, and what comes in the place of these.
+
+use std::alloc::{AllocError, Global};
+use tocmark_print::blocks::{Block, Blocks};
+use tocmark_print::{Ladder, Source, Step, Style};
+
+/// Lines of a text, counted from 1.
+#[derive(Clone, Copy)]
+pub struct Lines {
+    pub first: usize,
+    pub last: usize,
+}
+
+/// How a document is to look, and which of its lines are formatted.
+#[derive(Clone, Copy)]
+pub struct StyledLines {
+    pub style: Style,
+    /// Each block that one of these lines touches is formatted. `None`: all are.
+    pub lines: Option<Lines>,
+}
+
+/// Where a block begins: its line in the source, counted from 1, and its place in the printed text.
+#[derive(Clone, Copy)]
+struct Edge {
+    line: usize,
+    place: usize,
+}
+
+/// What comes in the place of some lines.
+#[derive(Clone, Copy)]
+pub(crate) struct Patch<'p> {
+    /// The first line that goes.
+    first: usize,
+    /// The next block below. It and the blank lines above it stay.
+    next: Option<usize>,
+    /// What comes there. Its lines end with line feeds.
+    text: &'p str,
+}
+
+impl Lines {
+    /// The lines on which a block stands.
+    pub(crate) fn of(source: &Source<'_>, block: Block) -> Lines {
+        let (from, to) = block.range;
+        let (first, last) = source.lines_between(from, to);
+        Lines { first, last }
+    }
+
+    /// Whether both have a line in common.
+    pub(crate) fn touch(self, others: Lines) -> bool {
+        self.first <= others.last && others.first <= self.last
+    }
+}
+
+/// Lets the trees of the blocks that these lines don't touch keep their lines.
+pub(crate) fn keep_others(
+    ladder: &mut Ladder,
+    source: &Source<'_>,
+    blocks: &Blocks,
+    lines: Lines,
+) -> Result<(), AllocError> {
+    let mut place = blocks.first();
+    for _ in 0..blocks.len() {
+        let Some(block) = blocks.take(&mut place) else {
+            break;
+        };
+        let Some(tree) = block.tree else {
+            continue;
+        };
+        for _ in ladder.steps.len()..=tree {
+            ladder.steps.push(Step::Styled)?;
+        }
+        if !lines.touch(Lines::of(source, block)) {
+            if let Some(step) = ladder.steps.get_mut(tree) {
+                *step = Step::Lines;
+            }
+        }
+    }
+    Ok(())
+}
+
+/// The place after so many lines of a text, or its end. A line ends with a line feed, a carriage return, or both.
+fn place_after(text: &str, count: usize) -> usize {
+    let bytes = text.as_bytes();
+    let mut lines = 0usize;
+    for (at, byte) in bytes.iter().enumerate() {
+        if lines == count {
+            return at;
+        }
+        let is_pair = *byte == b'\r' && bytes.get(at.saturating_add(1)) == Some(&b'\n');
+        if (*byte == b'\n' || *byte == b'\r') && !is_pair {
+            lines = lines.saturating_add(1);
+        }
+    }
+    bytes.len()
+}
+
+/// The text from a line on, and the blank lines above it.
+fn rest_from(text: &str, line: usize) -> &str {
+    let place = place_after(text, line.saturating_sub(1));
+    let above = text.get(..place).unwrap_or("");
+    let end = above.trim_end_matches(&[' ', '\t', '\r', '\n']).len();
+    let below = text.get(end..).unwrap_or("");
+    below.get(place_after(below, 1)..).unwrap_or("")
+}
+
+/// Where the first block begins that these lines touch, and the first one below those.
+fn edges(source: &Source<'_>, blocks: &Blocks, lines: Lines) -> (Option<Edge>, Option<Edge>) {
+    let mut first = None;
+    let mut place = blocks.first();
+    for number in 0..blocks.len() {
+        let Some(block) = blocks.take(&mut place) else {
+            break;
+        };
+        let its_lines = Lines::of(source, block);
+        let edge = Edge {
+            line: its_lines.first,
+            place: block.start,
+        };
+        let is_touched = lines.touch(its_lines);
+        if is_touched && number == 0 {
+            // what is above the first block goes with it
+            first = Some(Edge { line: 1, place: 0 });
+        } else if is_touched && first.is_none() {
+            first = Some(edge);
+        } else if !is_touched && first.is_some() {
+            return (first, Some(edge));
+        }
+    }
+    (first, None)
+}
+
+impl<'p> Patch<'p> {
+    /// What comes in the place of the blocks that these lines touch, by the printed document. `None`: they touch none.
+    pub(crate) fn of(
+        source: &Source<'_>,
+        blocks: &Blocks,
+        printed: &'p str,
+        lines: Lines,
+    ) -> Option<Patch<'p>> {
+        let (first, next) = edges(source, blocks, lines);
+        let Edge { line, place } = first?;
+        let mut text = printed.get(place..).unwrap_or("");
+        if let Some(next) = next {
+            let end = next.place.saturating_sub(place);
+            let whole = text.get(..end).unwrap_or("");
+            let lines = whole.trim_end_matches('\n').len();
+            text = whole.get(..lines.saturating_add(1)).unwrap_or(whole);
+        }
+        Some(Patch {
+            first: line,
+            next: next.map(|next| next.line),
+            text,
+        })
+    }
+
+    /// The text in which it has its place. Its lines end as is given.
+    pub(crate) fn put_in(
+        self,
+        alloc: Global,
+        text: &str,
+        ending: &str,
+    ) -> Result<String, AllocError> {
+        let front = place_after(text, self.first.saturating_sub(1));
+        let mut whole = String::from_str(alloc, text.get(..front).unwrap_or(""))?;
+        let lines = self.text.replace(alloc, "\n", ending)?;
+        whole.push_str(lines.as_str())?;
+        if let Some(next) = self.next {
+            whole.push_str(rest_from(text, next))?;
+        }
+        Ok(whole)
+    }
+}
