@@ -73,6 +73,17 @@ extern "C" {
         out_len: usize,
     ) -> isize;
 
+    fn tocmark_compare(
+        old_text: *const u8,
+        old_len: usize,
+        new_text: *const u8,
+        new_len: usize,
+        flags: u32,
+        allowed: u32,
+        out: *mut u8,
+        out_len: usize,
+    ) -> isize;
+
     fn tocmark_read_json(
         text: *const u8,
         text_len: usize,
@@ -150,6 +161,25 @@ pub fn format(text: &str, flags: u32, also: &[u32], style: &Style) -> Result<Str
                 also.as_ptr(),
                 also.len(),
                 style,
+                out.as_mut_ptr(),
+                out.len(),
+            )
+        }
+    })
+}
+
+/// The JSON of what two texts say differently.
+pub fn compare(old: &str, new: &str, flags: u32, allowed: u32) -> Result<String, isize> {
+    text_of(4096, |out| {
+        // A slice's pointer is never null, and `out` overlaps nothing that is read.
+        unsafe {
+            tocmark_compare(
+                old.as_ptr(),
+                old.len(),
+                new.as_ptr(),
+                new.len(),
+                flags,
+                allowed,
                 out.as_mut_ptr(),
                 out.len(),
             )

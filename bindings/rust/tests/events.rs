@@ -7,9 +7,10 @@ use pulldown_cmark::{
 use std::fmt;
 use tocmark::{
     calculate_code_block_token_count, cmark, cmark_with_options, cmark_with_source_range,
-    cmark_with_source_range_and_options, edit, format, read, rewrite, Bullet, Delimiter, Error,
-    Fault, FormatOptions, ListIndent, Marker, Options, OptionsError, Place, Progress, State, Wrap,
-    DEFAULT_CODE_BLOCK_TOKEN_COUNT, SUPPORTED_PARSER_OPTIONS,
+    cmark_with_source_range_and_options, compare, edit, format, read, rewrite, same, Allowed,
+    Bullet, Delimiter, Error, Fault, FormatOptions, Kind, ListIndent, Marker, Options,
+    OptionsError, Place, Progress, State, Wrap, DEFAULT_CODE_BLOCK_TOKEN_COUNT,
+    SUPPORTED_PARSER_OPTIONS,
 };
 
 type Events = Vec<Event<'static>>;
@@ -736,4 +737,85 @@ fn a_text_is_formatted() {
         format(table, ParserOptions::ENABLE_TABLES, &kept).unwrap(),
         table
     );
+}
+
+/// An `Allowed` with one more kind.
+type Allow = fn(&mut Allowed);
+
+#[test]
+fn each_kind_may_differ() {
+    let pairs: [(&str, &str, Allow); 13] = [
+        ("a b", "a\nb", |it| it.wrap = true),
+        ("a", "b", |it| it.text = true),
+        ("[a](/b)", "[a](/c)", |it| it.destinations = true),
+        ("[a](/b 'c')", "[a](/b 'd')", |it| it.titles = true),
+        ("[a][b]\n\n[b]: /c", "[a][B]\n\n[b]: /c", |it| {
+            it.labels = true
+        }),
+        ("    a\n", "```\na\n```\n", |it| it.fences = true),
+        ("# a", "## a", |it| it.levels = true),
+        ("1. a", "2. a", |it| it.numbers = true),
+        ("`a`", "`b`", |it| it.code = true),
+        ("```a\n```", "```b\n```", |it| it.info = true),
+        ("<a>\n", "<b>\n", |it| it.html = true),
+        ("---\na: b\n---\n", "---\na: c\n---\n", |it| {
+            it.front_matter = true
+        }),
+        ("[a]: /b", "", |it| it.definitions = true),
+    ];
+    let flags = SUPPORTED_PARSER_OPTIONS;
+    for (at, (old, new, allow)) in pairs.iter().enumerate() {
+        let mut allowed = Allowed::nothing();
+        assert!(!same(old, new, flags, allowed).unwrap(), "{old:?}");
+        allow(&mut allowed);
+        assert!(same(old, new, flags, allowed).unwrap(), "{old:?}");
+        // Each other kind but the words of texts.
+        let mut others = Allowed::nothing();
+        for (other, (_, _, allow)) in pairs.iter().enumerate() {
+            if other != at && other != 1 {
+                allow(&mut others);
+            }
+        }
+        assert!(!same(old, new, flags, others).unwrap(), "{old:?}");
+    }
+}
+
+#[test]
+fn what_no_page_shows_may_differ() {
+    for (old, new) in [
+        ("[a](/b)", "[a][]\n\n[a]: /b"),
+        ("    a\n", "```\na\n```\n"),
+        ("<https://a.b/>", "[https://a.b/](https://a.b/)"),
+    ] {
+        assert_eq!(compare(old, new, NONE, Allowed::default()).unwrap(), []);
+        assert!(!same(old, new, NONE, Allowed::nothing()).unwrap());
+    }
+}
+
+#[test]
+fn differences_have_places_and_words() {
+    let (old, new) = ("# a\n\nb \"c\"\n", "## a\n\nb \\\\d\n\n- e\n");
+    let found = compare(old, new, NONE, Allowed::default()).unwrap();
+    let kinds: Vec<_> = found.iter().map(|it| (it.kind, it.new)).collect();
+    assert_eq!(
+        kinds,
+        [
+            (Kind::Level, (1, 1)),
+            (Kind::Text, (3, 3)),
+            (Kind::Added, (5, 5))
+        ]
+    );
+    assert_eq!((found[1].old, found[1].what.as_str()), ((3, 3), "text"));
+    assert_eq!(
+        (found[1].was.as_str(), found[1].is.as_str()),
+        ("\"c\"", "\\d")
+    );
+    assert_eq!(found[1].to_string(), r#"the text ""c"" became "\d""#);
+    let found = compare("`a\t\u{1}é😀`", "`b`", NONE, Allowed::default()).unwrap();
+    assert_eq!(found[0].was, "a\t\u{1}é😀");
+    // A list takes more room than is there at first.
+    let old: String = (0..500).map(|at| format!("# a{at}\n")).collect();
+    let new = old.replace("# ", "## ");
+    let found = compare(&old, &new, NONE, Allowed::default()).unwrap();
+    assert_eq!(found.len(), 500);
 }
