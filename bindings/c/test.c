@@ -466,6 +466,11 @@ static void styles(void) {
   expect(formats("|ab|\n|-|\n", (struct tocmark_style){.size = size, .table_width = 1}, "| ab |\n| --- |\n"), 15, "tables");
   expect(formats("a\nb c\n", (struct tocmark_style){.size = size, .wrap = 3}, "a b\nc\n"), 6, "filled lines");
   expect(formats("a\nb\n", (struct tocmark_style){.size = size, .wrap = UINT32_MAX}, "a b\n"), 4, "joined lines");
+  expect(formats("A b. C\nd.\n", (struct tocmark_style){.size = size, .wrap = UINT32_MAX - 1}, "A b.\nC d.\n"), 10,
+         "a line for each sentence");
+  expect(formats("_a_ __b__\n", (struct tocmark_style){.size = size}, "_a_ __b__\n"), 10, "emphasis of the source");
+  expect(formats("|ab|\n|-|\n", (struct tocmark_style){.size = size, .tables = 1}, "| ab |\n| - |\n"), 13, "tables of the source");
+  expect(formats("-   a\n", (struct tocmark_style){.size = size, .list_indent = UINT32_MAX}, "-   a\n"), 6, "indents of the source");
   expect(formats("- a\n\n  b\n", (struct tocmark_style){.size = size, .list_indent = 4}, "-   a\n\n    b\n"), 13,
          "indented items");
   expect(formats("\xFF", style, ""), TOCMARK_NOT_UTF8, "text that is formatted");
@@ -480,7 +485,8 @@ static void styles(void) {
                                    {.size = size, .fence = '"'},
                                    {.size = size, .hard_break = 3},
                                    {.size = size, .rule = 2},
-                                   {.size = size, .list_indent = 2}};
+                                   {.size = size, .list_indent = 2},
+                                   {.size = size, .tables = 2}};
   for (size_t i = 0; i < sizeof wrongs / sizeof *wrongs; i++)
     expect(formats("a", wrongs[i], ""), TOCMARK_INVALID_STYLE, "a style");
 }

@@ -192,15 +192,18 @@ struct tocmark_style {
   uint32_t bullet;       /* '*', '-' or '+'; 0: as in the source */
   uint32_t delimiter;    /* after an item's number, '.' or ')'; 0: as in the source */
   uint32_t numbering;    /* 0: as in the source; 1: all numbers are the first; 2: they count up */
-  uint32_t emphasis;     /* '*' or '_'; 0: '*' */
-  uint32_t strong;       /* '*' or '_', which is written twice; 0: '*' */
+  uint32_t emphasis;     /* '*' or '_'; 0: as in the source */
+  uint32_t strong;       /* '*' or '_', which is written twice; 0: as in the source */
   uint32_t fence;        /* '`' or '~'; 0: as in the source */
   uint32_t fence_length; /* minimal length of a fence; below 3 means 3, above 1,000 means 1,000 */
   uint32_t hard_break;   /* a line break: 0: as in the source; 1: a backslash; 2: two spaces */
   uint32_t rule;         /* a thematic break: 0: ---; 1: as in the source */
   uint32_t table_width;  /* tables are padded up to this many columns, and wider ones if they are aligned; 0: up to 120 */
-  uint32_t wrap;         /* lines of paragraphs: 0: as in the source; UINT32_MAX: joined; else filled up to this many columns */
-  uint32_t list_indent;  /* columns before the content of items: 0: as many as the marker takes; 4: four */
+  uint32_t wrap;         /* lines of paragraphs: 0: as in the source; UINT32_MAX: joined; UINT32_MAX - 1: one for each sentence;
+                          * else filled up to this many columns */
+  uint32_t list_indent;  /* columns before the content of items: 0: as many as the marker takes; 4: four; UINT32_MAX: as in the
+                          * source */
+  uint32_t tables;       /* cells of tables: 0: aligned; 1: only where they are aligned in the source */
 };
 
 /* Formats Markdown. The result parses to the same events under these flags; texts side by side count as one. If `wrap` isn't 0,

@@ -441,6 +441,11 @@ class Formatting(unittest.TestCase):
         self.assertEqual(tocmark.format("1. a\n1. b", numbering="increment"), "1. a\n2. b\n")
         self.assertEqual(tocmark.format("*a* **b**", emphasis="_", strong="_"), "_a_ __b__\n")
         self.assertEqual(tocmark.format("~~~\na\n~~~", fence="`", fence_length=4), "````\na\n````\n")
+        self.assertEqual(tocmark.format("_a_ __b__"), "_a_ __b__\n")
+        self.assertEqual(tocmark.format("_a_ __b__", emphasis="*", strong="**"), "*a* **b**\n")
+        table = "| a | bbb |\n| - | --- |\n| c | d |\n"
+        self.assertEqual(tocmark.format(table), "| a   | bbb |\n| --- | --- |\n| c   | d   |\n")
+        self.assertEqual(tocmark.format(table, tables="source"), table)
 
     def test_names_and_values_of_the_command(self):
         text = "+  a\n\n1) **b**\n\n~~~\nc\n~~~\n"
@@ -477,6 +482,8 @@ class Formatting(unittest.TestCase):
             tocmark.format("a", hard_break="x")
         with self.assertRaisesRegex(ValueError, "'x' is none of ---, source"):
             tocmark.format("a", rule="x")
+        with self.assertRaisesRegex(ValueError, "'x' is none of aligned, source"):
+            tocmark.format("a", tables="x")
         with self.assertRaisesRegex(ValueError, "and not 0"):
             tocmark.format("a", table_width=0)
         with self.assertRaisesRegex(ValueError, "and not 2"):
@@ -485,9 +492,9 @@ class Formatting(unittest.TestCase):
             for part in ("table_width", "fence_length", "wrap"):
                 with self.assertRaisesRegex(ValueError, f"{part} must be .* 1000, and not {size!r}"):
                     tocmark.format("a", **{part: size})
-        with self.assertRaisesRegex(ValueError, "keep, no, or from 1 to 1000, and not 0"):
+        with self.assertRaisesRegex(ValueError, "keep, no, sentence, or from 1 to 1000, and not 0"):
             tocmark.format("a", wrap=0)
-        with self.assertRaisesRegex(ValueError, "marker or 4, and not 2"):
+        with self.assertRaisesRegex(ValueError, "marker, 4 or source, and not 2"):
             tocmark.format("a", list_indent=2)
         with self.assertRaisesRegex(TypeError, r"^format\(\) got an unexpected keyword argument 'bulet'$"):
             tocmark.format("a", bulet="-")
@@ -496,10 +503,13 @@ class Formatting(unittest.TestCase):
         self.assertEqual(tocmark.format("one\ntwo three\n", wrap=7), "one two\nthree\n")
         self.assertEqual(tocmark.format("one\ntwo\n", wrap="no"), "one two\n")
         self.assertEqual(tocmark.format("one\ntwo\n"), "one\ntwo\n")
+        self.assertEqual(tocmark.format("One two. Three\nfour.\n", wrap="sentence"), "One two.\nThree four.\n")
         self.assertEqual(tocmark.format("- a\n\n  b\n", list_indent=4), "-   a\n\n    b\n")
+        self.assertEqual(tocmark.format("-  a\n\n   b\n", list_indent="source"), "-  a\n\n   b\n")
 
     def test_the_same_is_read(self):
-        styles = ({}, {"bullet": "-", "ordered": ")", "numbering": "first", "emphasis": "_", "fence": "~", "hard_break": "backslash", "rule": "source", "table_width": 1})
+        styles = ({}, {"bullet": "-", "ordered": ")", "numbering": "first", "emphasis": "_", "fence": "~", "hard_break": "backslash", "rule": "source", "table_width": 1},
+                  {"tables": "source", "list_indent": "source", "emphasis": "*", "strong": "__"})
         for text in examples():
             for style in styles:
                 found = tocmark.format(text, syntax="all", **style)

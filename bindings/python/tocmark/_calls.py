@@ -334,14 +334,14 @@ def format(text: str, *, syntax: str = "gfm", extensions: Iterable[str] = (), al
     parse otherwise keeps its lines. Under the syntaxes in `also_read`, a name or several, the text has the same blocks as
     before. `also` is another name of `also_read`, and `delimiter` one of `ordered`.
 
-    `bullet` is "*", "-" or "+", `ordered` "." or ")", and `fence` "`" or "~"; "source", the default, or "" keeps what the source
-    has. `emphasis` is "*" (the default) or "_", `strong` "**" (the default) or "__", or one of these characters, and
-    `numbering` "source" (the default), "first" or "increment",
-    `hard_break` "source" (the default), "backslash" or "spaces", and `rule` "---" (the default) or "source". A fence has at
-    least `fence_length` characters, from 3 (the default) to 1,000. Tables are padded up to `table_width` columns, from 1 to
-    1,000 (the default is 120), and wider ones if they are aligned. `wrap` is "keep" (the default), "no", which joins the lines
-    of a paragraph, or a number of columns up to which lines are filled. `list_indent` is "marker" (the default), or 4 columns
-    before the content of items.
+    `bullet` is "*", "-" or "+", `ordered` "." or ")", `fence` "`" or "~", `emphasis` "*" or "_", and `strong` "**" or "__", or
+    one of these characters; "source", the default, or "" keeps what the source has. `numbering` is "source" (the default),
+    "first" or "increment", `hard_break` "source" (the default), "backslash" or "spaces", and `rule` "---" (the default) or
+    "source". A fence has at least `fence_length` characters, from 3 (the default) to 1,000. `tables` is "aligned" (the
+    default), or "source", which pads cells only where the source does. Tables are padded up to `table_width` columns, from 1
+    to 1,000 (the default is 120), and wider ones if they are aligned. `wrap` is "keep" (the default), "no", which joins the
+    lines of a paragraph, "sentence", which gives each sentence a line, or a number of columns up to which lines are filled.
+    `list_indent` is "marker" (the default), 4 columns before the content of items, or "source".
 
     >>> import tocmark
     >>> tocmark.format("Title\\n=====\\n*  a\\n*  b", bullet="-")

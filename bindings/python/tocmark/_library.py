@@ -52,7 +52,7 @@ class Style(ctypes.Structure):
 
     _fields_ = [(name, ctypes.c_uint32) for name in (
         "size", "bullet", "delimiter", "numbering", "emphasis", "strong", "fence", "fence_length", "hard_break", "rule",
-        "table_width", "wrap", "list_indent")]
+        "table_width", "wrap", "list_indent", "tables")]
 
 
 class Place(ctypes.Structure):

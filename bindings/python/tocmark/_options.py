@@ -27,8 +27,10 @@ _HARD_BREAKS = {"source": 0, "backslash": 1, "spaces": 2}
 _RULES = {"---": 0, "source": 1}
 #: What the options of marks take beside "", the default. `delimiter` is another name of `ordered`.
 _MARKS = {"bullet": ("*", "-", "+", "source"), "ordered": (".", ")", "source"), "delimiter": (".", ")", "source"),
-          "fence": ("`", "~", "source"), "emphasis": ("*", "_"), "strong": ("*", "_", "**", "__")}
-_WRAPS: dict[int | str, int] = {"keep": 0, "no": 2**32 - 1}
+          "fence": ("`", "~", "source"), "emphasis": ("*", "_", "source"), "strong": ("*", "_", "**", "__", "source")}
+_TABLES = {"aligned": 0, "source": 1}
+_WRAPS: dict[int | str, int] = {"keep": 0, "no": 2**32 - 1, "sentence": 2**32 - 2}
+_LIST_INDENTS: dict[int | str, int] = {"marker": 0, 4: 4, "source": 2**32 - 1}
 
 _TOKENS = {"code_block_token": ("`", "~"), "list_token": ("*", "-", "+"), "ordered_list_token": (".", ")"),
            "emphasis_token": ("*", "_"), "strong_token": ("**", "__")}
@@ -98,9 +100,10 @@ def _codes_of(marks: Mapping[str, str]) -> dict[str, int]:
 
 def style_of(*, bullet: str = "", ordered: str = "", delimiter: str = "", numbering: str = "source", emphasis: str = "",
              strong: str = "", fence: str = "", fence_length: int = 3, hard_break: str = "source", rule: str = "---",
-             table_width: int = 120, wrap: int | str = "keep", list_indent: int | str = "marker") -> _library.Style:
+             tables: str = "aligned", table_width: int = 120, wrap: int | str = "keep",
+             list_indent: int | str = "marker") -> _library.Style:
     """Returns a style, or raises `ValueError` if a name or a number can't be, and `InvalidStyle` if a character can't."""
-    for name, known in ((numbering, _NUMBERINGS), (hard_break, _HARD_BREAKS), (rule, _RULES)):
+    for name, known in ((numbering, _NUMBERINGS), (hard_break, _HARD_BREAKS), (rule, _RULES), (tables, _TABLES)):
         if name not in known:
             raise ValueError(f"{name!r} is none of {', '.join(known)}")
     if not _is_size(fence_length, 3):
@@ -108,12 +111,12 @@ def style_of(*, bullet: str = "", ordered: str = "", delimiter: str = "", number
     if not _is_size(table_width, 1):
         raise ValueError(f"table_width must be from 1 to 1000, and not {table_width!r}")
     if wrap not in _WRAPS and not _is_size(wrap, 1):
-        raise ValueError(f"wrap must be keep, no, or from 1 to 1000, and not {wrap!r}")
-    if list_indent not in ("marker", 4):
-        raise ValueError(f"list_indent must be marker or 4, and not {list_indent!r}")
+        raise ValueError(f"wrap must be keep, no, sentence, or from 1 to 1000, and not {wrap!r}")
+    if list_indent not in _LIST_INDENTS:
+        raise ValueError(f"list_indent must be marker, 4 or source, and not {list_indent!r}")
     codes = _codes_of({"bullet": bullet, "ordered": ordered, "delimiter": delimiter, "emphasis": emphasis, "strong": strong,
                        "fence": fence})
     return _library.Style(size=ctypes.sizeof(_library.Style), numbering=_NUMBERINGS[numbering],
                           hard_break=_HARD_BREAKS[hard_break], rule=_RULES[rule], fence_length=fence_length,
-                          table_width=table_width, wrap=_WRAPS.get(wrap, wrap),
-                          list_indent=0 if list_indent == "marker" else 4, **codes)
+                          tables=_TABLES[tables], table_width=table_width, wrap=_WRAPS.get(wrap, wrap),
+                          list_indent=_LIST_INDENTS[list_indent], **codes)

@@ -120,12 +120,13 @@ class Style(TypedDict, total=False):
     ordered: Literal["", "source", ".", ")"]
     delimiter: Literal["", "source", ".", ")"]
     numbering: Literal["source", "first", "increment"]
-    emphasis: Literal["", "*", "_"]
-    strong: Literal["", "*", "_", "**", "__"]
+    emphasis: Literal["", "source", "*", "_"]
+    strong: Literal["", "source", "*", "_", "**", "__"]
     fence: Literal["", "source", "`", "~"]
     fence_length: int
     hard_break: Literal["source", "backslash", "spaces"]
     rule: Literal["---", "source"]
+    tables: Literal["aligned", "source"]
     table_width: int
-    wrap: int | Literal["keep", "no"]
-    list_indent: Literal["marker", 4]
+    wrap: int | Literal["keep", "no", "sentence"]
+    list_indent: Literal["marker", 4, "source"]

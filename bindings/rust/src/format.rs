@@ -47,8 +47,10 @@ pub enum Numbering {
 /// The marker of emphasis; strong emphasis has it twice.
 #[derive(Clone, Copy, Debug, Default, PartialEq, Eq, Hash)]
 pub enum Marker {
-    /// `*`
+    /// That of the source.
     #[default]
+    Source,
+    /// `*`
     Asterisk,
     /// `_`
     Underscore,
@@ -88,6 +90,16 @@ pub enum Rule {
     Source,
 }
 
+/// The cells of tables.
+#[derive(Clone, Copy, Debug, Default, PartialEq, Eq, Hash)]
+pub enum Tables {
+    /// Padded to the width of their columns.
+    #[default]
+    Aligned,
+    /// Padded only where they are in the source.
+    Source,
+}
+
 /// The lines of paragraphs.
 #[derive(Clone, Copy, Debug, Default, PartialEq, Eq, Hash)]
 pub enum Wrap {
@@ -96,6 +108,8 @@ pub enum Wrap {
     Keep,
     /// One line for each paragraph.
     No,
+    /// One line for each sentence.
+    Sentence,
     /// Filled up to this many columns.
     Columns(NonZeroU16),
 }
@@ -108,6 +122,8 @@ pub enum ListIndent {
     Marker,
     /// Four columns after the marker's front.
     Four,
+    /// As in the source.
+    Source,
 }
 
 /// The style that [`format()`] gives. `FormatOptions { bullet: Bullet::Hyphen, ..Default::default() }` changes one field.
@@ -131,6 +147,8 @@ pub struct FormatOptions {
     pub hard_break: HardBreak,
     /// Thematic breaks.
     pub rule: Rule,
+    /// The cells of tables.
+    pub tables: Tables,
     /// Tables are padded up to this many columns, and wider ones if they are aligned; 0 means 120.
     pub table_width: u32,
     /// The lines of paragraphs.
@@ -153,6 +171,7 @@ impl Default for FormatOptions {
             fence_length: 3,
             hard_break: HardBreak::default(),
             rule: Rule::default(),
+            tables: Tables::default(),
             table_width: 120,
             wrap: Wrap::default(),
             list_indent: ListIndent::default(),
@@ -162,10 +181,11 @@ impl Default for FormatOptions {
 }
 
 fn code_of_marker(marker: Marker) -> u32 {
-    u32::from(match marker {
-        Marker::Asterisk => b'*',
-        Marker::Underscore => b'_',
-    })
+    match marker {
+        Marker::Source => 0,
+        Marker::Asterisk => u32::from(b'*'),
+        Marker::Underscore => u32::from(b'_'),
+    }
 }
 
 impl FormatOptions {
@@ -194,15 +214,18 @@ impl FormatOptions {
             fence_length: self.fence_length,
             hard_break: self.hard_break as u32,
             rule: self.rule as u32,
+            tables: self.tables as u32,
             table_width: self.table_width,
             wrap: match self.wrap {
                 Wrap::Keep => 0,
                 Wrap::No => u32::MAX,
+                Wrap::Sentence => u32::MAX - 1,
                 Wrap::Columns(columns) => u32::from(columns.get()),
             },
             list_indent: match self.list_indent {
                 ListIndent::Marker => 0,
                 ListIndent::Four => 4,
+                ListIndent::Source => u32::MAX,
             },
             ..Style::default()
         }

@@ -49,7 +49,7 @@ pub use count::{calculate_code_block_token_count, DEFAULT_CODE_BLOCK_TOKEN_COUNT
 pub use error::{Error, Fault, Place};
 pub use format::{
     format, Bullet, Delimiter, Fence, FormatOptions, HardBreak, ListIndent, Marker, Numbering,
-    Rule, Wrap,
+    Rule, Tables, Wrap,
 };
 pub use options::{Options, OptionsError, SUPPORTED_PARSER_OPTIONS};
 pub use state::{Progress, State};

@@ -39,6 +39,7 @@ pub struct Style {
     pub table_width: u32,
     pub wrap: u32,
     pub list_indent: u32,
+    pub tables: u32,
 }
 
 impl Default for Style {
@@ -57,6 +58,7 @@ impl Default for Style {
             table_width: 0,
             wrap: 0,
             list_indent: 0,
+            tables: 0,
         }
     }
 }

@@ -9,7 +9,7 @@ use tocmark::{
     calculate_code_block_token_count, cmark, cmark_with_options, cmark_with_source_range,
     cmark_with_source_range_and_options, compare, edit, format, read, rewrite, same, Allowed,
     Bullet, Delimiter, Error, Fault, FormatOptions, Kind, ListIndent, Marker, Options,
-    OptionsError, Place, Progress, State, Wrap, DEFAULT_CODE_BLOCK_TOKEN_COUNT,
+    OptionsError, Place, Progress, State, Tables, Wrap, DEFAULT_CODE_BLOCK_TOKEN_COUNT,
     SUPPORTED_PARSER_OPTIONS,
 };
 
@@ -711,22 +711,40 @@ fn events_that_are_read_are_written() {
 fn a_text_is_formatted() {
     let source = "Title\n=====\n*  a\n*  b _c_ __d__\n\n1.  e\n";
     let plain = format(source, NONE, &FormatOptions::default()).unwrap();
-    assert_eq!(plain, "# Title\n\n* a\n* b *c* **d**\n\n1. e\n");
+    assert_eq!(plain, "# Title\n\n* a\n* b _c_ __d__\n\n1. e\n");
     let options = FormatOptions {
         bullet: Bullet::Plus,
         ordered: Delimiter::Parenthesis,
-        emphasis: Marker::Underscore,
-        strong: Marker::Underscore,
+        emphasis: Marker::Asterisk,
+        strong: Marker::Asterisk,
         list_indent: ListIndent::Four,
         ..Default::default()
     };
     let styled = format(source, NONE, &options).unwrap();
-    assert_eq!(styled, "# Title\n\n+   a\n+   b _c_ __d__\n\n1)  e\n");
+    assert_eq!(styled, "# Title\n\n+   a\n+   b *c* **d**\n\n1)  e\n");
     let joined = FormatOptions {
         wrap: Wrap::No,
         ..Default::default()
     };
     assert_eq!(format("a\nb\n", NONE, &joined).unwrap(), "a b\n");
+    let own = FormatOptions {
+        tables: Tables::Source,
+        list_indent: ListIndent::Source,
+        ..Default::default()
+    };
+    let text = "*  a\n*  b\n\n| c | ddd |\n| - | --- |\n| e | f |\n";
+    assert_eq!(
+        format(text, ParserOptions::ENABLE_TABLES, &own).unwrap(),
+        text
+    );
+    let sentences = FormatOptions {
+        wrap: Wrap::Sentence,
+        ..Default::default()
+    };
+    assert_eq!(
+        format("One two. Three\nfour.\n", NONE, &sentences).unwrap(),
+        "One two.\nThree four.\n"
+    );
     // To CommonMark, a table directly below a text is part of that paragraph.
     let kept = FormatOptions {
         also_read: vec![NONE],

@@ -17,6 +17,8 @@ use Rattle.tocmark_print.specs.declared.style.Rule.TheVariants as rule
 use Rattle.tocmark_print.specs.declared.style.ListIndent.{ListIndent}
 use Rattle.tocmark_print.specs.declared.style.ListIndent.TheVariants as indent
 use Rattle.tocmark_print.specs.declared.style.Style.{Style}
+use Rattle.tocmark_print.specs.declared.style.Tables.{Tables}
+use Rattle.tocmark_print.specs.declared.style.Tables.TheVariants as tables
 use Rattle.tocmark_print.specs.declared.style.Wrap.{Wrap}
 use Rattle.tocmark_print.specs.declared.style.Wrap.TheVariants as wrap
 use Rattle.tocmark_c.specs.declared.style.TocmarkStyle.{TocmarkStyle}
@@ -44,15 +46,14 @@ fence_of n =
     else if n == 126 then Some (Some fence.Tilde)
     else None
 
--- each character stands for itself, and 0 for an asterisk
-abbrev pub marker_of : ℕ → Option Marker
+abbrev pub marker_of : ℕ → Option (Option Marker)
 marker_of n =
-    if n == 0 then Some marker.Asterisk
-    else if n == 42 then Some marker.Asterisk
-    else if n == 95 then Some marker.Underscore
+    if n == 0 then Some None
+    else if n == 42 then Some (Some marker.Asterisk)
+    else if n == 95 then Some (Some marker.Underscore)
     else None
 
--- numbers of numberings, of breaks and of rules
+-- numbers of numberings, of breaks, of rules and of tables
 abbrev pub numbering_of : ℕ → Option Numbering
 numbering_of n =
     if n == 0 then Some numbering.Source
@@ -70,26 +71,37 @@ hard_break_of n =
 abbrev pub rule_of : ℕ → Option Rule
 rule_of n = if n == 0 then Some rule.Dashes else if n == 1 then Some rule.Source else None
 
+abbrev pub tables_of : ℕ → Option Tables
+tables_of n = if n == 0 then Some tables.Aligned else if n == 1 then Some tables.Source else None
+
 -- so many columns, and 0 for 120
 abbrev pub table_width_of : ℕ → ℕ
 table_width_of n = if n == 0 then 120 else n
 
--- 0 for lines that stay, the largest number for one line, and else so many columns
+-- 0 for lines that stay, the largest number for one line, the one before it for a line a sentence, and else so many columns
 abbrev pub wrap_of : ℕ → Wrap
-wrap_of n = if n == 0 then wrap.Keep else if n == 4294967295 then wrap.No else wrap.At n
+wrap_of n =
+    if n == 0 then wrap.Keep
+    else if n == 4294967294 then wrap.Sentence
+    else if n == 4294967295 then wrap.No
+    else wrap.At n
 
--- so many columns, and 0 for those of the marker
+-- so many columns, 0 for those of the marker, and the largest number for those of the source
 abbrev pub list_indent_of : ℕ → Option ListIndent
-list_indent_of n = if n == 0 then Some indent.Marker else if n == 4 then Some indent.Four else None
+list_indent_of n =
+    if n == 0 then Some indent.Marker
+    else if n == 4 then Some indent.Four
+    else if n == 4294967295 then Some indent.Source
+    else None
 
 -- the size of the struct is known, and each number means something
 abbrev pub has_style : TocmarkStyle → Bool
 has_style s =
-    s.size == 52 && is_some (bullet_of s.bullet) && is_some (delimiter_of s.delimiter)
+    s.size == 56 && is_some (bullet_of s.bullet) && is_some (delimiter_of s.delimiter)
     && is_some (numbering_of s.numbering) && is_some (marker_of s.emphasis)
     && is_some (marker_of s.strong) && is_some (fence_of s.fence)
     && is_some (hard_break_of s.hard_break) && is_some (rule_of s.rule)
-    && is_some (list_indent_of s.list_indent)
+    && is_some (list_indent_of s.list_indent) && is_some (tables_of s.tables)
 
 -- a style is what a struct says
 abbrev pub IsStyleOf : TocmarkStyle → Style → Type 0
@@ -100,4 +112,4 @@ IsStyleOf s style =
     × (style.fence_length ≡ s.fence_length)
     × (hard_break_of s.hard_break ≡ Some style.hard_break) × (rule_of s.rule ≡ Some style.rule)
     × (style.table_width ≡ table_width_of s.table_width) × (style.wrap ≡ wrap_of s.wrap)
-    × (list_indent_of s.list_indent ≡ Some style.list_indent)
+    × (list_indent_of s.list_indent ≡ Some style.list_indent) × (tables_of s.tables ≡ Some style.tables)

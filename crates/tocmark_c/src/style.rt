@@ -1,14 +1,14 @@
 //! The style of a formatted document, in the form that C gives.
 
 ghost use Rattle.std.specs.Prelude.{◌≡◌, IfSome, is_some};
-ghost use Rattle.tocmark_c.specs.Style.{bullet_of, delimiter_of, fence_of, hard_break_of, has_style, list_indent_of, marker_of, numbering_of, rule_of, table_width_of, wrap_of, IsStyleOf};
+ghost use Rattle.tocmark_c.specs.Style.{bullet_of, delimiter_of, fence_of, hard_break_of, has_style, list_indent_of, marker_of, numbering_of, rule_of, table_width_of, tables_of, wrap_of, IsStyleOf};
 
 use tocmark_print::{
-    Bullet, Delimiter, Fence, HardBreak, ListIndent, Marker, Numbering, Rule, Style, Wrap,
+    Bullet, Delimiter, Fence, HardBreak, ListIndent, Marker, Numbering, Rule, Style, Tables, Wrap,
 };
 
 /// The size of `TocmarkStyle` in bytes.
-const SIZE: u32 = 52;
+const SIZE: u32 = 56;
 
 /// The style of a formatted document. A character is its own number, and 0 is the default.
 #[repr(C)]
@@ -22,9 +22,9 @@ pub struct TocmarkStyle {
     pub delimiter: u32,
     /// 0: each as in the source; 1: all are the first; 2: they count up.
     pub numbering: u32,
-    /// `*` or `_`; 0: `*`.
+    /// `*` or `_`; 0: each as in the source.
     pub emphasis: u32,
-    /// `*` or `_`, which is written twice; 0: `*`.
+    /// `*` or `_`, which is written twice; 0: each as in the source.
     pub strong: u32,
     /// A backtick or `~`; 0: each as in the source.
     pub fence: u32,
@@ -36,10 +36,13 @@ pub struct TocmarkStyle {
     pub rule: u32,
     /// Tables are padded up to this many columns; 0: up to 120.
     pub table_width: u32,
-    /// Lines of paragraphs are filled up to this many columns; 0: they stay; 4,294,967,295: each paragraph is one line.
+    /// Lines of paragraphs are filled up to this many columns; 0: they stay; 4,294,967,295: each paragraph is one line;
+    /// 4,294,967,294: each sentence is one.
     pub wrap: u32,
-    /// Columns that the content of items is indented by: 4; 0: as many as the marker takes.
+    /// Columns that the content of items is indented by: 4; 0: as many as the marker takes; 4,294,967,295: as in the source.
     pub list_indent: u32,
+    /// 0: tables are aligned; 1: those are that are aligned in the source.
+    pub tables: u32,
 }
 
 fn bullet_of(code: u32) -> Option<Option<Bullet>>
@@ -76,13 +79,13 @@ fn numbering_of(code: u32) -> Option<Numbering>
     }
 }
 
-fn marker_of(code: u32) -> Option<Marker>
+fn marker_of(code: u32) -> Option<Option<Marker>>
     ensures { result ≡ marker_of code }
 {
     match code {
-        0 => Some(Marker::Asterisk),
-        42 => Some(Marker::Asterisk),
-        95 => Some(Marker::Underscore),
+        0 => Some(None),
+        42 => Some(Some(Marker::Asterisk)),
+        95 => Some(Some(Marker::Underscore)),
         _ => None,
     }
 }
@@ -130,6 +133,7 @@ fn wrap_of(columns: u32) -> Wrap
 {
     match columns {
         0 => Wrap::Keep,
+        4_294_967_294 => Wrap::Sentence,
         4_294_967_295 => Wrap::No,
         _ => Wrap::At(columns as usize),
     }
@@ -141,6 +145,17 @@ fn list_indent_of(columns: u32) -> Option<ListIndent>
     match columns {
         0 => Some(ListIndent::Marker),
         4 => Some(ListIndent::Four),
+        4_294_967_295 => Some(ListIndent::Source),
+        _ => None,
+    }
+}
+
+fn tables_of(code: u32) -> Option<Tables>
+    ensures { result ≡ tables_of code }
+{
+    match code {
+        0 => Some(Tables::Aligned),
+        1 => Some(Tables::Source),
         _ => None,
     }
 }
@@ -163,6 +178,7 @@ pub fn style_of(style: &TocmarkStyle) -> Option<Style>
         fence_length: style.fence_length as usize,
         hard_break: hard_break_of(style.hard_break)?,
         rule: rule_of(style.rule)?,
+        tables: tables_of(style.tables)?,
         table_width: table_width_of(style.table_width),
         wrap: wrap_of(style.wrap),
         list_indent: list_indent_of(style.list_indent)?,

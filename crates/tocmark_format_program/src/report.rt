@@ -184,7 +184,9 @@ impl<M: fmt::Display> Finding<'_, M> {
             Level::Error => "error",
             Level::Warning => "warning",
         };
-        let path = Escaped(&self.path, Quoting::Property);
+        // GitHub shows an annotation if it knows the file by this name
+        let path = self.path.strip_prefix("./").unwrap_or(self.path);
+        let path = Escaped(&path, Quoting::Property);
         write!(out, "::{level} file={path}")?;
         if let Some(line) = self.line {
             write!(out, ",line={line}")?;
