@@ -66,6 +66,11 @@ impl Printer<'_> {
         if has_kind {
             self.page
                 .line(without_blanks(source.slice(content, line_end)))?;
+            let next = line_end.saturating_add(1);
+            if next < end && self.is_apart(source.line_end(next).saturating_add(1)) {
+                // with text directly below it, the line would be a kind to more programs
+                self.page.line("")?;
+            }
         }
         Ok(())
     }
@@ -95,6 +100,7 @@ impl Printer<'_> {
         }
         frame.is_tight = !part.is_loose(at);
         frame.is_close = part.is_loose_by_definitions(at);
+        frame.keeps_gaps = part.is_loose_by_gaps(at);
         self.page.open(frame)
     }
 
@@ -141,6 +147,26 @@ impl Printer<'_> {
         text.push(marker)
     }
 
+    /// How many columns stand before the marker of an item, which has so many in the source, and a number with so many digits:
+    /// as many as before the list's first one, unless the numbers end below one another.
+    fn indent(&mut self, own: usize, digits: usize) -> usize {
+        if self.look.is_literal {
+            return if self.page.owes_sign() { 0 } else { own };
+        }
+        if !matches!(self.look.list_indent, ListIndent::Source) {
+            return 0;
+        }
+        let end = own.saturating_add(digits);
+        match self.page.top().indent {
+            Some((_, first_end)) if digits > 0 && first_end == end => own,
+            Some((first, _)) => first,
+            None => {
+                self.page.top_mut().indent = Some((own, end));
+                own
+            }
+        }
+    }
+
     fn open_item(&mut self, range: (usize, usize)) -> Result<(), AllocError> {
         let (start, end) = range;
         let own = self.source.slice(start, end);
@@ -148,9 +174,8 @@ impl Printer<'_> {
         let behind = start.saturating_add(digits).saturating_add(1);
         let columns = self.item_columns(start, behind);
         let mut first = String::new(self.alloc);
-        if self.look.is_literal && !self.page.owes_sign() {
-            push_repeated(&mut first, ' ', columns.indent)?;
-        }
+        let indent = self.indent(columns.indent, digits);
+        push_repeated(&mut first, ' ', indent)?;
         self.push_marker(&mut first, own.get(..digits).unwrap_or(""))?;
         let pad = match self.look.list_indent {
             ListIndent::Source => columns.pad,
@@ -168,6 +193,7 @@ impl Printer<'_> {
             .saturating_add(columns.pad);
         frame.is_tight = self.page.top().is_tight;
         frame.is_close = self.page.top().is_close;
+        frame.keeps_gaps = self.page.top().keeps_gaps;
         self.page.open(frame)
     }
 

@@ -7,23 +7,24 @@ use crate::style::Wrap;
 use std::alloc::AllocError;
 
 /// What begins a line that another dialect takes for more than text.
-const LINE_OPENERS: [&str; 5] = [
+const LINE_OPENERS: [&str; 6] = [
     "!!!", // MkDocs: an admonition
     "???", // MkDocs: one that can be folded
     ":::", // Docusaurus, pandoc: a container, and its end
+    "///", // MkDocs: a block, and its end
     "{", // attributes of the block beside it; Jekyll, Hugo: a tag, a value, a shortcode
     "$$", // a formula
 ];
 
 /// What begins a block of another dialect, beside the lines above.
-const BLOCK_OPENERS: [&str; 8] = [
+const BLOCK_OPENERS: [&str; 9] = [
     "import ", // MDX: what the document imports and exports
     "export ", "=== \"", // MkDocs: a tab
     "--8<-- ", // MkDocs: an included file
     "|", // pandoc: lines that stay; kramdown: a table without a delimiter row
     "% ", // pandoc: a title
     "+--", // pandoc: a table
-    "+==",
+    "+==", "+++", // MyST: the end of a cell
 ];
 
 /// How many bytes beside the end of a list are looked at.
@@ -57,11 +58,21 @@ fn begins_definition(text: &str) -> bool {
     }
 }
 
+/// Whether a text begins with a line that is a target of MyST, as `(name)=`.
+fn begins_target(text: &str) -> bool {
+    let line = match text.split_once('\n') {
+        Some((line, _)) => line,
+        None => text,
+    };
+    line.trim_end_matches(&[' ', '\t']).ends_with(")=")
+}
+
 /// Whether a line that begins like this text is one of another dialect.
 pub(crate) fn begins_foreign_line(text: &str) -> bool {
     match text.as_bytes().first() {
         Some(b':') => begins_definition(text) || begins_with(text, &LINE_OPENERS),
-        Some(b'!' | b'?' | b'{' | b'$') => begins_with(text, &LINE_OPENERS),
+        Some(b'!' | b'?' | b'{' | b'$' | b'/') => begins_with(text, &LINE_OPENERS),
+        Some(b'(') => begins_target(text),
         Some(b'@' | b'\\') => begins_command(text),
         // an abbreviation of kramdown and MkDocs
         Some(b'*') => text.starts_with("*[") && text.contains("]:"),
@@ -175,6 +186,14 @@ fn is_marker_alone(line: &str) -> bool {
 /// Whether a text begins with the box of a task.
 fn begins_box(text: &str) -> bool {
     begins_with(text, &["[ ]", "[x]", "[X]"])
+}
+
+/// Whether the first line of a text is the box of a task alone. To GitHub it is text, if another line follows.
+fn begins_with_lone_box(text: &str) -> bool {
+    match text.split_once('\n') {
+        Some((line, _)) => line.trim_end_matches(&[' ', '\t']).len() == 3 && begins_box(line),
+        None => false,
+    }
 }
 
 /// Whether a line ends with a marker and the box of a task alone behind it.
@@ -397,7 +416,7 @@ impl Printer<'_> {
     /// task alone or with the definition of a link. To GitHub the box and that line are text, and without a blank line the
     /// definition makes its list loose. A quote is no such text. Of both lines it looks at a few bytes, because many lists may
     /// end in one line.
-    fn ends_openly(&self, end: usize) -> bool {
+    fn ends_openly(&self, start: usize, end: usize) -> bool {
         let source = self.source;
         let front = source.line_start(end.saturating_sub(1));
         let behind = source.text.floor_char_boundary(front.saturating_add(NEAR));
@@ -409,11 +428,32 @@ impl Printer<'_> {
             .iter()
             .take_while(|byte| **byte != b'\n')
             .any(|byte| !matches!(*byte, b' ' | b'\t' | b'>'));
-        if !has_text || !(ends_with_box(last) || begins_link_definition(first)) {
+        if !has_text {
+            return ends_with_box(last) && self.goes_on_below(start, next);
+        }
+        if !(ends_with_box(last) || begins_link_definition(first)) {
             return false;
         }
         let place = self.page.stripped(source, next);
         place.is_met && source.byte(source.past_blanks(place.at)) != b'>'
+    }
+
+    /// Whether the text that follows a blank line, in the same container and a few bytes, is deeper indented than the block that
+    /// begins at a place.
+    fn goes_on_below(&self, start: usize, blank: usize) -> bool {
+        let source = self.source;
+        let near = source.bytes(blank, blank.saturating_add(NEAR));
+        let gap = near
+            .iter()
+            .take_while(|byte| matches!(**byte, b' ' | b'\t' | b'>' | b'\n'))
+            .count();
+        if gap == near.len() {
+            return false;
+        }
+        let place = self
+            .page
+            .stripped(source, source.line_start(blank.saturating_add(gap)));
+        place.is_met && self.indent_behind(place) > self.column_in_container(start)
     }
 
     /// Whether a list has a marker alone on its line, and a task in a list below it. On one line GitHub shows no box.
@@ -429,6 +469,17 @@ impl Printer<'_> {
             }
         }
         false
+    }
+
+    /// Whether a quote begins with a callout of MkDocs, as `>? a`, or with text that is hidden, as `>! a`: no blank stands
+    /// between its sign and the mark. `>![a](b)` is an image.
+    fn begins_marked_quote(&self, start: usize) -> bool {
+        let source = self.source;
+        match source.byte(start.saturating_add(1)) {
+            b'?' => true,
+            b'!' => source.byte(start.saturating_add(2)) != b'[',
+            _ => false,
+        }
     }
 
     /// Whether the first line of a block is a fence of quotes, as GitLab reads it.
@@ -448,20 +499,24 @@ impl Printer<'_> {
                     || self.has_foreign_line(start, end, false)
                     || self.has_table(start, end)
                     || self.has_keys(start, end)
+                    || (self.page.top().kind == Kind::Item && begins_with_lone_box(text))
             }
             Kind::Table => {
-                self.has_foreign_line(start, end, false)
+                (self.foreign.is_some() && !self.is_apart(start))
+                    || self.has_foreign_line(start, end, false)
                     || self.has_tag_row(start, end)
                     || self.is_read_otherwise(start, end)
             }
             Kind::List | Kind::Quote if self.page.depth() == 0 => {
-                self.begins_fenced_quote(start)
+                (kind == Kind::Quote && self.begins_marked_quote(start))
+                    || self.begins_fenced_quote(start)
                     || self.has_foreign_line(start, end, true)
                     || self.has_task_below_marker(start, end)
-                    || self.ends_openly(end)
+                    || self.ends_openly(start, end)
             }
-            Kind::List => self.ends_openly(end),
-            Kind::Footnote => self.page.depth() == 0 && self.ends_openly(end),
+            Kind::List => self.ends_openly(start, end),
+            Kind::Quote => self.begins_marked_quote(start),
+            Kind::Footnote => self.page.depth() == 0 && self.ends_openly(start, end),
             _ => false,
         }
     }

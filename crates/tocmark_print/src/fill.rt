@@ -1,9 +1,10 @@
 //! Fills lines with words.
 
 use crate::dialect::begins_foreign_line;
-use crate::hazard::is_hazard;
+use crate::hazard::{begins_inline_tag, is_hazard};
 use crate::lines::Lines;
 use crate::piece::{Piece, Pieces, ends_with_backslash};
+use crate::sentence::ends_sentence;
 use crate::width::width;
 use std::alloc::{AllocError, Global};
 
@@ -13,6 +14,8 @@ pub(crate) struct Measure {
     pub(crate) first: usize,
     pub(crate) others: usize,
     pub(crate) limit: usize,
+    /// Whether each sentence begins a line.
+    pub(crate) breaks_sentences: bool,
 }
 
 /// What stands before a word.
@@ -23,6 +26,8 @@ enum Before {
     Blank,
     /// A soft break of the source.
     Break,
+    /// A soft break before a line that could begin a block in the source, but that it is indented or lazy.
+    DeepBreak,
 }
 
 /// Lines that are being filled.
@@ -113,19 +118,34 @@ fn brackets_end(before: &str, word: &str, text: &str, at: usize) -> usize {
 }
 
 impl Filling<'_> {
+    /// Whether the word is a tag that can begin a line: one within lines, or one that begins a line in the source.
+    fn is_free_tag(&self) -> bool {
+        let word = self.word.as_str();
+        word.starts_with('<') && (self.before == Before::Break || begins_inline_tag(word))
+    }
+
     /// Whether the word can't begin a line: there it could begin a block, or the line before it would end with a backslash.
     fn is_bound(&self) -> bool {
-        is_hazard(self.word.as_str())
+        (is_hazard(self.word.as_str()) && !self.is_free_tag())
             || begins_foreign_line(self.word.as_str())
             || ends_with_backslash(self.lines.current())
     }
 
-    /// Whether the word begins a line: it has no room on this one, or a break stays before it.
+    /// Whether a break of the source stays before the word.
+    fn keeps_break(&self) -> bool {
+        matches!(self.before, Before::Break | Before::DeepBreak)
+            && are_unspaced(self.lines.current(), self.word.as_str())
+    }
+
+    /// Whether the word begins a sentence, and sentences begin lines.
+    fn begins_sentence(&self) -> bool {
+        self.measure.breaks_sentences && ends_sentence(self.lines.current(), self.word.as_str())
+    }
+
+    /// Whether the word begins a line: it has no room on this one, a break stays before it, or it begins a sentence.
     fn begins_line(&self, columns: usize) -> bool {
         let is_full = self.column.saturating_add(1).saturating_add(columns) > self.measure.limit;
-        let stays = self.before == Before::Break
-            && are_unspaced(self.lines.current(), self.word.as_str());
-        (is_full || stays) && !self.is_bound()
+        (is_full || self.keeps_break() || self.begins_sentence()) && !self.is_bound()
     }
 
     fn end_line(&mut self) -> Result<(), AllocError> {
@@ -218,6 +238,7 @@ impl Filling<'_> {
             Piece::Solid(_) => self.word.push_str(self.text.get(from..end).unwrap_or("")),
             Piece::Soft { is_deep } if self.is_in_tag => self.break_line("", is_deep),
             Piece::Soft { .. } if from < self.brackets_end => self.word.push(' '),
+            Piece::Soft { is_deep: true } => self.end_word(Before::DeepBreak),
             Piece::Soft { .. } => self.end_word(Before::Break),
             Piece::Feed { is_deep } => self.break_line("", is_deep),
             Piece::Hard { is_deep, is_blanks } => self.break_line(

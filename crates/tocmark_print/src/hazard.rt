@@ -64,6 +64,29 @@ fn is_address(word: &str) -> bool {
     }
 }
 
+/// Tags that stand within lines.
+const INLINE_TAGS: [&str; 25] = [
+    "a", "abbr", "b", "bdi", "bdo", "br", "cite", "code", "del", "em", "font", "i", "img", "ins",
+    "kbd", "mark", "q", "s", "samp", "small", "span", "strong", "sub", "sup", "u",
+];
+
+/// Whether a text begins with a tag that stands within lines, with more behind it: alone on its line a tag could begin a
+/// block.
+pub(crate) fn begins_inline_tag(text: &str) -> bool {
+    let Some((tag, behind)) = text.split_once('>') else {
+        return false;
+    };
+    let Some(inner) = tag.strip_prefix('<') else {
+        return false;
+    };
+    let inner = inner.strip_prefix('/').unwrap_or(inner);
+    let name = match inner.split_once(&[' ', '\t', '\n', '/']) {
+        Some((name, _)) => name,
+        None => inner,
+    };
+    !behind.is_empty() && INLINE_TAGS.iter().any(|tag| name.eq_ignore_ascii_case(tag))
+}
+
 /// Whether a line that begins like this text could begin a block, or end a paragraph.
 pub(crate) fn is_hazard(text: &str) -> bool {
     let word = first_word(text);

@@ -22,11 +22,16 @@ pub(crate) struct Context<'d, 'p, 'g> {
     pub(crate) look: Look,
 }
 
-/// Emphasis that is open: its sign, whether the source has another one, and whether it is strong.
+/// Emphasis that is open.
 #[derive(Clone, Copy)]
 struct Open {
+    /// Its sign.
     byte: u8,
+    /// Whether the source has another one.
     is_changed: bool,
+    /// Whether what is in it keeps its signs: it, or emphasis round it, keeps a sign that the look has otherwise. If a sign
+    /// in it changed, the next time that one could change, too.
+    is_held: bool,
 }
 
 /// A cursor over the events of a leaf, and their pieces.
@@ -284,14 +289,18 @@ impl<'d, 'p, 'g> Inlines<'d, 'p, 'g> {
         }
     }
 
-    /// Whether a hard break at a place of the source is printed as blanks.
+    /// Whether a hard break at a place of the source is printed as blanks. Behind a bare address it stays as it is: programs
+    /// that link the address take a backslash for a part of it.
     fn is_blanks(&self, start: usize) -> bool {
         let own = self.context.source.byte(start) != b'\\';
         let is_behind_blank = self.pieces.last_text().ends_with(' ');
+        if is_behind_blank || self.is_in_address(self.range.0, self.at) {
+            return own;
+        }
         match self.context.look.hard_break {
-            HardBreak::Backslash if !is_behind_blank => false,
-            HardBreak::Blanks if !is_behind_blank => true,
-            _ => own,
+            HardBreak::Backslash => false,
+            HardBreak::Blanks => true,
+            HardBreak::Source => own,
         }
     }
 
@@ -398,33 +407,37 @@ impl<'d, 'p, 'g> Inlines<'d, 'p, 'g> {
         )
     }
 
-    /// The sign of emphasis: that of the look, if the source has it neither in nor beside the emphasis, and if it can
-    /// stand there. In a leaf that may hold formulas it is the source's, because a formula may begin or end in the
-    /// emphasis. So it is in double brackets.
-    fn sign(&mut self, range: (usize, usize), is_strong: bool) -> u8 {
-        let own = self.context.source.byte(range.0);
+    /// The sign that the look has for emphasis, if it has one.
+    fn wanted_sign(&self, is_strong: bool) -> Option<u8> {
         let look = self.context.look;
-        let wanted = if is_strong {
+        if is_strong {
             look.strong
         } else {
             look.emphasis
-        };
-        let Some(sign) = wanted else {
-            return own;
-        };
-        let fits = sign != own && self.labels == 0 && self.fits(sign, range);
-        if fits && !self.is_bracketed(range) && !self.may_hold_formulas() {
-            sign
-        } else {
-            own
         }
+    }
+
+    /// Whether emphasis may have another sign than in the source, which has it neither in nor beside the emphasis. It may not
+    /// in a leaf that may hold formulas, because one may begin or end in the emphasis, nor in double brackets.
+    fn may_have_sign(&mut self, sign: u8, range: (usize, usize)) -> bool {
+        self.labels == 0
+            && self.fits(sign, range)
+            && !self.is_bracketed(range)
+            && !self.may_hold_formulas()
     }
 
     fn open_emphasis(&mut self, range: (usize, usize), is_strong: bool) -> Result<(), AllocError> {
         self.add_gap(range.0)?;
-        let byte = self.sign(range, is_strong);
-        let is_changed = byte != self.context.source.byte(range.0);
-        self.open.push(Open { byte, is_changed })?;
+        let own = self.context.source.byte(range.0);
+        let wanted = self.wanted_sign(is_strong).unwrap_or(own);
+        let is_in_held = self.open.last().is_some_and(|open| open.is_held);
+        let is_changed = !is_in_held && wanted != own && self.may_have_sign(wanted, range);
+        let byte = if is_changed { wanted } else { own };
+        self.open.push(Open {
+            byte,
+            is_changed,
+            is_held: is_in_held || byte != wanted,
+        })?;
         self.at = range.0.saturating_add(if is_strong { 2 } else { 1 });
         self.pieces.add_solid(sign_text(byte, is_strong))
     }

@@ -87,6 +87,30 @@ fn least_fence(text: &str, sign: u8) -> usize {
     }
 }
 
+/// Whether a text has a tag of a text that is shown with its line breaks, or closes one.
+fn has_preformatted(text: &str) -> bool {
+    for inner in text.split('<').skip(1) {
+        let name = inner.strip_prefix('/').unwrap_or(inner);
+        for tag in ["pre", "textarea"] {
+            let front = name.get(..tag.len()).unwrap_or("");
+            let behind = name.as_bytes().get(tag.len()).copied();
+            if front.eq_ignore_ascii_case(tag)
+                && !behind.is_some_and(|byte| byte.is_ascii_alphanumeric())
+            {
+                return true;
+            }
+        }
+    }
+    false
+}
+
+/// Whether the breaks of a paragraph's lines mean something to other programs: in a text that is shown as it stands; or in one
+/// behind a box, to `cmark-gfm`, which checks the box if `[x]` stands anywhere on its line.
+fn has_meant_breaks(text: &str) -> bool {
+    let is_open_box = text.starts_with("[ ]");
+    has_preformatted(text) || (is_open_box && (text.contains("[x]") || text.contains("[X]")))
+}
+
 impl<'d> Printer<'d> {
     /// The pieces of events, whose text starts here in the source; and the place in the source behind them. Their room comes
     /// from the printer, which gets it back by `keep_room`.
@@ -117,13 +141,14 @@ impl<'d> Printer<'d> {
         self.room = pieces;
     }
 
-    /// The lines of a paragraph that are filled up to a limit.
+    /// The lines of a paragraph that are filled up to a limit, or end with sentences.
     fn filled_lines(&self, pieces: &Pieces, limit: usize) -> Result<Lines, AllocError> {
         let (first, others) = self.page.prefix_columns();
         let measure = Measure {
             first,
             others,
             limit,
+            breaks_sentences: self.look.wrap == Wrap::Sentence,
         };
         filled(self.alloc, pieces, measure)
     }
@@ -205,9 +230,15 @@ impl<'d> Printer<'d> {
             return self.page.line(text);
         }
         self.keep_lazy_inlines(part, events);
+        let wrap = self.look.wrap;
+        let (_, end) = part.range(events.1.saturating_sub(1));
+        if wrap != Wrap::Keep && has_meant_breaks(self.source.slice(start, end)) {
+            self.look.wrap = Wrap::Keep;
+        }
         let (pieces, _) = self.pieces_of(part, events, start)?;
         let printed = self.print_pieces(&pieces);
         self.keep_room(pieces);
+        self.look.wrap = wrap;
         printed
     }
 
@@ -423,7 +454,9 @@ impl<'d> Printer<'d> {
         } else {
             None
         };
-        let no_dashes = (top.is_tight && top.last.is_some()) || self.page.text.is_empty();
+        let is_below = top.last.is_some()
+            && (top.is_tight || (top.keeps_gaps && !self.is_apart(range.0)));
+        let no_dashes = is_below || self.page.text.is_empty();
         for rule in [own, "***", "___"] {
             let byte = rule.as_bytes().first().copied();
             if byte != sign && !(no_dashes && byte == Some(b'-')) {

@@ -30,6 +30,7 @@ mod part;
 mod piece;
 mod printer;
 pub mod printing;
+mod sentence;
 pub mod source;
 mod spans;
 mod style;

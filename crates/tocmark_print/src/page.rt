@@ -61,6 +61,8 @@ pub(crate) struct Frame {
     pub(crate) is_tight: bool,
     /// Whether blank lines stand only beside definitions of links, in a list and in its items.
     pub(crate) is_close: bool,
+    /// Whether blank lines stand only where the source has them: in a list that has some, and in its items.
+    pub(crate) keeps_gaps: bool,
     /// Whether its first line is printed.
     pub(crate) is_used: bool,
     /// The last block in it.
@@ -71,6 +73,8 @@ pub(crate) struct Frame {
     pub(crate) marker: u8,
     /// Of a list with numbers, that of its next item.
     pub(crate) number: Option<u64>,
+    /// Of a list, how many columns its first item has before its marker in the source, and where that marker ends.
+    pub(crate) indent: Option<(usize, usize)>,
 }
 
 impl Frame {
@@ -87,11 +91,13 @@ impl Frame {
             at: content,
             is_tight: false,
             is_close: false,
+            keeps_gaps: false,
             is_used: false,
             last: None,
             last_marker: 0,
             marker: 0,
             number: None,
+            indent: None,
         }
     }
 

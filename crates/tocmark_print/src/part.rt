@@ -578,6 +578,12 @@ impl Part {
             .is_some_and(|one| one.spread == Spread::Loose && !one.has_gap)
     }
 
+    /// Whether a blank line of the source makes a list loose.
+    pub(crate) fn is_loose_by_gaps(&self, list: usize) -> bool {
+        self.list(list)
+            .is_some_and(|one| one.spread == Spread::Loose && one.has_gap)
+    }
+
     /// Whether a byte, `*` or `_`, stands in a stretch of the source.
     pub(crate) fn has_between(&self, byte: u8, from: usize, to: usize) -> bool {
         let places = if byte == b'*' {

@@ -76,7 +76,8 @@ impl<'d> Printer<'d> {
             return Ok(());
         };
         let is_beside = last == Kind::Definitions || kind == Kind::Definitions;
-        if top.is_tight || (top.is_close && !is_beside) {
+        let is_joined = top.is_close || (top.keeps_gaps && !is_apart);
+        if top.is_tight || (is_joined && !is_beside) {
             if last == Kind::Quote && matches!(kind, Kind::Paragraph | Kind::Foreign) {
                 // else the text would go on with the quote's paragraph
                 return self.page.line(">");
@@ -151,6 +152,14 @@ impl<'d> Printer<'d> {
         self.begin(Kind::Definitions, !is_below_foreign, (None, (from, to)))
     }
 
+    /// Whether a blank line of the source stands before the line of a place, or nothing.
+    pub(crate) fn is_apart(&self, place: usize) -> bool {
+        let source = self.source;
+        let base = source.line_start(place);
+        let before = source.slice(source.line_start(base.saturating_sub(1)), base);
+        before.trim_matches(&[' ', '\t', '>', '\n']).is_empty()
+    }
+
     /// Begins a block of events behind the definitions that stand before it.
     pub(crate) fn begin_events(
         &mut self,
@@ -158,10 +167,7 @@ impl<'d> Printer<'d> {
         start: usize,
         end: usize,
     ) -> Result<(), AllocError> {
-        let source = self.source;
-        let base = source.line_start(start);
-        let before = source.slice(source.line_start(base.saturating_sub(1)), base);
-        let is_apart = before.trim_matches(&[' ', '\t', '>', '\n']).is_empty();
+        let is_apart = self.is_apart(start);
         self.print_gap(start)?;
         let tree = self.trees.checked_sub(1);
         self.begin(kind, is_apart, (tree, (start, end)))
@@ -269,7 +275,7 @@ impl<'d> Printer<'d> {
         let (start, end) = part.range(at);
         let behind = part.end(at).saturating_add(1);
         if kind == Kind::Item {
-            self.separate(kind, true)?;
+            self.separate(kind, self.is_apart(start))?;
             // what stands in another item isn't above
             self.foreign = None;
         } else if self.is_foreign(kind, start, end) {

@@ -3,7 +3,8 @@
 use crate::part::{Mark, Part};
 use crate::piece::push_repeated;
 use crate::printer::Printer;
-use crate::source::{is_blank, without_blanks};
+use crate::source::{is_blank, without_blanks, without_end_blanks};
+use crate::style::Tables;
 use crate::width::width;
 use std::alloc::{AllocError, Global};
 use tocmark_event::event::{Alignment, TagEnd};
@@ -85,8 +86,18 @@ fn cell_end(row: &str) -> usize {
     row.len()
 }
 
-/// Whether the bars of two rows stand in the same columns.
-fn have_same_bars(first: &str, second: &str) -> bool {
+/// How the bars of two rows stand to one another.
+#[derive(Clone, Copy, PartialEq, Eq)]
+enum Bars {
+    /// Some don't stand in the same columns.
+    Apart,
+    /// Only those differ that close the rows, or there are none that do.
+    Ragged,
+    Same,
+}
+
+/// How the bars of two rows stand to one another.
+fn bars_of(first: &str, second: &str) -> Bars {
     let mut rests = (first, second);
     for _ in 0..=first.len() {
         let (one, two) = rests;
@@ -95,20 +106,19 @@ fn have_same_bars(first: &str, second: &str) -> bool {
             one.get(..ends.0).unwrap_or(""),
             two.get(..ends.1).unwrap_or(""),
         );
-        if width(cells.0) != width(cells.1) {
-            return false;
-        }
+        let are_same = width(cells.0) == width(cells.1);
         let behind = (
             one.get(ends.0.saturating_add(1)..),
             two.get(ends.1.saturating_add(1)..),
         );
         rests = match behind {
-            (Some(one), Some(two)) => (one, two),
-            (None, None) => return true,
-            _ => return false,
+            (Some(""), Some("")) => return if are_same { Bars::Same } else { Bars::Ragged },
+            (Some(one), Some(two)) if are_same => (one, two),
+            (None, None) => return Bars::Ragged,
+            _ => return Bars::Apart,
         };
     }
-    true
+    Bars::Same
 }
 
 /// Whether a row with columns of these widths is wider than this.
@@ -227,7 +237,8 @@ impl Printer<'_> {
         source.byte(text) == b'-' && is_blank(source.byte(text.saturating_add(1)))
     }
 
-    /// Whether a cell of the delimiter row is more than dashes with a colon at an end. To `cmark-gfm` that is no such row.
+    /// Whether a cell of the delimiter row is more or less than dashes with a colon at an end. To `cmark-gfm` that is no such
+    /// row.
     fn has_odd_dashes(&self, start: usize) -> bool {
         let source = self.source;
         let row = source.line(source.line_of(start).saturating_add(1));
@@ -235,7 +246,8 @@ impl Printer<'_> {
             let cell = without_blanks(cell);
             let behind = cell.strip_prefix(':').unwrap_or(cell);
             let dashes = behind.strip_suffix(':').unwrap_or(behind);
-            if !dashes.trim_start_matches('-').is_empty() {
+            let is_colon = dashes.is_empty() && !cell.is_empty();
+            if is_colon || !dashes.trim_start_matches('-').is_empty() {
                 return true;
             }
         }
@@ -274,37 +286,58 @@ impl Printer<'_> {
         Ok(true)
     }
 
-    /// Whether the bars of a table stand below one another in the source.
-    fn is_aligned(&self, start: usize, end: usize) -> bool {
+    /// How the bars of a table stand to one another in the source.
+    fn bars(&self, start: usize, end: usize) -> Bars {
         let source = self.source;
         let head = without_blanks(source.slice(start, source.line_end(start)));
         let first = source.line_of(start).saturating_add(1);
         let last = source.line_of(end.saturating_sub(1));
+        let mut bars = Bars::Same;
         for line in first..=last {
             let row = source.line(line).trim_start_matches(&[' ', '\t', '>']);
-            if !have_same_bars(head, without_blanks(row)) {
-                return false;
+            match bars_of(head, without_blanks(row)) {
+                Bars::Apart => return Bars::Apart,
+                Bars::Ragged => bars = Bars::Ragged,
+                Bars::Same => {}
             }
         }
-        true
+        bars
     }
 
-    /// The width of each column; 0 for all if they aren't aligned.
+    /// The width of each column; 0 for one that isn't padded. In a table that is too wide, columns are padded only if they are
+    /// aligned in the source.
     fn column_widths(
         &self,
         cells: &Cells,
         range: (usize, usize),
     ) -> Result<Vec<usize>, AllocError> {
         let mut widths = cells.widths(self.alloc)?;
-        let look = self.look;
-        let is_aligned = !look.is_literal
-            && (!is_wider(&widths, look.table_width) || self.is_aligned(range.0, range.1));
-        if !is_aligned {
-            for width in widths.iter_mut() {
-                *width = 0;
-            }
+        if !is_wider(&widths, self.look.table_width) {
+            return Ok(widths);
+        }
+        let padded = match self.bars(range.0, range.1) {
+            Bars::Same => widths.len(),
+            Bars::Ragged => widths.len().saturating_sub(1),
+            Bars::Apart => 0,
+        };
+        for width in widths.iter_mut().skip(padded) {
+            *width = 0;
         }
         Ok(widths)
+    }
+
+    /// Prints the rows of a table as they stand in the source, without blanks at their ends.
+    fn print_own_rows(&mut self, start: usize, end: usize) -> Result<(), AllocError> {
+        let source = self.source;
+        self.page.line(without_end_blanks(source.slice(start, source.line_end(start))))?;
+        let second = source.line_of(start).saturating_add(1);
+        let last = source.line_of(end.saturating_sub(1));
+        for line in second..=last {
+            let place = self.page.stripped(source, source.start_of(line));
+            let text = source.past_blanks(place.at);
+            self.page.line(without_end_blanks(source.slice(text, source.line_end(text))))?;
+        }
+        Ok(())
     }
 
     fn print_rows(
@@ -354,6 +387,10 @@ impl Printer<'_> {
     }
 
     pub(crate) fn print_table(&mut self, part: &Part, at: usize) -> Result<(), AllocError> {
+        if self.look.tables == Tables::Source {
+            let (start, end) = part.range(at);
+            return self.print_own_rows(start, end);
+        }
         let mut cells = Cells::new(self.alloc, part.alignments(at).len());
         let printed = self.print_with(&mut cells, part, at);
         cells.let_go();
