@@ -212,8 +212,8 @@ static TASK: [CommandOption<'static>; 6] = [
     CommandOption {
         name: "lines",
         letter: None,
-        takes: Takes::Value("FIRST:LAST"),
-        help: "Format the blocks that these lines of one file\ntouch, and keep all others as they are",
+        takes: Takes::Value("RANGE"),
+        help: "Format the blocks that these lines of one file\ntouch, as 10:20, and keep all others as they are",
     },
     CommandOption {
         name: "strict",
