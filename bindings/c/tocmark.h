@@ -186,7 +186,10 @@ ptrdiff_t tocmark_rewrite(const uint8_t *json, size_t json_len, const uint8_t *s
                           size_t out_len);
 
 /* The style of a formatted text. A character is its own number, and 0 is the default:
- * struct tocmark_style style = {.size = sizeof style, .bullet = '-'}; */
+ * struct tocmark_style style = {.size = sizeof style, .bullet = '-'};
+ * As --look source of tocmark-format: {.size = sizeof style, .rule = 1, .list_indent = UINT32_MAX, .tables = 1}. As --look one:
+ * {.size = sizeof style, .bullet = '-', .delimiter = '.', .numbering = 2, .emphasis = '*', .strong = '*', .fence = '`',
+ * .hard_break = 1}. */
 struct tocmark_style {
   uint32_t size;         /* sizeof(struct tocmark_style) */
   uint32_t bullet;       /* '*', '-' or '+'; 0: as in the source */

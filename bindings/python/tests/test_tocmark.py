@@ -447,6 +447,16 @@ class Formatting(unittest.TestCase):
         self.assertEqual(tocmark.format(table), "| a   | bbb |\n| --- | --- |\n| c   | d   |\n")
         self.assertEqual(tocmark.format(table, tables="source"), table)
 
+    def test_looks(self):
+        text = "_a_\\\n__b__\n\n***\n\n1) c\n1) d\n\n*   e\n\n| f | ggg |\n| - | --- |\n\n~~~\nh\n~~~\n"
+        self.assertEqual(tocmark.format(text, look="source"), text)
+        one = "*a*\\\n**b**\n\n---\n\n1. c\n2. d\n\n- e\n\n| f   | ggg |\n| --- | --- |\n\n```\nh\n```\n"
+        self.assertEqual(tocmark.format(text, look="one"), one)
+        self.assertEqual(tocmark.format("* a\n\n1. b\n", look="one", bullet="+", delimiter=")"), "+ a\n\n1) b\n")
+        self.assertEqual(tocmark.format(text, look=""), tocmark.format(text))
+        with self.assertRaisesRegex(ValueError, "look must be source or one, or empty, and not 'x'"):
+            tocmark.format("a", look="x")
+
     def test_names_and_values_of_the_command(self):
         text = "+  a\n\n1) **b**\n\n~~~\nc\n~~~\n"
         kept = "+ a\n\n1) **b**\n\n~~~\nc\n~~~\n"

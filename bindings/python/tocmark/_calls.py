@@ -9,7 +9,7 @@ from typing import TYPE_CHECKING, Any, Callable, Iterable, Iterator, List, Optio
 from . import _library
 from ._errors import NotEvents, error_of
 from ._faults import fault_of
-from ._options import flags_of, flags_of_each, options_of, style_of
+from ._options import flags_of, flags_of_each, options_of, style_of, with_look
 from .events import Change, Event, Found, Options, Placed, Style
 
 if sys.version_info >= (3, 11):
@@ -341,7 +341,8 @@ def format(text: str, *, syntax: str = "gfm", extensions: Iterable[str] = (), al
     default), or "source", which pads cells only where the source does. Tables are padded up to `table_width` columns, from 1
     to 1,000 (the default is 120), and wider ones if they are aligned. `wrap` is "keep" (the default), "no", which joins the
     lines of a paragraph, "sentence", which gives each sentence a line, or a number of columns up to which lines are filled.
-    `list_indent` is "marker" (the default), 4 columns before the content of items, or "source".
+    `list_indent` is "marker" (the default), 4 columns before the content of items, or "source". `look` sets what isn't passed:
+    "source" keeps all that the source has, and "one" makes all texts alike.
 
     >>> import tocmark
     >>> tocmark.format("Title\\n=====\\n*  a\\n*  b", bullet="-")
@@ -359,4 +360,4 @@ def format(text: str, *, syntax: str = "gfm", extensions: Iterable[str] = (), al
             raise TypeError(f"format() got an unexpected keyword argument {name!r}")
     data, others = encoded("text", text), flags_of_each(also_read, also)
     return _text(*_library.answer(_library.format_text, data, len(data), flags_of(syntax, extensions), others, len(others),
-                                  style_of(**style), guess=2 * len(data) + 256))
+                                  style_of(**with_look(style)), guess=2 * len(data) + 256))

@@ -32,6 +32,14 @@ _TABLES = {"aligned": 0, "source": 1}
 _WRAPS: dict[int | str, int] = {"keep": 0, "no": 2**32 - 1, "sentence": 2**32 - 2}
 _LIST_INDENTS: dict[int | str, int] = {"marker": 0, 4: 4, "source": 2**32 - 1}
 
+#: What each look sets, if the style doesn't.
+_LOOKS: dict[str, dict[str, Any]] = {
+    "": {},
+    "source": {"rule": "source", "tables": "source", "list_indent": "source"},
+    "one": {"bullet": "-", "ordered": ".", "numbering": "increment", "emphasis": "*", "strong": "**", "fence": "`",
+            "hard_break": "backslash"},
+}
+
 _TOKENS = {"code_block_token": ("`", "~"), "list_token": ("*", "-", "+"), "ordered_list_token": (".", ")"),
            "emphasis_token": ("*", "_"), "strong_token": ("**", "__")}
 _TRUTHS = ("increment_ordered_list_bullets", "use_html_for_super_sub_script", "check_plain_blocks")
@@ -96,6 +104,18 @@ def _codes_of(marks: Mapping[str, str]) -> dict[str, int]:
     codes = {name: 0 if mark in ("", "source") else ord(mark[0]) for name, mark in marks.items()}
     codes["delimiter"] += codes.pop("ordered")
     return codes
+
+
+def with_look(style: Mapping[str, Any]) -> dict[str, Any]:
+    """Returns the parts of a style, and those that its `look` sets."""
+    parts = dict(style)
+    look = parts.pop("look", "")
+    if look not in _LOOKS:
+        raise ValueError(f"look must be source or one, or empty, and not {look!r}")
+    others = dict(_LOOKS[look])
+    if "delimiter" in parts:
+        others.pop("ordered", None)
+    return {**others, **parts}
 
 
 def style_of(*, bullet: str = "", ordered: str = "", delimiter: str = "", numbering: str = "source", emphasis: str = "",

@@ -116,6 +116,7 @@ class Options(TypedDict, total=False):
 class Style(TypedDict, total=False):
     """The style of a formatted text."""
 
+    look: Literal["", "source", "one"]
     bullet: Literal["", "source", "*", "-", "+"]
     ordered: Literal["", "source", ".", ")"]
     delimiter: Literal["", "source", ".", ")"]

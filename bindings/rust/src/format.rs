@@ -189,6 +189,30 @@ fn code_of_marker(marker: Marker) -> u32 {
 }
 
 impl FormatOptions {
+    /// Keeps all that the source has, as `--look source` of `tocmark-format` does.
+    pub fn look_source() -> FormatOptions {
+        FormatOptions {
+            rule: Rule::Source,
+            tables: Tables::Source,
+            list_indent: ListIndent::Source,
+            ..Default::default()
+        }
+    }
+
+    /// Makes all texts alike, as `--look one` of `tocmark-format` does.
+    pub fn look_one() -> FormatOptions {
+        FormatOptions {
+            bullet: Bullet::Hyphen,
+            ordered: Delimiter::Period,
+            numbering: Numbering::Increment,
+            emphasis: Marker::Asterisk,
+            strong: Marker::Asterisk,
+            fence: Fence::Backtick,
+            hard_break: HardBreak::Backslash,
+            ..Default::default()
+        }
+    }
+
     /// The style as C has it. A character is its own number.
     fn to_c(&self) -> Style {
         Style {
