@@ -466,10 +466,10 @@ static void styles(void) {
   expect(formats("|ab|\n|-|\n", (struct tocmark_style){.size = size, .table_width = 1}, "| ab |\n| --- |\n"), 15, "tables");
   expect(formats("a\nb c\n", (struct tocmark_style){.size = size, .wrap = 3}, "a b\nc\n"), 6, "filled lines");
   expect(formats("a\nb\n", (struct tocmark_style){.size = size, .wrap = UINT32_MAX}, "a b\n"), 4, "joined lines");
-  expect(formats("A b. C\nd.\n", (struct tocmark_style){.size = size, .wrap = UINT32_MAX - 1}, "A b.\nC d.\n"), 10,
+  expect(formats("One two. Three\nfour.\n", (struct tocmark_style){.size = size, .wrap = UINT32_MAX - 1}, "One two.\nThree four.\n"), 21,
          "a line for each sentence");
   expect(formats("_a_ __b__\n", (struct tocmark_style){.size = size}, "_a_ __b__\n"), 10, "emphasis of the source");
-  expect(formats("|ab|\n|-|\n", (struct tocmark_style){.size = size, .tables = 1}, "| ab |\n| - |\n"), 13, "tables of the source");
+  expect(formats("|ab|\n|-|\n", (struct tocmark_style){.size = size, .tables = 1}, "|ab|\n|-|\n"), 9, "tables of the source");
   expect(formats("-   a\n", (struct tocmark_style){.size = size, .list_indent = UINT32_MAX}, "-   a\n"), 6, "indents of the source");
   expect(formats("- a\n\n  b\n", (struct tocmark_style){.size = size, .list_indent = 4}, "-   a\n\n    b\n"), 13,
          "indented items");

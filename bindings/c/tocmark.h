@@ -206,7 +206,7 @@ struct tocmark_style {
                           * else filled up to this many columns */
   uint32_t list_indent;  /* columns before the content of items: 0: as many as the marker takes; 4: four; UINT32_MAX: as in the
                           * source */
-  uint32_t tables;       /* cells of tables: 0: aligned; 1: only where they are aligned in the source */
+  uint32_t tables;       /* tables: 0: aligned; 1: rows as in the source */
 };
 
 /* Formats Markdown. The result parses to the same events under these flags; texts side by side count as one. If `wrap` isn't 0,

@@ -90,13 +90,13 @@ pub enum Rule {
     Source,
 }
 
-/// The cells of tables.
+/// How tables look.
 #[derive(Clone, Copy, Debug, Default, PartialEq, Eq, Hash)]
 pub enum Tables {
-    /// Padded to the width of their columns.
+    /// Cells are padded to the width of their columns.
     #[default]
     Aligned,
-    /// Padded only where they are in the source.
+    /// Rows are as in the source.
     Source,
 }
 
@@ -147,7 +147,7 @@ pub struct FormatOptions {
     pub hard_break: HardBreak,
     /// Thematic breaks.
     pub rule: Rule,
-    /// The cells of tables.
+    /// How tables look.
     pub tables: Tables,
     /// Tables are padded up to this many columns, and wider ones if they are aligned; 0 means 120.
     pub table_width: u32,

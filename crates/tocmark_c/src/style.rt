@@ -41,7 +41,7 @@ pub struct TocmarkStyle {
     pub wrap: u32,
     /// Columns that the content of items is indented by: 4; 0: as many as the marker takes; 4,294,967,295: as in the source.
     pub list_indent: u32,
-    /// 0: tables are aligned; 1: those are that are aligned in the source.
+    /// 0: tables are aligned; 1: their rows are as in the source.
     pub tables: u32,
 }
 

@@ -167,7 +167,7 @@ static STYLE: [CommandOption<'static>; 15] = [
         name: "tables",
         letter: None,
         takes: Takes::Value("TABLES"),
-        help: "Cells of tables: aligned (default), or source:\nonly where they are aligned already",
+        help: "Tables: aligned (default), or source (rows as they\nare)",
     },
     CommandOption {
         name: "table-width",
