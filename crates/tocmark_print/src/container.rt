@@ -108,7 +108,8 @@ impl Printer<'_> {
     fn item_columns(&self, start: usize, behind: usize) -> ItemColumns {
         let source = self.source;
         let front = self.page.front(source, start);
-        let marker = source.column_at(front.column, front.at.min(start), start);
+        let front_column = front.column.saturating_add(front.spare);
+        let marker = source.column_at(front_column, front.at.min(start), start);
         let indent = marker.saturating_sub(front.column);
         let marker_end = source.column_at(marker, start, behind);
         let content = source.past_blanks(behind);
@@ -147,26 +148,6 @@ impl Printer<'_> {
         text.push(marker)
     }
 
-    /// How many columns stand before the marker of an item, which has so many in the source, and a number with so many digits:
-    /// as many as before the list's first one, unless the numbers end below one another.
-    fn indent(&mut self, own: usize, digits: usize) -> usize {
-        if self.look.is_literal {
-            return if self.page.owes_sign() { 0 } else { own };
-        }
-        if !matches!(self.look.list_indent, ListIndent::Source) {
-            return 0;
-        }
-        let end = own.saturating_add(digits);
-        match self.page.top().indent {
-            Some((_, first_end)) if digits > 0 && first_end == end => own,
-            Some((first, _)) => first,
-            None => {
-                self.page.top_mut().indent = Some((own, end));
-                own
-            }
-        }
-    }
-
     fn open_item(&mut self, range: (usize, usize)) -> Result<(), AllocError> {
         let (start, end) = range;
         let own = self.source.slice(start, end);
@@ -174,8 +155,9 @@ impl Printer<'_> {
         let behind = start.saturating_add(digits).saturating_add(1);
         let columns = self.item_columns(start, behind);
         let mut first = String::new(self.alloc);
-        let indent = self.indent(columns.indent, digits);
-        push_repeated(&mut first, ' ', indent)?;
+        if matches!(self.look.list_indent, ListIndent::Source) {
+            push_repeated(&mut first, ' ', columns.indent)?;
+        }
         self.push_marker(&mut first, own.get(..digits).unwrap_or(""))?;
         let pad = match self.look.list_indent {
             ListIndent::Source => columns.pad,

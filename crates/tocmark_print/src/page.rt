@@ -73,8 +73,6 @@ pub(crate) struct Frame {
     pub(crate) marker: u8,
     /// Of a list with numbers, that of its next item.
     pub(crate) number: Option<u64>,
-    /// Of a list, how many columns its first item has before its marker in the source, and where that marker ends.
-    pub(crate) indent: Option<(usize, usize)>,
 }
 
 impl Frame {
@@ -97,7 +95,6 @@ impl Frame {
             last_marker: 0,
             marker: 0,
             number: None,
-            indent: None,
         }
     }
 
@@ -260,15 +257,6 @@ impl Page {
 
     pub(crate) fn top_mut(&mut self) -> &mut Frame {
         &mut self.top
-    }
-
-    /// Whether the next line stands behind the sign of the innermost container; lists don't count.
-    pub(crate) fn owes_sign(&self) -> bool {
-        if self.top.kind == Kind::List {
-            self.outer.last().is_some_and(|frame| frame.owes_sign())
-        } else {
-            self.top.owes_sign()
-        }
     }
 
     /// How many containers are open in the document.

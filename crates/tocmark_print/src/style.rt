@@ -105,7 +105,7 @@ pub enum ListIndent {
     Marker,
     /// Four columns behind the marker's front, as Python-Markdown wants it; one blank behind a marker that is longer.
     Four,
-    /// As many columns behind the marker as in the source, up to four.
+    /// As in the source: up to three columns before the marker and four behind it.
     Source,
 }
 
@@ -114,7 +114,7 @@ pub enum ListIndent {
 pub enum Tables {
     /// Columns are padded to one width, unless the table gets too wide.
     Aligned,
-    /// Columns are padded if those of the source are; other cells get one blank on each side.
+    /// Rows stay as they are, without blanks at their ends.
     Source,
 }
 

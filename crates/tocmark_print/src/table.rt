@@ -1,7 +1,7 @@
 //! Tables: columns of one width, if the whole isn't too wide, or if the source has them so.
 
 use crate::part::{Mark, Part};
-use crate::piece::push_repeated;
+use crate::piece::{blanks, push_repeated};
 use crate::printer::Printer;
 use crate::source::{is_blank, without_blanks, without_end_blanks};
 use crate::style::Tables;
@@ -329,13 +329,17 @@ impl Printer<'_> {
     /// Prints the rows of a table as they stand in the source, without blanks at their ends.
     fn print_own_rows(&mut self, start: usize, end: usize) -> Result<(), AllocError> {
         let source = self.source;
-        self.page.line(without_end_blanks(source.slice(start, source.line_end(start))))?;
-        let second = source.line_of(start).saturating_add(1);
+        let first = source.line_of(start);
         let last = source.line_of(end.saturating_sub(1));
-        for line in second..=last {
-            let place = self.page.stripped(source, source.start_of(line));
-            let text = source.past_blanks(place.at);
-            self.page.line(without_end_blanks(source.slice(text, source.line_end(text))))?;
+        for line in first..=last {
+            let place = if line == first {
+                self.page.front(source, start)
+            } else {
+                self.page.stripped(source, source.start_of(line))
+            };
+            let row = source.slice(place.at, source.line_end(place.at));
+            self.page
+                .line_with(blanks(place.spare), without_end_blanks(row))?;
         }
         Ok(())
     }
