@@ -21,3 +21,7 @@ pub mod Delimiters
 pub mod EachToken
 pub mod NoSpans
 pub mod FlatExamples
+pub mod Stack
+pub mod SpanRoles
+pub mod Held
+pub mod Matching
