@@ -1,16 +1,16 @@
 -- Roles that say an atom, and roles that say atoms one after the other.
-use Rattle.std.proofs.Common.{◌≡◌, ℕ, suc, ◌+◌, ◌-◌, List, [], ◌∷◌, ◌++◌, length, reverse, ap, sym, subst, ◌∙◌, arith, append_assoc, append-nil, length-append}
+use Rattle.std.proofs.Common.{◌≡◌, ℕ, suc, ◌+◌, ◌-◌, ◌<◌, true, List, [], ◌∷◌, ◌++◌, length, replicate, ap, sym, subst, ◌∙◌, arith, append_assoc}
 use Rattle.std.specs.List.{fold}
-use Rattle.std.proofs.lemmas.List.Sums.{fold-append}
-use Rattle.std.proofs.lemmas.List.{reverse-append}
 use Rattle.tocmark_read_scan.specs.Basic.{byte_at}
 use Rattle.tocmark_read_spans.specs.declared.role.Leaf.{Leaf}
 use Rattle.tocmark_read_spans.specs.declared.role.Role.{Role}
 use Rattle.tocmark_read_spans.specs.declared.role.Role.TheVariants as role
 use Rattle.tocmark_read_spans.specs.declared.role.Target.{Target}
-use Rattle.tocmark_commonmark.specs.InlineTree.{Inline, Atom, as_inline, inlines_of}
-use Rattle.tocmark_inline_laws.specs.Said.{Piece, letters, leaf_said, declared, declared_one}
+use Rattle.tocmark_read_spans.specs.declared.run.Run.{Run}
+use Rattle.tocmark_commonmark.specs.InlineTree.{Inline, Atom, Whole, Delimiters, Opening, as_inline}
+use Rattle.tocmark_inline_laws.specs.Said.{Piece, letters, leaf_said, declared_one}
 use Rattle.tocmark_inline_laws.proofs.Flow.{Flow, Beside, flow_step}
+use Rattle.tocmark_inline_laws.proofs.Stack.{is_star}
 
 -- what is beside a content, with further texts and targets
 abbrev pub with_more : Beside → List ℕ → List Target → Beside
@@ -59,9 +59,22 @@ shows_more e ts gs p seg i h us hs depth out =
     same : with_more e (ts ++ us) (gs ++ hs) ≡ with_more (with_more e ts gs) us hs
     same = ap (λ (xs : List ℕ). record e { texts = xs; targets = e.targets ++ (gs ++ hs) }) (sym (append_assoc e.texts ts us)) ∙ ap (λ (ys : List Target). record e { texts = (e.texts ++ ts) ++ us; targets = ys }) (sym (append_assoc e.targets gs hs))
 
--- roles say what an atom is
+-- so many bytes from a place on are those of a run of `*` or `_`
+pub record IsRun (e : Beside) (p : ℕ) (d : Run) : Type 0 where
+  pub some : 0 < d.count
+  pub star : is_star d.byte ≡ true
+  pub filled : (i : ℕ) → i < d.count → byte_at e.bytes (p + i) ≡ d.byte
+
+-- roles say what an atom is; those of a delimiter run are plain
 abbrev pub Stands : Beside → ℕ → List Role → Atom → Type 0
-Stands e p seg a = Shows e p seg (as_inline a)
+Stands e p seg (Whole i) = Shows e p seg i
+Stands e p seg (Opening b) = Shows e p seg (as_inline (Opening b))
+Stands e p seg (Delimiters r) = (seg ≡ replicate r.count role.Plain) × (r.place ≡ p) × IsRun e p r
+
+stands_more : (e : Beside) (ts : List ℕ) (gs : List Target) (p : ℕ) (seg : List Role) (a : Atom) → Stands e p seg a → Stands (with_more e ts gs) p seg a
+stands_more e ts gs p seg (Whole i) h = shows_more e ts gs p seg i h
+stands_more e ts gs p seg (Opening b) h = shows_more e ts gs p seg (as_inline (Opening b)) h
+stands_more e ts gs p seg (Delimiters r) h = ((h.0), (h.1), record { some = h.2.some; star = h.2.star; filled = h.2.filled })
 
 -- roles from the front on say atoms, the last one first
 abbrev pub Trail : Beside → List Role → List Atom → Type 0
@@ -70,20 +83,4 @@ Trail e front (a ∷ done) = (before : List Role) × (seg : List Role) × (front
 
 pub trail_more : (e : Beside) (ts : List ℕ) (gs : List Target) (front : List Role) (done : List Atom) → Trail e front done → Trail (with_more e ts gs) front done
 trail_more e ts gs front [] h = h
-trail_more e ts gs front (a ∷ done) h = (h.0, h.1, h.2, shows_more e ts gs (length (h.0)) (h.1) (as_inline a) (h.3), trail_more e ts gs (h.0) done (h.4))
-
-declared_last : (d : ℕ) (xs : List Atom) (a : Atom) → declared d (inlines_of (xs ++ a ∷ [])) ≡ declared d (inlines_of xs) ++ declared_one d (as_inline a)
-declared_last d [] a = append-nil (declared_one d (as_inline a))
-declared_last d (x ∷ xs) a = ap (λ ps. declared_one d (as_inline x) ++ ps) (declared_last d xs a) ∙ sym (append_assoc (declared_one d (as_inline x)) (declared d (inlines_of xs)) (declared_one d (as_inline a)))
-
--- such roles say these atoms from left to right
-pub trail_says : (e : Beside) (d : ℕ) (front : List Role) (done : List Atom) → Trail e front done → fold (flow_step (with_more e [] [])) (flow_at d 0 []) front ≡ flow_at d (length front) (declared d (inlines_of (reverse done)))
-trail_says e d front [] h = ap (λ (xs : List Role). fold (flow_step (with_more e [] [])) (flow_at d 0 []) xs) h ∙ ap (λ n. flow_at d n []) (ap length (sym h))
-trail_says e d front (a ∷ done) h =
-    ap (fold (flow_step (with_more e [] [])) (flow_at d 0 [])) (h.2)
-    ∙ fold-append (flow_step (with_more e [] [])) (flow_at d 0 []) (h.0) (h.1)
-    ∙ ap (λ (f : Flow). fold (flow_step (with_more e [] [])) f (h.1)) (trail_says e d (h.0) done (h.4))
-    ∙ h.3 [] [] d (declared d (inlines_of (reverse done)))
-    ∙ ap (λ q. flow_at d q (declared d (inlines_of (reverse done)) ++ declared_one d (as_inline a))) (sym (length-append (h.0) (h.1)) ∙ ap length (sym (h.2)))
-    ∙ ap (λ ps. flow_at d (length front) ps) (sym (declared_last d (reverse done) a))
-    ∙ ap (λ xs. flow_at d (length front) (declared d (inlines_of xs))) (sym (reverse-append (a ∷ []) done))
+trail_more e ts gs front (a ∷ done) h = (h.0, h.1, h.2, stands_more e ts gs (length (h.0)) (h.1) a (h.3), trail_more e ts gs (h.0) done (h.4))

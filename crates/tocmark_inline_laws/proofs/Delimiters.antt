@@ -1,4 +1,4 @@
--- Delimiter runs of a content that match none before them.
+-- Delimiter runs of a content.
 use Rattle.std.proofs.Common.{◌≡◌, ℕ, suc, ◌+◌, ◌-◌, ◌^◌, ◌<◌, ◌≤◌, Bool, true, false, ◌==◌, ◌||◌, if◌then◌else◌, List, [], ◌∷◌, ◌++◌, length, drop, replicate, refl, ap, sym, subst, ◌∙◌, arith, append-nil, true≢false}
 use Rattle.std.proofs.lemmas.Bool.Decides.{nat_tests}
 use Rattle.std.proofs.lemmas.List.{length-replicate, replicate-append-replicate}
@@ -13,13 +13,12 @@ use Rattle.tocmark_read_spans.specs.Run.{run_between, run_at}
 use Rattle.tocmark_read_spans.specs.declared.definitions.Entry.{Entry}
 use Rattle.tocmark_read_spans.specs.declared.role.Role.TheVariants as role
 use Rattle.tocmark_read_spans.specs.declared.run.Run.{Run}
-use Rattle.tocmark_commonmark.specs.InlineTree.{Text, Atom, Delimiters, as_inline}
-use Rattle.tocmark_inline_laws.proofs.Atoms.{Shows, shows_more}
+use Rattle.tocmark_commonmark.specs.InlineTree.{Atom, Delimiters}
 use Rattle.tocmark_inline_laws.proofs.Breaks.{only_end}
 use Rattle.tocmark_inline_laws.proofs.Passes.{step_look}
 use Rattle.tocmark_inline_laws.proofs.Places.{clean_after}
-use Rattle.tocmark_inline_laws.proofs.Plains.{past_within, byte_is, plains_show, Front, front_of}
-use Rattle.tocmark_inline_laws.specs.Statement.{is_flat}
+use Rattle.tocmark_inline_laws.proofs.Plains.{past_within, byte_is, Front, front_of}
+use Rattle.tocmark_inline_laws.proofs.Stack.{is_star}
 use Rattle.tocmark_inline_laws.proofs.Sim.{beside, runs_of, weight, runs_with, Sim, Goes, goes_atom}
 use Rattle.tocmark_inline_laws.proofs.Stretches.{first_left}
 
@@ -47,17 +46,9 @@ taken_so bytes b s = by (run_at bytes s.place b) ((run_at bytes s.place b).opens
     by r true = refl
     by r false = refl
 
-run_text : (bytes : List ℕ) (p b : ℕ) → as_inline (Delimiters (run_at bytes p b)) ≡ Text (replicate (run_end bytes p (Only b) - p) b)
-unfolding run_at run_between
-run_text bytes p b = refl
-
 run_count : (bytes : List ℕ) (p b : ℕ) → (run_at bytes p b).count ≡ run_end bytes p (Only b) - p
 unfolding run_at run_between
 run_count bytes p b = refl
-
-all_same : (b : ℕ) (xs : List ℕ) → AllByRecursion (λ c. (c == b) ≡ true) xs → replicate (length xs) b ≡ xs
-all_same b [] h = refl
-all_same b (x ∷ xs) h = ap (λ ys. b ∷ ys) (all_same b xs (h.1)) ∙ ap (λ y. y ∷ xs) (sym (eq_of x b (h.0)))
 
 run_length : (bytes : List ℕ) (p b : ℕ) → (run_at bytes p b).length ≡ run_end bytes p (Only b) - p
 unfolding run_at run_between
@@ -67,9 +58,13 @@ run_byte : (bytes : List ℕ) (p b : ℕ) → (run_at bytes p b).byte ≡ b
 unfolding run_at run_between
 run_byte bytes p b = refl
 
--- 6.2: a run that matches none before it
-run_goes : (bytes : List ℕ) (ahead : Known) (defs : List ℕ → Option Entry) (p b : ℕ) (s : State) (done : List Atom) → Sim bytes p s done → p < length bytes → length bytes + 1 < 2 ^ 64 → byte_at bytes p ≡ b → is_mark b ≡ true → (b == 32) ≡ false → (b == 126) ≡ false → looked_all bytes ahead defs b s ≡ run_taken bytes b s → is_flat (runs_of done) (Delimiters (run_at bytes p b)) ≡ true → Goes bytes ahead defs p s done (record { atom = Delimiters (run_at bytes p b); end = run_end bytes p (Only b) })
-run_goes bytes ahead defs p b s done a in_it fits is mark space tilde looked flat =
+run_place : (bytes : List ℕ) (p b : ℕ) → (run_at bytes p b).place ≡ p
+unfolding run_at run_between
+run_place bytes p b = refl
+
+-- 6.2: a run
+run_goes : (bytes : List ℕ) (ahead : Known) (defs : List ℕ → Option Entry) (p b : ℕ) (s : State) (done : List Atom) → Sim bytes p s done → p < length bytes → length bytes + 1 < 2 ^ 64 → byte_at bytes p ≡ b → is_mark b ≡ true → (b == 32) ≡ false → is_star b ≡ true → looked_all bytes ahead defs b s ≡ run_taken bytes b s → Goes bytes ahead defs p s done (record { atom = Delimiters (run_at bytes p b); end = run_end bytes p (Only b) })
+run_goes bytes ahead defs p b s done a in_it fits is mark space star looked =
     goes_atom bytes ahead defs p end b s t done (replicate (length f.text) role.Plain) (Delimiters (run_at bytes p b)) a
     (record {
       texts = [];
@@ -78,13 +73,20 @@ run_goes bytes ahead defs p b s done a in_it fits is mark space tilde looked fla
       long = ap (λ n. p + n) (length-replicate (length f.text) role.Plain) ∙ sym end_is;
       more_texts = sym (append-nil s.texts);
       more_targets = sym (append-nil s.targets);
-      shows = shows_more (beside bytes s) [] [] p (replicate (length f.text) role.Plain) (as_inline (Delimiters (run_at bytes p b)))
-          (subst (λ i. Shows (beside bytes s) p (replicate (length f.text) role.Plain) i) (sym said) (plains_show (beside bytes s) f.text f.rest p f.whole));
+      stands = (
+        ap (λ n. replicate n role.Plain) (sym count),
+        run_place bytes p b,
+        record {
+          some = omega (arith, count, some);
+          star = ap is_star (run_byte bytes p b) ∙ star;
+          filled = λ i h. eq_of (byte_at bytes (p + i)) b (byte_is (λ c. (c == b) ≡ true) bytes f.text f.rest p i f.whole f.each (let l : i < (run_at bytes p b).count = h in omega (arith, count))) ∙ sym (run_byte bytes p b);
+        },
+      );
       resume = omega (arith, far);
       runs = refl;
       brackets = a.brackets;
     })
-    (flat, ap (λ c. c == 126) (run_byte bytes p b) ∙ tilde, a.flat)
+    a.closed
     (let l : (run_at bytes p b).length ≡ end - p = run_length bytes p b in let w : weight (runs_of done) ≤ p = a.light in omega (arith, end_is))
     (clean_after bytes (p + (length f.text - 1)) end (omega (arith, end_is, some)) (ap (λ c. c == 32) last_byte ∙ space))
     (omega (arith, end_is, some)) (omega (arith, end_is, m)) fits is
@@ -122,17 +124,14 @@ run_goes bytes ahead defs p b s done a in_it fits is mark space tilde looked fla
     far : plus p (run_at bytes p b).count ≡ end
     far = ap (λ n. plus p n) count ∙ (let k : plus p (length f.text) ≡ end = omega (arith, end_is, m) in k)
 
-    said : as_inline (Delimiters (run_at bytes p b)) ≡ Text f.text
-    said = run_text bytes p b ∙ ap (λ n. Text (replicate n b)) (let k : end - p ≡ length f.text = omega (arith, end_is) in k) ∙ ap (λ xs. Text xs) (all_same b f.text f.each)
-
     last_byte : byte_at bytes (p + (length f.text - 1)) ≡ b
     last_byte = eq_of (byte_at bytes (p + (length f.text - 1))) b (byte_is (λ c. (c == b) ≡ true) bytes f.text f.rest p (length f.text - 1) f.whole f.each (omega (arith, some)))
 
     split : replicate (length bytes - p) role.Plain ≡ replicate (length f.text) role.Plain ++ replicate (length bytes - end) role.Plain
     split = ap (λ n. replicate n role.Plain) (let k : length bytes - p ≡ length f.text + (length bytes - end) = omega (arith, end_is, m) in k) ∙ sym (replicate-append-replicate (length f.text) (length bytes - end) role.Plain)
 
-pub star_goes : (bytes : List ℕ) (ahead : Known) (defs : List ℕ → Option Entry) (p : ℕ) (s : State) (done : List Atom) → Sim bytes p s done → p < length bytes → length bytes + 1 < 2 ^ 64 → byte_at bytes p ≡ 42 → is_flat (runs_of done) (Delimiters (run_at bytes p 42)) ≡ true → Goes bytes ahead defs p s done (record { atom = Delimiters (run_at bytes p 42); end = run_end bytes p (Only 42) })
-star_goes bytes ahead defs p s done a in_it fits is flat = run_goes bytes ahead defs p 42 s done a in_it fits is star_marks refl refl (star_looked bytes ahead defs s) flat
+pub star_goes : (bytes : List ℕ) (ahead : Known) (defs : List ℕ → Option Entry) (p : ℕ) (s : State) (done : List Atom) → Sim bytes p s done → p < length bytes → length bytes + 1 < 2 ^ 64 → byte_at bytes p ≡ 42 → Goes bytes ahead defs p s done (record { atom = Delimiters (run_at bytes p 42); end = run_end bytes p (Only 42) })
+star_goes bytes ahead defs p s done a in_it fits is = run_goes bytes ahead defs p 42 s done a in_it fits is star_marks refl refl (star_looked bytes ahead defs s)
 
-pub underscore_goes : (bytes : List ℕ) (ahead : Known) (defs : List ℕ → Option Entry) (p : ℕ) (s : State) (done : List Atom) → Sim bytes p s done → p < length bytes → length bytes + 1 < 2 ^ 64 → byte_at bytes p ≡ 95 → is_flat (runs_of done) (Delimiters (run_at bytes p 95)) ≡ true → Goes bytes ahead defs p s done (record { atom = Delimiters (run_at bytes p 95); end = run_end bytes p (Only 95) })
-underscore_goes bytes ahead defs p s done a in_it fits is flat = run_goes bytes ahead defs p 95 s done a in_it fits is underscore_marks refl refl (underscore_looked bytes ahead defs s) flat
+pub underscore_goes : (bytes : List ℕ) (ahead : Known) (defs : List ℕ → Option Entry) (p : ℕ) (s : State) (done : List Atom) → Sim bytes p s done → p < length bytes → length bytes + 1 < 2 ^ 64 → byte_at bytes p ≡ 95 → Goes bytes ahead defs p s done (record { atom = Delimiters (run_at bytes p 95); end = run_end bytes p (Only 95) })
+underscore_goes bytes ahead defs p s done a in_it fits is = run_goes bytes ahead defs p 95 s done a in_it fits is underscore_marks refl refl (underscore_looked bytes ahead defs s)

@@ -11,7 +11,7 @@ use Rattle.tocmark_read_spans.specs.declared.role.Role.TheVariants as role
 use Rattle.tocmark_read_spans.specs.declared.run.Run.{Run}
 use Rattle.tocmark_commonmark.specs.Emphasis.{Match, can_match, match_or, nearest}
 use Rattle.tocmark_commonmark.specs.InlineTree.{Inline, Atom, Whole, Delimiters, Opening, as_inline, inlines_of}
-use Rattle.tocmark_inline_laws.proofs.Atoms.{Shows}
+use Rattle.tocmark_inline_laws.proofs.Atoms.{IsRun, Shows}
 use Rattle.tocmark_inline_laws.proofs.Flow.{Beside}
 use Rattle.tocmark_inline_laws.proofs.Sim.{runs_of, weight}
 use Rattle.tocmark_inline_laws.proofs.SpanRoles.{ShowsAll, more_show, filled_shows}
@@ -20,12 +20,6 @@ use Rattle.tocmark_inline_laws.proofs.Stack.{is_star, fits_so, Missed, all_map}
 -- a run at a place
 abbrev pub placed : ℕ → Run → Run
 placed p d = record d { place = p }
-
--- so many bytes from a place on are those of a run of `*` or `_`
-pub record IsRun (e : Beside) (p : ℕ) (d : Run) : Type 0 where
-  pub some : 0 < d.count
-  pub star : is_star d.byte ≡ true
-  pub filled : (i : ℕ) → i < d.count → byte_at e.bytes (p + i) ≡ d.byte
 
 -- a stack with a run, if it may open
 abbrev pub with_opener : List Run → Run → List Run
@@ -129,11 +123,29 @@ prior_length base front before seg cut = let l : length front ≡ length before 
 
 -- also with more runs of another one
 wider : (e : Beside) (base : ℕ) (c : Run) (roles : List Role) (stack : List Run) (result : Option Match) (all more : ℕ) → all ≤ more → Search e base c roles stack result all → Search e base c roles stack result more
-wider e base c roles stack result all more l h = elim h [ inl k ↦ inl (record {
-  opening = k.opening; before = k.before; between = k.between; under = k.under; upper = k.upper; prior = k.prior; mid = k.mid;
-  found = k.found; roles_are = k.roles_are; stack_is = k.stack_is; opens = k.opens; matches = k.matches; fits = k.fits; missed = k.missed; run = k.run; shows = k.shows; held = k.held;
-  light = (let m : k.opening.length + weight (runs_of k.before) ≤ all = k.light in omega arith);
-}) | inr k ↦ inr k ]
+wider e base c roles stack result all more l h = elim h [
+  | inl k ↦ inl (record {
+    opening = k.opening;
+    before = k.before;
+    between = k.between;
+    under = k.under;
+    upper = k.upper;
+    prior = k.prior;
+    mid = k.mid;
+    found = k.found;
+    roles_are = k.roles_are;
+    stack_is = k.stack_is;
+    opens = k.opens;
+    matches = k.matches;
+    fits = k.fits;
+    missed = k.missed;
+    run = k.run;
+    shows = k.shows;
+    held = k.held;
+    light = (let m : k.opening.length + weight (runs_of k.before) ≤ all = k.light in omega arith);
+  })
+  | inr k ↦ inr k
+]
 
 pub searched : (e : Beside) (base : ℕ) (c : Run) → is_star c.byte ≡ true → (front : List Role) (done : List Atom) (stack : List Run) → Held e base front done stack → weight (runs_of done) + c.length < 2 ^ 64 → (mid : List Role) (between : List Atom) (upper : List Run) → ShowsAll e (base + length front) mid (inlines_of between) → Missed c (base + length front) upper → Search e base c (front ++ mid) (stack ++ upper) (nearest c between done) (weight (runs_of done))
 searched e base c star front [] stack h light mid between upper shows missed =

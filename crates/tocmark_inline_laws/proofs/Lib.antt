@@ -5,11 +5,9 @@ pub mod Passes
 pub mod ByKind
 pub mod Sim
 pub mod Plains
-pub mod Flat
 pub mod Places
 pub mod Tokens
 pub mod Breaks
-pub mod Unmatched
 pub mod Run
 pub mod Ampersands
 pub mod TickRuns
@@ -20,8 +18,9 @@ pub mod Angles
 pub mod Delimiters
 pub mod EachToken
 pub mod NoSpans
-pub mod FlatExamples
+pub mod Unopened
 pub mod Stack
 pub mod SpanRoles
 pub mod Held
 pub mod Matching
+pub mod Settling

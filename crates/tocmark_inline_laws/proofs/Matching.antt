@@ -16,13 +16,13 @@ use Rattle.tocmark_read_spans.specs.declared.role.Span.TheVariants as span
 use Rattle.tocmark_read_spans.specs.declared.run.Run.{Run}
 use Rattle.tocmark_commonmark.specs.Emphasis.{Match, can_match, nearest, width, emphasis_of, run_left, emphasized_with, matched, closed_or, emphasis, steps}
 use Rattle.tocmark_commonmark.specs.InlineTree.{Inline, Inlines, Bracket, Atom, Whole, Delimiters, Opening, inlines_of}
-use Rattle.tocmark_inline_laws.proofs.Atoms.{Shows}
+use Rattle.tocmark_inline_laws.proofs.Atoms.{IsRun, Shows}
 use Rattle.tocmark_inline_laws.proofs.Flow.{Beside}
 use Rattle.tocmark_inline_laws.proofs.Sim.{runs_of, weight}
 use Rattle.tocmark_inline_laws.proofs.SpanRoles.{ShowsAll, none_show, width_by, span_by, emphasis_by, opening_roles, closing_roles, span_shows, match_roles}
 use Rattle.tocmark_inline_laws.proofs.Stack.{is_star, all_first, all_second, all_both, all_map, bottom, bottom_low, Bars, bars_set, get_here, Missed, none_found, found_top}
 use Rattle.tocmark_inline_laws.proofs.Places.{set_here}
-use Rattle.tocmark_inline_laws.proofs.Held.{placed, IsRun, with_opener, with_kept, Held, Lead, held_shows, Caught, Search, searched}
+use Rattle.tocmark_inline_laws.proofs.Held.{placed, with_opener, with_kept, Held, Lead, held_shows, Caught, Search, searched}
 
 -- the declaration and the reader at a place between atoms: what is ahead of the roles stays, and what is behind them
 pub record Meets (e : Beside) (ahead tail : List Role) (total : ℕ) (done rest : List Atom) (u : reader.State) (runs : List Run) : Type 0 where
@@ -286,18 +286,30 @@ match_held e base n prior seg o before under upper i opens run held fits shows =
     by : (y : Bool) → nat_lt n o.count ≡ y → Held e base ((prior ++ replicate (o.count - n) role.Plain) ++ seg) (Whole i ∷ (if y then Delimiters (record o { count = o.count - n }) ∷ [] else []) ++ before) (reader.shortened (length under) x n (under ++ x ∷ upper))
     by true k =
         let l : n < o.count = grind (arith, nat_tests, k) in
-        let is : o.count - n ≡ suc (o.count - n - 1) = omega arith in
-        (prior ++ replicate (o.count - n) role.Plain, seg, refl, shows,
-         (prior, under, refl,
-          shortened_left under upper x n (o.count - n - 1) is fits ∙ ap (λ m. under ++ reader.with_count m x ∷ []) (sym is) ∙ sym (ap (λ (y : Bool). if y then under ++ reader.with_count (o.count - n) x ∷ [] else under) opens),
-          record { some = omega arith; star = run.star; filled = λ j h. run.filled j (let m : j < o.count - n = h in omega arith) },
-          held))
+        let is : o.count - n ≡ suc (o.count - n - 1) = omega arith in (
+          prior ++ replicate (o.count - n) role.Plain,
+          seg,
+          refl,
+          shows,
+          (
+            prior,
+            under,
+            refl,
+            shortened_left under upper x n (o.count - n - 1) is fits ∙ ap (λ m. under ++ reader.with_count m x ∷ []) (sym is) ∙ sym (ap (λ (y : Bool). if y then under ++ reader.with_count (o.count - n) x ∷ [] else under) opens),
+            record { some = omega arith; star = run.star; filled = λ j h. run.filled j (let m : j < o.count - n = h in omega arith) },
+            held,
+          ),
+        )
     by false k =
         let l : o.count ≤ n = grind (arith, nat_tests, k) in
-        let is : o.count - n ≡ 0 = omega arith in
-        (prior ++ replicate (o.count - n) role.Plain, seg, refl, shows,
-         subst (λ (rs : List Role). Held e base rs before (reader.shortened (length under) x n (under ++ x ∷ upper))) (sym (ap (λ m. prior ++ replicate m role.Plain) is ∙ append-nil prior))
-         (subst (λ (rs : List Run). Held e base prior before rs) (sym (shortened_none under upper x n is)) held))
+        let is : o.count - n ≡ 0 = omega arith in (
+          prior ++ replicate (o.count - n) role.Plain,
+          seg,
+          refl,
+          shows,
+          subst (λ (rs : List Role). Held e base rs before (reader.shortened (length under) x n (under ++ x ∷ upper))) (sym (ap (λ m. prior ++ replicate m role.Plain) is ∙ append-nil prior))
+              (subst (λ (rs : List Run). Held e base prior before rs) (sym (shortened_none under upper x n is)) held),
+        )
 
 match_bars : (bs : List ℕ) (n : ℕ) (o : Run) (under upper : List Run) → length under + 1 < 2 ^ 64 → Bars bs (under ++ o ∷ upper) → Bars bs (reader.shortened (length under) o n (under ++ o ∷ upper))
 match_bars bs n o under upper fits h c star = by (o.count - n) refl (h c star)
@@ -328,7 +340,7 @@ facing_matched e ahead tail total done d rest u others p m k z wide some room = 
   roles =
       ap (match_roles_of n (span_by z) o c) (m.roles ∙ ap (λ rs. ahead ++ (rs ++ ((replicate d.count role.Plain ++ m.later) ++ tail))) cut ∙ ap (λ rs. ahead ++ ((k.prior ++ (rs ++ k.mid)) ++ ((replicate d.count role.Plain ++ m.later) ++ tail))) (plain_parts n k.opening.count (enough.0)) ∙ ap (λ rs. ahead ++ ((k.prior ++ ((first ++ replicate n role.Plain) ++ k.mid)) ++ ((rs ++ m.later) ++ tail))) (plain_other_parts n d.count (enough.1)) ∙ parted ahead k.prior first (replicate n role.Plain) k.mid second m.later tail)
       ∙ match_roles z (ahead ++ (k.prior ++ first)) k.mid (second ++ (m.later ++ tail)) end (plus o.place o.count - 1) (plus o.place o.count - n) c.place (plus c.place n - 1)
-          (omega (arith, at, long_front, long_before, enough, whole)) (omega (arith, at, long_front, long_before, enough, whole, wider)) (omega (arith, at, long_front, long_before, enough, whole)) (omega (arith, at, long_front, long_before, enough, whole, wider))
+      (omega (arith, at, long_front, long_before, enough, whole)) (omega (arith, at, long_front, long_before, enough, whole, wider)) (omega (arith, at, long_front, long_before, enough, whole)) (omega (arith, at, long_front, long_before, enough, whole, wider))
       ∙ joined ahead k.prior first (opening_roles z end) k.mid (closing_roles z end) second m.later tail;
   long = omega (arith, at, long_front, long_new, enough, whole);
   star = m.star;
@@ -437,7 +449,7 @@ faced e ahead tail total done d rest u runs m = record {
 }
 
 -- how many steps are left
-pub size : List Atom → ℕ
+abbrev pub size : List Atom → ℕ
 size [] = 0
 size (a ∷ rest) = steps a + size rest
 
@@ -618,7 +630,6 @@ each_closes e ahead tail total fuel room ih done d rest u others p (suc k) m som
     by (inr h) = closes_none e ahead tail total fuel ih.all done d rest u others p k m some closes (omega arith) (h.0) (subst (Missed d (length ahead)) (append-nil u.stack) (h.1))
 
 all_settle : (e : Beside) (ahead tail : List Role) (total fuel : ℕ) → AllSettle e ahead tail total fuel → EachCloses e ahead tail total (suc fuel) → AllSettle e ahead tail total (suc fuel)
-unfolding size
 all_settle e ahead tail total fuel all each done [] u runs m small =
     subst (λ (xs : List Atom). Settles e ahead tail total xs (fold reader.run_step u runs).roles) (sym (emphasis_end fuel done)) (ends e ahead tail total done u runs m)
 all_settle e ahead tail total fuel all each done (Whole i ∷ rest) u runs m small =

@@ -1,5 +1,5 @@
 -- The first pass over a content, token by token.
-use Rattle.std.proofs.Common.{◌≡◌, ℕ, zero, suc, ◌+◌, ◌-◌, ◌^◌, ◌<◌, ◌≤◌, Bool, true, false, nat_lt, List, [], ◌∷◌, ◌++◌, length, drop, replicate, refl, ap, sym, subst, ◌∙◌, arith, append-nil}
+use Rattle.std.proofs.Common.{◌≡◌, ℕ, zero, suc, ◌+◌, ◌-◌, ◌^◌, ◌<◌, ◌≤◌, Bool, true, false, nat_lt, List, [], ◌∷◌, ◌++◌, length, take, drop, replicate, reverse, refl, ap, sym, subst, ◌∙◌, arith, append-nil}
 use Rattle.std.proofs.lemmas.Bool.Decides.{nat_tests}
 use Rattle.std.proofs.Math.Seq.{drop-length}
 use Rattle.std.specs.Prelude.{Option, slice_get}
@@ -9,22 +9,25 @@ use Rattle.tocmark_read_inlines.specs.Inlines.{scan_start}
 use Rattle.tocmark_read_inlines.specs.Scan.{State, Known, ahead_in, settled, scanned_in}
 use Rattle.tocmark_read_inlines.specs.Write.{written}
 use Rattle.tocmark_read_spans.specs.declared.definitions.Entry.{Entry}
+use Rattle.tocmark_read_spans.specs.Emphasis.{emphasized}
+use Rattle.tocmark_read_spans.specs.declared.role.Role.{Role}
 use Rattle.tocmark_read_spans.specs.declared.role.Role.TheVariants as role
 use Rattle.tocmark_read_spans.specs.declared.role.Stretch.{Stretch}
 use Rattle.tocmark_read_spans.specs.declared.role.Target.{Target}
+use Rattle.tocmark_read_spans.specs.declared.run.Run.{Run}
 use Rattle.tocmark_commonmark.specs.InlineTree.{Atom}
 use Rattle.tocmark_commonmark.specs.Inlines.{scanned, scanned_at, scanned_if, inlines}
 use Rattle.tocmark_commonmark.specs.Links.{Destination}
 use Rattle.tocmark_commonmark.specs.Tokens.{Kind, kind_of, Token}
 use Rattle.tocmark_inline_laws.specs.Said.{commonmark, node_said, state_said, said, declared}
-use Rattle.tocmark_inline_laws.proofs.Atoms.{with_more, trail_says}
+use Rattle.tocmark_inline_laws.proofs.Atoms.{with_more}
 use Rattle.tocmark_inline_laws.proofs.Flow.{Flow, Beside, flow_step, flow_start, written_flows}
 use Rattle.tocmark_inline_laws.proofs.Passes.{step}
 use Rattle.tocmark_inline_laws.proofs.Places.{clean_front}
-use Rattle.tocmark_inline_laws.proofs.Sim.{beside, runs_of, weight, Sim, Goes}
+use Rattle.tocmark_inline_laws.proofs.Sim.{beside, runs_of, weight, kept_of, Sim, Goes}
 use Rattle.tocmark_inline_laws.proofs.Stretches.{got, not_got}
-use Rattle.tocmark_inline_laws.proofs.Unmatched.{unmatched}
-use Rattle.tocmark_inline_laws.proofs.Flat.{flat_emphasized}
+use Rattle.tocmark_inline_laws.proofs.Held.{Lead}
+use Rattle.tocmark_inline_laws.proofs.Settling.{trail_leads, weight_turned, Emphasizes, lead_emphasizes}
 
 -- both go on at a place with these atoms, and what holds of the places of tokens holds there
 pub record Next (P : ℕ → List Atom → Type 0) (bytes : List ℕ) (ahead : Known) (defs : List ℕ → Option Entry) (labels : List Destination) (p : ℕ) (s : State) (done : List Atom) (b : ℕ) (k : Kind) : Type 0 where
@@ -90,23 +93,36 @@ starts bytes targets texts missed = record {
   roles = ap (λ n. replicate n role.Plain) (let k : length bytes ≡ length bytes - 0 = omega arith in k);
   long = refl;
   trail = refl;
-  flat = tt;
+  closed = tt;
   light = omega arith;
   runs = refl;
   brackets = refl;
   clean = clean_front bytes;
 }
 
+none_taken : (rs : List Run) → take 0 rs ≡ []
+none_taken [] = refl
+none_taken (r ∷ rs) = refl
+
+all_dropped : (rs : List Run) → drop 0 rs ≡ rs
+all_dropped [] = refl
+all_dropped (r ∷ rs) = refl
+
+settled_all : (s : State) → settled 0 s ≡ record s { roles = emphasized s.roles s.runs; runs = [] }
+unfolding settled
+settled_all s = ap (λ (rs : List Run). record s { roles = emphasized s.roles rs; runs = take 0 s.runs }) (all_dropped s.runs) ∙ ap (λ (rs : List Run). record s { roles = emphasized s.roles s.runs; runs = rs }) (none_taken s.runs)
+
+weight_same : (atoms : List Atom) → weight (runs_of (reverse atoms)) ≡ weight (runs_of atoms)
+weight_same atoms = ap (λ xs. weight (runs_of xs)) (sym (append-nil (reverse atoms))) ∙ weight_turned atoms [] ∙ (let k : weight (runs_of atoms) + 0 ≡ weight (runs_of atoms) = omega arith in k)
+
 -- where each token is read as declared, the whole content is
 pub read_as_declared : (P : ℕ → List Atom → Type 0) (bytes : List ℕ) (defs : List ℕ → Option Entry) (labels : List Destination) (targets : List Target) (texts : List ℕ) (missed : List Stretch) → length bytes + 2 < 2 ^ 64 → P 0 [] → GoesOn P bytes (ahead_in commonmark bytes) defs labels → said bytes defs targets texts missed ≡ declared 0 (inlines labels bytes)
 unfolding scanned_in inlines
 read_as_declared P bytes defs labels targets texts missed fits front each =
-    ap (state_said bytes) (ap (settled 0) ends.same ∙ unmatched s atoms a.runs a.flat (let l : weight (runs_of atoms) ≤ length bytes = a.light in omega arith))
-    ∙ ap (λ rs. flat_map (node_said bytes s.texts s.targets) (written rs 0)) roles
-    ∙ written_flows (beside bytes s) a.front long (omega arith)
-    ∙ ap (λ (e : Beside). (fold (flow_step e) flow_start a.front).out) same
-    ∙ ap (λ (f : Flow). f.out) (trail_says (beside bytes s) 0 a.front atoms a.trail)
-    ∙ ap (declared 0) (sym (flat_emphasized atoms a.flat))
+    ap (state_said bytes) (ap (settled 0) ends.same ∙ settled_all s ∙ ap (λ (rs : List Role). record s { roles = rs; runs = [] }) (ap (λ rs. emphasized rs s.runs) roles ∙ ap (emphasized (a.front ++ [])) a.runs ∙ m.are ∙ append-nil m.roles))
+    ∙ written_flows (beside bytes s) m.roles (m.long ∙ long) (omega arith)
+    ∙ ap (λ (e : Beside). (fold (flow_step e) flow_start m.roles).out) same
+    ∙ ap (λ (f : Flow). f.out) (m.shows [] [] 0 [])
   where
     atoms : List Atom
     atoms = scanned (length bytes + 1) bytes labels 0 []
@@ -120,11 +136,21 @@ read_as_declared P bytes defs labels targets texts missed fits front each =
     a : Sim bytes (length bytes) s atoms
     a = ends.sim
 
-    roles : s.roles ≡ a.front
-    roles = a.roles ∙ ap (λ n. a.front ++ replicate n role.Plain) (let k : length bytes - length bytes ≡ 0 = omega arith in k) ∙ append-nil a.front
-
     long : length a.front ≡ length bytes
     long = a.long
+
+    roles : s.roles ≡ a.front ++ []
+    roles = a.roles ∙ ap (λ n. a.front ++ replicate n role.Plain) (let k : length bytes - length bytes ≡ 0 = omega arith in k)
+
+    m : Emphasizes (beside bytes s) [] a.front [] (reverse atoms) (kept_of atoms)
+    m = lead_emphasizes (beside bytes s) [] a.front [] (reverse atoms) (kept_of atoms) lead (let w : weight (runs_of (reverse atoms)) ≡ weight (runs_of atoms) = weight_same atoms in let l : weight (runs_of atoms) ≤ length bytes = a.light in omega (arith, w)) (omega (arith, long))
+      where
+        lead : Lead (beside bytes s) 0 a.front (reverse atoms) (kept_of atoms)
+        lead =
+            subst (λ (rs : List Role). Lead (beside bytes s) 0 rs (reverse atoms) (kept_of atoms)) (append-nil a.front)
+            (subst (λ (xs : List Atom). Lead (beside bytes s) 0 (a.front ++ []) xs (kept_of atoms)) (append-nil (reverse atoms))
+            (subst (λ (rs : List Run). Lead (beside bytes s) 0 (a.front ++ []) (reverse atoms ++ []) rs) (append-nil (kept_of atoms))
+            (trail_leads (beside bytes s) a.front atoms a.trail [] [] [] (refl, refl))))
 
     same : beside bytes s ≡ with_more (beside bytes s) [] []
     same = ap (λ (ts : List ℕ). record (beside bytes s) { texts = ts }) (sym (append-nil s.texts)) ∙ ap (λ (gs : List Target). record (beside bytes s) { texts = s.texts ++ []; targets = gs }) (sym (append-nil s.targets))

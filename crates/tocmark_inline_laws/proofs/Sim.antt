@@ -10,12 +10,11 @@ use Rattle.tocmark_read_spans.specs.declared.role.Role.{Role}
 use Rattle.tocmark_read_spans.specs.declared.role.Role.TheVariants as role
 use Rattle.tocmark_read_spans.specs.declared.role.Target.{Target}
 use Rattle.tocmark_read_spans.specs.declared.run.Run.{Run}
-use Rattle.tocmark_commonmark.specs.InlineTree.{Inline, Atom, Whole, Delimiters, Opening, as_inline}
+use Rattle.tocmark_commonmark.specs.InlineTree.{Inline, Atom, Whole, Delimiters, Opening}
 use Rattle.tocmark_commonmark.specs.Tokens.{Token, token}
-use Rattle.tocmark_inline_laws.specs.Statement.{runs_after, is_flat}
 use Rattle.tocmark_inline_laws.proofs.Flow.{Beside}
 use Rattle.tocmark_inline_laws.proofs.Stretches.{cut_length, first_cut, none}
-use Rattle.tocmark_inline_laws.proofs.Atoms.{with_more, Shows, Trail, trail_more}
+use Rattle.tocmark_inline_laws.proofs.Atoms.{with_more, Stands, Trail, trail_more}
 use Rattle.tocmark_inline_laws.proofs.Passes.{step, passed_by}
 
 -- what is beside a content in a state
@@ -30,17 +29,23 @@ is_gap c = (c == 32) || (c == 10)
 abbrev pub Clean : List ℕ → ℕ → Type 0
 Clean bytes p = (c : ℕ) → slice_get bytes p ≡ Some c → is_gap c ≡ true → before_space bytes p ≡ None
 
+-- the delimiter runs so far, the last one first
+abbrev pub runs_after : List Run → Atom → List Run
+runs_after runs (Whole i) = runs
+runs_after runs (Delimiters r) = r ∷ runs
+runs_after runs (Opening b) = runs
+
 -- the delimiter runs among atoms
 abbrev pub runs_of : List Atom → List Run
 runs_of [] = []
 runs_of (a ∷ done) = runs_after (runs_of done) a
 
--- all atoms are inlines, or runs of `*` or `_` that match none before them
-abbrev pub AreFlat : List Atom → Type 0
-AreFlat [] = ⊤
-AreFlat (Whole i ∷ done) = AreFlat done
-AreFlat (Delimiters r ∷ done) = (is_flat (runs_of done) (Delimiters r) ≡ true) × ((r.byte == 126) ≡ false) × AreFlat done
-AreFlat (Opening b ∷ done) = ⊥
+-- no atom is an opening bracket
+abbrev pub NoneOpens : List Atom → Type 0
+NoneOpens [] = ⊤
+NoneOpens (Whole i ∷ done) = NoneOpens done
+NoneOpens (Delimiters r ∷ done) = NoneOpens done
+NoneOpens (Opening b ∷ done) = ⊥
 
 -- how long runs are
 abbrev pub weight : List Run → ℕ
@@ -68,7 +73,7 @@ pub record Sim (bytes : List ℕ) (p : ℕ) (s : State) (done : List Atom) : Typ
   pub roles : s.roles ≡ front ++ replicate (length bytes - p) role.Plain
   pub long : length front ≡ p
   pub trail : Trail (beside bytes s) front done
-  pub flat : AreFlat done
+  pub closed : NoneOpens done
   pub light : weight (runs_of done) ≤ p
   pub runs : s.runs ≡ kept_of done
   pub brackets : s.brackets ≡ []
@@ -90,7 +95,7 @@ pub record TookAtom (bytes : List ℕ) (p end : ℕ) (s t : State) (front seg : 
   pub long : p + length seg ≡ end
   pub more_texts : t.texts ≡ s.texts ++ texts
   pub more_targets : t.targets ≡ s.targets ++ targets
-  pub shows : Shows (with_more (beside bytes s) texts targets) p seg (as_inline x)
+  pub stands : Stands (with_more (beside bytes s) texts targets) p seg x
   pub resume : t.resume ≤ end
   pub runs : t.runs ≡ kept_after s.runs x
   pub brackets : t.brackets ≡ []
@@ -100,15 +105,15 @@ abbrev pub Took : List ℕ → ℕ → ℕ → State → State → List Role →
 Took bytes p end s t front seg i = TookAtom bytes p end s t front seg (Whole i)
 
 -- the state behind a token
-pub took_atom : (bytes : List ℕ) (p end : ℕ) (s t : State) (done : List Atom) (seg : List Role) (x : Atom) (a : Sim bytes p s done) → TookAtom bytes p end s t a.front seg x → AreFlat (x ∷ done) → weight (runs_of (x ∷ done)) ≤ end → Clean bytes end → Sim bytes end (with_place end t) (x ∷ done)
-took_atom bytes p end s t done seg x a k flat light clean = record {
+pub took_atom : (bytes : List ℕ) (p end : ℕ) (s t : State) (done : List Atom) (seg : List Role) (x : Atom) (a : Sim bytes p s done) → TookAtom bytes p end s t a.front seg x → NoneOpens (x ∷ done) → weight (runs_of (x ∷ done)) ≤ end → Clean bytes end → Sim bytes end (with_place end t) (x ∷ done)
+took_atom bytes p end s t done seg x a k closed light clean = record {
   front = a.front ++ seg;
   place = refl;
   resume = k.resume;
   roles = k.roles ∙ sym (append_assoc a.front seg (replicate (length bytes - end) role.Plain));
   long = length-append a.front seg ∙ ap (λ n. n + length seg) a.long ∙ k.long;
   trail = (a.front, seg, refl, here, before);
-  flat = flat;
+  closed = closed;
   light = light;
   runs = k.runs ∙ ap (λ rs. kept_after rs x) a.runs;
   brackets = k.brackets;
@@ -118,19 +123,19 @@ took_atom bytes p end s t done seg x a k flat light clean = record {
     same : with_more (beside bytes s) k.texts k.targets ≡ beside bytes t
     same = ap (λ (ts : List ℕ). record (with_more (beside bytes s) k.texts k.targets) { texts = ts }) (sym k.more_texts) ∙ ap (λ (gs : List Target). record (beside bytes t) { targets = gs }) (sym k.more_targets)
 
-    here : Shows (beside bytes t) (length a.front) seg (as_inline x)
-    here = subst (λ q. Shows (beside bytes t) q seg (as_inline x)) (sym a.long) (subst (λ (e : Beside). Shows e p seg (as_inline x)) same k.shows)
+    here : Stands (beside bytes t) (length a.front) seg x
+    here = subst (λ q. Stands (beside bytes t) q seg x) (sym a.long) (subst (λ (e : Beside). Stands e p seg x) same k.stands)
 
     before : Trail (beside bytes t) a.front done
     before = subst (λ (e : Beside). Trail e a.front done) same (trail_more (beside bytes s) k.texts k.targets a.front done a.trail)
 
 -- an inline
 pub took_sim : (bytes : List ℕ) (p end : ℕ) (s t : State) (done : List Atom) (seg : List Role) (i : Inline) (a : Sim bytes p s done) → Took bytes p end s t a.front seg i → Clean bytes end → Sim bytes end (with_place end t) (Whole i ∷ done)
-took_sim bytes p end s t done seg i a k clean = took_atom bytes p end s t done seg (Whole i) a k a.flat (let l : p + length seg ≡ end = k.long in let m : weight (runs_of done) ≤ p = a.light in omega arith) clean
+took_sim bytes p end s t done seg i a k clean = took_atom bytes p end s t done seg (Whole i) a k a.closed (let l : p + length seg ≡ end = k.long in let m : weight (runs_of done) ≤ p = a.light in omega arith) clean
 
 -- a token of which the first byte is read, and the others are passed by
-pub goes_atom : (bytes : List ℕ) (ahead : Known) (defs : List ℕ → Option Entry) (p end b : ℕ) (s t : State) (done : List Atom) (seg : List Role) (x : Atom) (a : Sim bytes p s done) → TookAtom bytes p end s t a.front seg x → AreFlat (x ∷ done) → weight (runs_of (x ∷ done)) ≤ end → Clean bytes end → p < end → end ≤ length bytes → length bytes + 1 < 2 ^ 64 → byte_at bytes p ≡ b → step bytes ahead defs s b ≡ next_place t → t.place ≡ p → end ≤ suc p + (t.resume - suc p) → Goes bytes ahead defs p s done (record { atom = x; end = end })
-goes_atom bytes ahead defs p end b s t done seg x a k flat light clean more in_it fits is looked at far = record {
+pub goes_atom : (bytes : List ℕ) (ahead : Known) (defs : List ℕ → Option Entry) (p end b : ℕ) (s t : State) (done : List Atom) (seg : List Role) (x : Atom) (a : Sim bytes p s done) → TookAtom bytes p end s t a.front seg x → NoneOpens (x ∷ done) → weight (runs_of (x ∷ done)) ≤ end → Clean bytes end → p < end → end ≤ length bytes → length bytes + 1 < 2 ^ 64 → byte_at bytes p ≡ b → step bytes ahead defs s b ≡ next_place t → t.place ≡ p → end ≤ suc p + (t.resume - suc p) → Goes bytes ahead defs p s done (record { atom = x; end = end })
+goes_atom bytes ahead defs p end b s t done seg x a k closed light clean more in_it fits is looked at far = record {
   after = with_place end t;
   same =
       ap (fold (step bytes ahead defs) s) (first_cut bytes p end more in_it)
@@ -138,7 +143,7 @@ goes_atom bytes ahead defs p end b s t done seg x a k flat light clean more in_i
       ∙ by_resume (nat_le end t.resume) refl;
   further = more;
   within = in_it;
-  sim = took_atom bytes p end s t done seg x a k flat light clean;
+  sim = took_atom bytes p end s t done seg x a k closed light clean;
 }
   where
     xs : List ℕ
@@ -158,4 +163,4 @@ goes_atom bytes ahead defs p end b s t done seg x a k flat light clean more in_i
 
 -- an inline
 pub goes_by : (bytes : List ℕ) (ahead : Known) (defs : List ℕ → Option Entry) (p end b : ℕ) (s t : State) (done : List Atom) (seg : List Role) (i : Inline) (a : Sim bytes p s done) → Took bytes p end s t a.front seg i → Clean bytes end → p < end → end ≤ length bytes → length bytes + 1 < 2 ^ 64 → byte_at bytes p ≡ b → step bytes ahead defs s b ≡ next_place t → t.place ≡ p → end ≤ suc p + (t.resume - suc p) → Goes bytes ahead defs p s done (token i end)
-goes_by bytes ahead defs p end b s t done seg i a k clean more in_it fits is looked at far = goes_atom bytes ahead defs p end b s t done seg (Whole i) a k a.flat (let m : weight (runs_of done) ≤ p = a.light in omega arith) clean more in_it fits is looked at far
+goes_by bytes ahead defs p end b s t done seg i a k clean more in_it fits is looked at far = goes_atom bytes ahead defs p end b s t done seg (Whole i) a k a.closed (let m : weight (runs_of done) ≤ p = a.light in omega arith) clean more in_it fits is looked at far

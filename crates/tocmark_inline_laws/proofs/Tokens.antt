@@ -37,7 +37,7 @@ added bytes p end s t front seg i roles long same_texts same_targets shows resum
   long = long;
   more_texts = same_texts ∙ sym (append-nil s.texts);
   more_targets = same_targets ∙ sym (append-nil s.targets);
-  shows = shows_more (beside bytes s) [] [] p seg i shows;
+  stands = shows_more (beside bytes s) [] [] p seg i shows;
   resume = resume;
   runs = runs;
   brackets = brackets;
@@ -95,7 +95,7 @@ leaf_goes bytes ahead defs p b end s t done l i more a further in_it fits is mar
       long = long;
       more_texts = refl;
       more_targets = sym (append-nil s.targets);
-      shows = leaf_shows (with_more (beside bytes s) more []) p end l (replicate (end - suc p) role.Plain) (let q : length (replicate (end - suc p) role.Plain) ≡ end - suc p = length-replicate (end - suc p) role.Plain in omega arith) i says;
+      stands = leaf_shows (with_more (beside bytes s) more []) p end l (replicate (end - suc p) role.Plain) (let q : length (replicate (end - suc p) role.Plain) ≡ end - suc p = length-replicate (end - suc p) role.Plain in omega arith) i says;
       resume = omega arith;
       runs = refl;
       brackets = a.brackets;

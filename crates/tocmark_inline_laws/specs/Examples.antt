@@ -1,25 +1,25 @@
--- Contents of which all tokens are flat, and contents that have others.
+-- Contents of which no token is an opening bracket, and contents that have one.
 use Rattle.std.specs.Prelude.{◌≡◌, ℕ, Bool, true, false, List, [], ◌∷◌, length, codes, ⊤}
-use Rattle.tocmark_inline_laws.specs.Statement.{are_flat}
+use Rattle.tocmark_inline_laws.specs.Statement.{none_opens}
 
--- names and products, code, a comment, an address, a tag, escapes, a closing bracket alone, and runs that match no other
-abbrev pub flat_contents : List (List ℕ)
-flat_contents =
-    codes "a snake_case name, 2 * 3 * 4, and 2*3 = 6"
-    ∷ codes "`a*b*` and <!-- _c_ -->"
-    ∷ codes "<https://a.b/*c*> and <i id=\"[d]\">"
-    ∷ codes "\\*a\\*, &amp; b]\nand c_, *d"
+-- emphasis, names and products, code, a comment, an address, a tag, escapes, and a closing bracket alone
+abbrev pub unopened_contents : List (List ℕ)
+unopened_contents =
+    codes "a snake_case name, *2* * __3 *4*__, and 2*3 = 6"
+    ∷ codes "`[a](b)` and <!-- [c] -->"
+    ∷ codes "<https://a.b/[c]> and <i id=\"[d]\">"
+    ∷ codes "\\[a], &amp; b]\nand !"
     ∷ []
 
--- emphasis, and the text of a link or an image
-abbrev pub other_contents : List (List ℕ)
-other_contents = codes "*a*" ∷ codes "2*3*4" ∷ codes "[a" ∷ codes "![a](b)" ∷ []
+-- the text of a link or an image, and a bracket alone
+abbrev pub opened_contents : List (List ℕ)
+opened_contents = codes "[a](b)" ∷ codes "![a](b)" ∷ codes "*a [b*" ∷ []
 
--- whether the tokens of contents are flat
-abbrev pub AreFlatOrNot : Bool → List (List ℕ) → Type 0
-AreFlatOrNot flat [] = ⊤
-AreFlatOrNot flat (c ∷ cs) = (are_flat (length c) [] c 0 ≡ flat) × AreFlatOrNot flat cs
+-- whether no token of contents is an opening bracket
+abbrev pub AreClosedOrNot : Bool → List (List ℕ) → Type 0
+AreClosedOrNot closed [] = ⊤
+AreClosedOrNot closed (c ∷ cs) = (none_opens (length c) c 0 ≡ closed) × AreClosedOrNot closed cs
 
 -- these are as they are said to be
 abbrev pub ExamplesAreRight : Type 0
-ExamplesAreRight = AreFlatOrNot true flat_contents × AreFlatOrNot false other_contents
+ExamplesAreRight = AreClosedOrNot true unopened_contents × AreClosedOrNot false opened_contents

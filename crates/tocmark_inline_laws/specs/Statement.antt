@@ -4,8 +4,6 @@ use Rattle.std.specs.List.{list_any}
 use Rattle.tocmark_read_spans.specs.declared.definitions.Entry.{Entry}
 use Rattle.tocmark_read_spans.specs.declared.role.Stretch.{Stretch}
 use Rattle.tocmark_read_spans.specs.declared.role.Target.{Target}
-use Rattle.tocmark_read_spans.specs.declared.run.Run.{Run}
-use Rattle.tocmark_commonmark.specs.Emphasis.{can_match}
 use Rattle.tocmark_commonmark.specs.InlineTree.{Atom, Whole, Delimiters, Opening}
 use Rattle.tocmark_commonmark.specs.Inlines.{inlines}
 use Rattle.tocmark_commonmark.specs.Links.{Destination, first_of}
@@ -30,40 +28,30 @@ IsReadAsDeclared bytes =
     (labels : List Destination) (definitions : List ℕ → Option Entry) (targets : List Target) (texts : List ℕ) (missed : List Stretch)
     → LeadAlike texts definitions labels → said bytes definitions targets texts missed ≡ declared 0 (inlines labels bytes)
 
--- the delimiter runs so far, the last one first
-abbrev pub runs_after : List Run → Atom → List Run
-runs_after runs (Whole i) = runs
-runs_after runs (Delimiters r) = r ∷ runs
-runs_after runs (Opening b) = runs
+-- an atom is an opening bracket
+abbrev pub is_opening : Atom → Bool
+is_opening (Whole i) = false
+is_opening (Delimiters r) = false
+is_opening (Opening b) = true
 
--- an atom after these runs: it is neither an opening bracket nor a run that matches one of them
-abbrev pub is_flat : List Run → Atom → Bool
-is_flat runs (Whole i) = true
-is_flat runs (Delimiters r) = not (r.closes && list_any (λ o. can_match o r) runs)
-is_flat runs (Opening b) = false
-
--- this token is flat, and so are those after it
-abbrev pub and_flat : (List Run → ℕ → Bool) → List Run → Token → Bool
-and_flat next runs t = is_flat runs t.atom && next (runs_after runs t.atom) t.end
+-- this token is no opening bracket, and none after it is
+abbrev pub and_closed : (ℕ → Bool) → Token → Bool
+and_closed next t = not (is_opening t.atom) && next t.end
 
 -- the end, or a token
-abbrev pub flat_at : (List Run → ℕ → Bool) → List Run → List ℕ → ℕ → Option ℕ → Bool
-flat_at next runs bytes place None = true
-flat_at next runs bytes place (Some b) = and_flat next runs (token_at bytes place b (kind_of b))
+abbrev pub closed_at : (ℕ → Bool) → List ℕ → ℕ → Option ℕ → Bool
+closed_at next bytes place None = true
+closed_at next bytes place (Some b) = and_closed next (token_at bytes place b (kind_of b))
 
--- whether all tokens from a place on are flat, after these runs; fuel counts down, because each token takes a byte
-unfoldable pub are_flat : ℕ → List Run → List ℕ → ℕ → Bool
-are_flat zero runs bytes place = true
-are_flat (suc fuel) runs bytes place = flat_at (λ rs p. are_flat fuel rs bytes p) runs bytes place (slice_get bytes place)
+-- whether no token from a place on is an opening bracket; fuel counts down, because each token takes a byte
+unfoldable pub none_opens : ℕ → List ℕ → ℕ → Bool
+none_opens zero bytes place = true
+none_opens (suc fuel) bytes place = closed_at (λ p. none_opens fuel bytes p) bytes place (slice_get bytes place)
 
--- 2.4, 2.5, 6.1 and 6.5 to 6.9: contents of which all tokens are flat are read as declared
-abbrev pub FlatContentsAreReadAsDeclared : Type 0
-FlatContentsAreReadAsDeclared = (bytes : List ℕ) → length bytes + 2 < 2 ^ 64 → are_flat (length bytes) [] bytes 0 ≡ true → IsReadAsDeclared bytes
+-- 2.4, 2.5, 6.1, 6.2 and 6.5 to 6.9: contents of which no token is an opening bracket are read as declared
+abbrev pub UnopenedContentsAreReadAsDeclared : Type 0
+UnopenedContentsAreReadAsDeclared = (bytes : List ℕ) → length bytes + 2 < 2 ^ 64 → none_opens (length bytes) bytes 0 ≡ true → IsReadAsDeclared bytes
 
--- a byte that may begin emphasis, or the text of a link or an image
-abbrev pub begins_span : ℕ → Bool
-begins_span b = (b == 42) || (b == 95) || (b == 91)
-
--- the same: contents without such a byte are read as declared
-abbrev pub AnglesAreReadAsDeclared : Type 0
-AnglesAreReadAsDeclared = (bytes : List ℕ) → length bytes + 2 < 2 ^ 64 → list_any begins_span bytes ≡ false → IsReadAsDeclared bytes
+-- the same: contents without an opening bracket are read as declared
+abbrev pub BracketlessContentsAreReadAsDeclared : Type 0
+BracketlessContentsAreReadAsDeclared = (bytes : List ℕ) → length bytes + 2 < 2 ^ 64 → list_any (λ b. b == 91) bytes ≡ false → IsReadAsDeclared bytes
