@@ -11,7 +11,7 @@ use Rattle.std.proofs.lemmas.List.Sums.{prefix_len-le-length}
 use Rattle.tocmark_event.specs.declared.event.HeadingLevel.{HeadingLevel}
 use Rattle.tocmark_read_scan.specs.Basic.{plus, bytes_between}
 use Rattle.tocmark_read_lines.specs.Cells.{bytes_of, cell_byte, run_of, count_of, ink_from, part, trailing, trimmed, indent_of}
-use Rattle.tocmark_read_lines.specs.Marks.{level_of, is_behind, heading_end_before, heading_from, heading_at, is_fence_byte, fence_at, tail_length, tail_of, is_rule_byte, is_rule, underline_at, digit_count, bullet_at, ordered_at, marker_at}
+use Rattle.tocmark_read_lines.specs.Marks.{level_of, is_behind, heading_end_before, heading_from, heading_at, is_fence_byte, fence_at, closes_fence, tail_length, tail_of, is_rule_byte, is_rule, underline_at, digit_count, bullet_at, ordered_at, marker_at}
 use Rattle.tocmark_read_lines.specs.declared.beginnings.Heading.{Heading}
 use Rattle.tocmark_read_lines.specs.declared.beginnings.Fence.{Fence}
 use Rattle.tocmark_read_lines.specs.declared.cell.Cell.{Cell}
@@ -155,6 +155,38 @@ fence_on n w r there here h t e =
     by : (k : Bool) → (if k then Some (record { byte = b; count = marks; indent = n - there.column }) else None) ≡ option_map (fence_indented (n - there.column)) (if k then Some (record { byte = b; count = marks; indent = 0 - here.column }) else None)
     by true = refl
     by false = refl
+
+pub closes_on : (n : ℕ) (w r : List Cell) (there here : Cursor) (f : Fence) → Behind n w r → there.ink ≡ n → here.ink ≡ 0 → closes_fence w there f ≡ nat_le (indent_of there) 3 && closes_fence r here f
+unfolding closes_fence
+closes_on n w r there here f h t e =
+    rw (t, e, run, far, near, ink_on n w r marks h low, length_on n w r h, le_on n (length r) (ink_from r marks), none) (by (nat_le (n - there.column) 3) (nat_le f.count marks) (nat_le (length r) (ink_from r marks)))
+  where
+    marks : ℕ
+    marks = run_of r 0 f.byte
+
+    low : marks ≤ length r
+    low = omega (arith, run_low r 0 f.byte (omega arith))
+
+    fits : n + length r + 3 < 2 ^ 64
+    fits = h.fits
+
+    none : nat_le (0 - here.column) 3 ≡ true
+    none = let q : 0 - here.column ≤ 3 = omega arith in grind (arith, q, nat_tests)
+
+    run : run_of w n f.byte ≡ marks
+    run = ap (λ k. run_of w k f.byte) (let q : n ≡ n + 0 = omega arith in q) ∙ run_on n w r 0 f.byte h
+
+    far : plus n marks ≡ n + marks
+    far = plus_low n marks (omega (arith, low, fits))
+
+    near : plus 0 marks ≡ marks
+    near = plus_zero marks (omega (arith, low, fits))
+
+    by : (x y z : Bool) → (x && y && z) ≡ (x && (true && y && z))
+    by true true true = refl
+    by true true false = refl
+    by true false z = refl
+    by false y z = refl
 
 -- underlines
 

@@ -1,5 +1,5 @@
 -- A page without open containers, and what a line makes of it.
-use Rattle.std.proofs.Common.{◌≡◌, ℕ, zero, suc, ◌+◌, ◌-◌, ◌^◌, ◌<◌, Bool, true, false, ◌==◌, nat_lt, nat_le, List, [], ◌∷◌, ◌++◌, length, slice_get, refl, ap, sym, ◌∙◌, arith, append_assoc, length-append, Some, None}
+use Rattle.std.proofs.Common.{◌≡◌, ℕ, zero, suc, ◌+◌, ◌-◌, ◌^◌, ◌<◌, Bool, true, false, ◌==◌, nat_lt, nat_le, List, [], ◌∷◌, ◌++◌, length, take, slice_get, refl, ap, sym, ◌∙◌, arith, append_assoc, append-nil, length-append, Some, None}
 use Rattle.std.proofs.Math.Seq.{take-length}
 use Rattle.std.specs.Prelude.{slice_set}
 use Rattle.std.proofs.lemmas.Bool.Decides.{nat_tests}
@@ -13,20 +13,22 @@ use Rattle.tocmark_read_scan.proofs.Repeats.{repeated_stop, repeated_zero}
 use Rattle.tocmark_read_lines.specs.Cells.{cell_place}
 use Rattle.tocmark_read_lines.specs.Containers.{container_in, raised_at}
 use Rattle.tocmark_read_lines.specs.Marks.{tail_of}
+use Rattle.tocmark_read_lines.specs.declared.beginnings.Heading.{Heading}
 use Rattle.tocmark_read_lines.specs.declared.cell.Cell.{Cell}
 use Rattle.tocmark_read_lines.specs.declared.line.Line.{Line}
 use Rattle.tocmark_read_page.specs.Definitions.{begins_definition, definitions_from}
 use Rattle.tocmark_read_page.specs.Leaves.{is_paragraph}
 use Rattle.tocmark_read_page.specs.Pages.{State, leaf_opened, leaf_closed, closed_to, times, list_left, begun, loosened, had_marked, list_of, is_apart, leaf_finished, finished, settled, shortened, has_text, piece_taken, one_closed}
-use Rattle.tocmark_read_page.specs.Pieces.{text_piece, whole_place}
+use Rattle.tocmark_read_page.specs.Pieces.{text_piece, heading_piece, whole_place}
 use Rattle.tocmark_read_page.specs.declared.line_start.LineStart.{LineStart}
 use Rattle.tocmark_read_page.specs.declared.page.Block.{Block}
 use Rattle.tocmark_read_page.specs.declared.page.BlockKind.{BlockKind}
 use Rattle.tocmark_read_page.specs.declared.page.BlockKind.TheVariants as kind
 use Rattle.tocmark_read_page.specs.declared.page.HeaderLine.TheVariants.{Never}
 use Rattle.tocmark_read_page.specs.declared.piece.Piece.{Piece}
+use Rattle.tocmark_read_page.specs.declared.leaf.Leaf.{Leaf}
 use Rattle.tocmark_read_page.specs.declared.leaf.Leaf.TheVariants as leaf
-use Rattle.tocmark_read_constructs.specs.Headings.{underlined, underlined_in}
+use Rattle.tocmark_read_constructs.specs.Headings.{heading_put, heading_started_in, underlined, underlined_in}
 use Rattle.tocmark_read_constructs.specs.Metadata.{metadata_in}
 use Rattle.tocmark_read_constructs.specs.Quotes.{quote_kind_in, tag_in}
 use Rattle.tocmark_read_constructs.specs.Tasks.{task_in}
@@ -54,6 +56,24 @@ closed bs ps end number kept = record {
   opened = [];
   quotes = [];
   leaf = leaf.Nothing;
+  end = end;
+  line = number;
+  kept = kept;
+  header = Never;
+  tried = 0;
+  left = None;
+  filled = 0;
+}
+
+-- a page with an open leaf, which has a block of this kind
+abbrev pub leaf_page : Leaf → BlockKind → List Block → ℕ → List Piece → ℕ → ℕ → ℕ → ℕ → State
+leaf_page lf k bs first ps kept start end number = record {
+  blocks = bs ++ block k start start first first ∷ [];
+  pieces = ps;
+  definitions = [];
+  opened = [];
+  quotes = [];
+  leaf = lf;
   end = end;
   line = number;
   kept = kept;
@@ -100,6 +120,13 @@ set_behind (z ∷ xs) x y = ap (λ l. z ∷ l) (set_behind xs x y)
 set_last : {A : Type 0} (xs : List A) (x y : A) → slice_set (xs ++ x ∷ []) (length (xs ++ x ∷ []) - 1) y ≡ xs ++ y ∷ []
 set_last xs x y = ap (λ n. slice_set (xs ++ x ∷ []) n y) (last_place xs x) ∙ set_behind xs x y
 
+-- the open leaf ends
+page_finished : (lf : Leaf) (k : BlockKind) (bs : List Block) (first : ℕ) (ps qs : List Piece) (kept start end number : ℕ) → take kept ps ≡ qs
+    → leaf_finished (leaf_page lf k bs first ps kept start end number) ≡ closed (bs ++ block k start end first (length qs) ∷ []) qs end number kept
+unfolding leaf_finished finished raised_at
+page_finished lf k bs first ps qs kept start end number h =
+    rw (h, get_last bs (block k start start first first), set_last bs (block k start start first first) (block k start end first (length qs))) refl
+
 -- what a line begins comes into the page
 
 opens_none : (text : List ℕ) (cells : List Cell) (l : Line) (n : ℕ) (s : State) → ((p : Bool) → container_in CORE cells (tail_of cells) (at_ink n) p ≡ None) → containers_opened text cells l (tail_of cells) (here n) s ≡ (s, here n)
@@ -111,7 +138,7 @@ opens_none text cells l n s none = by (length cells)
     by (suc m) = repeated_stop (container_once text cells l (tail_of cells)) (suc m) (here n) s s (omega arith) (sym (ap (begun_at text cells l (here n) s) (none (goes_directly 0 s))))
 
 pub closed_begins : (text : List ℕ) (l : Line) (f : Facts text l) (bs : List Block) (ps : List Piece) (end number kept : ℕ)
-    → line_taken text (closed bs ps end number kept) l ≡ started (start_as f.blank None f.rule) text f.columns l (tail_of f.columns) (here f.spaces) (closed bs ps end number kept)
+    → line_taken text (closed bs ps end number kept) l ≡ started (start_as f.spaces false f.level f.kind) text f.columns l (tail_of f.columns) (here f.spaces) (closed bs ps end number kept)
 unfolding line_taken_in cells_taken_in passed_in touched turn_in turn_of leaf_turn leaf_started_in metadata_in metadata_or task_in task_or quote_kind_in quote_kind_or tag_in tag_or goes_directly is_paragraph
 closed_begins text l f bs ps end number kept =
     let s : State = closed bs ps end number kept in
@@ -121,7 +148,7 @@ closed_begins text l f bs ps end number kept =
     ∙ ap (λ k. started k text f.columns l (tail_of f.columns) (here f.spaces) s) (f.starts false)
 
 pub open_begins : (text : List ℕ) (l : Line) (f : Facts text l) (bs : List Block) (ps qs : List Piece) (start end number : ℕ)
-    → line_taken text (paragraph_page bs ps qs start end number) l ≡ started (start_as f.blank f.level f.rule) text f.columns l (tail_of f.columns) (here f.spaces) (paragraph_page bs ps qs start end number)
+    → line_taken text (paragraph_page bs ps qs start end number) l ≡ started (start_as f.spaces true f.level f.kind) text f.columns l (tail_of f.columns) (here f.spaces) (paragraph_page bs ps qs start end number)
 unfolding line_taken_in cells_taken_in passed_in touched turn_in turn_of leaf_turn leaf_started_in metadata_in metadata_or task_in task_or quote_kind_in quote_kind_or tag_in tag_or goes_directly is_paragraph
 open_begins text l f bs ps qs start end number =
     let s : State = paragraph_page bs ps qs start end number in
@@ -144,14 +171,10 @@ blank_passes text cells l n bs ps end number kept = nothing_ends text bs ps end 
 abbrev pub rule_block : List Piece → ℕ → ℕ → Block
 rule_block ps at end = block kind.Rule at end (length ps) (length ps)
 
-rule_finished : (bs : List Block) (ps : List Piece) (at end number : ℕ) → leaf_finished (closed (bs ++ rule_block ps at at ∷ []) ps end number (length ps)) ≡ closed (bs ++ rule_block ps at end ∷ []) ps end number (length ps)
-unfolding leaf_finished finished raised_at
-rule_finished bs ps at end number = rw (take-length ps, get_last bs (rule_block ps at at), set_last bs (rule_block ps at at) (rule_block ps at end)) refl
-
 pub rule_comes : (text : List ℕ) (cells : List Cell) (l : Line) (n : ℕ) (bs : List Block) (ps : List Piece) (end number kept : ℕ)
     → started start.Rule text cells l (tail_of cells) (here n) (closed bs ps end number kept) ≡ closed (bs ++ rule_block ps (cell_place cells n l.end) l.end ∷ []) ps l.end l.number (length ps)
 unfolding started_in rule_started leaf_opened closed_to leaf_closed times list_left begun loosened had_marked list_of is_apart
-rule_comes text cells l n bs ps end number kept = rule_finished bs ps (cell_place cells n l.end) l.end l.number
+rule_comes text cells l n bs ps end number kept = page_finished leaf.Nothing kind.Rule bs (length ps) ps ps (length ps) (cell_place cells n l.end) l.end l.number (take-length ps)
 
 -- a paragraph
 
@@ -224,17 +247,11 @@ settled_none text bs ps q qs end number h fits =
     let first : plus (length ps) 0 ≡ length ps = omega (arith, fits) in
     rw (get_last bs b, drop_behind ps (q ∷ qs), h, first, get_behind ps qs q, set_last bs b b) refl
 
-finished_whole : (bs : List Block) (ps qs : List Piece) (start end number : ℕ)
-    → leaf_finished (paragraph_page bs ps qs start end number) ≡ closed (bs ++ ended_block kind.Paragraph ps qs start end ∷ []) (ps ++ qs) end number (length (ps ++ qs))
-unfolding leaf_finished finished raised_at
-finished_whole bs ps qs start end number =
-    rw (take-length (ps ++ qs), get_last bs (paragraph_block ps start), set_last bs (paragraph_block ps start) (ended_block kind.Paragraph ps qs start end)) refl
-
 pub paragraph_ends : (text : List ℕ) (bs : List Block) (ps : List Piece) (q : Piece) (qs : List Piece) (end number : ℕ) → (byte_at text q.start == 91) ≡ false → length ps + 1 < 2 ^ 64
     → closed_to text 0 (paragraph_page bs ps (q ∷ qs) q.start end number) ≡ closed (bs ++ ended_block kind.Paragraph ps (q ∷ qs) q.start end ∷ []) (ps ++ q ∷ qs) end number (length (ps ++ q ∷ qs))
 unfolding closed_to leaf_closed times
 paragraph_ends text bs ps q qs end number h fits =
-    ap (λ s. times one_closed (length s.opened - 0) s) (ap leaf_finished (settled_none text bs ps q qs end number h fits) ∙ finished_whole bs ps (q ∷ qs) q.start end number)
+    ap (λ s. times one_closed (length s.opened - 0) s) (ap leaf_finished (settled_none text bs ps q qs end number h fits) ∙ page_finished leaf.Paragraph kind.Paragraph bs (length ps) (ps ++ q ∷ qs) (ps ++ q ∷ qs) (length (ps ++ q ∷ qs)) q.start end number (take-length (ps ++ q ∷ qs)))
 
 pub blank_ends : (text : List ℕ) (cells : List Cell) (l : Line) (n : ℕ) (bs : List Block) (ps : List Piece) (q : Piece) (qs : List Piece) (end number : ℕ) → (byte_at text q.start == 91) ≡ false → length ps + 1 < 2 ^ 64
     → started start.Blank text cells l (tail_of cells) (here n) (paragraph_page bs ps (q ∷ qs) q.start end number)
@@ -255,36 +272,12 @@ rule_ends text cells l n bs ps q qs end number h fits =
 
 -- a heading with an underline
 
-abbrev heading_page : List Block → List Piece → List Piece → HeadingLevel → ℕ → ℕ → ℕ → State
-heading_page bs ps qs level start end number = record {
-  blocks = bs ++ block (kind.Heading level None) start start (length ps) (length ps) ∷ [];
-  pieces = ps ++ qs;
-  definitions = [];
-  opened = [];
-  quotes = [];
-  leaf = leaf.Paragraph;
-  end = end;
-  line = number;
-  kept = length (ps ++ qs);
-  header = Never;
-  tried = 0;
-  left = None;
-  filled = 0;
-}
-
-heading_finished : (bs : List Block) (ps qs : List Piece) (level : HeadingLevel) (start end number : ℕ)
-    → leaf_finished (heading_page bs ps qs level start end number) ≡ closed (bs ++ ended_block (kind.Heading level None) ps qs start end ∷ []) (ps ++ qs) end number (length (ps ++ qs))
-unfolding leaf_finished finished raised_at
-heading_finished bs ps qs level start end number =
-    let b : Block = block (kind.Heading level None) start start (length ps) (length ps) in
-    rw (take-length (ps ++ qs), get_last bs b, set_last bs b (ended_block (kind.Heading level None) ps qs start end)) refl
-
 underlined_page : (l : Line) (level : HeadingLevel) (bs : List Block) (ps qs : List Piece) (start end number : ℕ)
     → underlined level None l (paragraph_page bs ps qs start end number) ≡ closed (bs ++ ended_block (kind.Heading level None) ps qs start l.end ∷ []) (ps ++ qs) l.end l.number (length (ps ++ qs))
 unfolding underlined
 underlined_page l level bs ps qs start end number =
     rw (get_last bs (paragraph_block ps start), set_last bs (paragraph_block ps start) (block (kind.Heading level None) start start (length ps) (length ps)))
-    (heading_finished bs ps qs level start l.end l.number)
+    (page_finished leaf.Paragraph (kind.Heading level None) bs (length ps) (ps ++ qs) (ps ++ qs) (length (ps ++ qs)) start l.end l.number (take-length (ps ++ qs)))
 
 has_some : (bs : List Block) (ps : List Piece) (q : Piece) (qs : List Piece) (start end number : ℕ) → has_text (paragraph_page bs ps (q ∷ qs) start end number) ≡ true
 unfolding has_text
@@ -304,3 +297,42 @@ underline_comes text cells l n level bs ps q qs end number h fits =
   where
     s : State
     s = paragraph_page bs ps (q ∷ qs) q.start end number
+
+-- a heading with marks in front
+
+-- a line that is kept if it has a byte
+abbrev pub piece_if : Bool → Piece → List Piece
+piece_if true p = p ∷ []
+piece_if false p = []
+
+-- the heading's text has a byte
+abbrev pub has_words : List Cell → Heading → Line → Bool
+has_words cells h l = nat_lt (cell_place cells h.from l.end) (cell_place cells h.to l.end)
+
+abbrev pub words : List Cell → Heading → Line → List Piece
+words cells h l = piece_if (has_words cells h l) (heading_piece cells h l)
+
+heading_put_as : (text : List ℕ) (cells : List Cell) (l : Line) (n : ℕ) (h : Heading) (bs : List Block) (ps : List Piece) (end number kept : ℕ) (k : Bool) → has_words cells h l ≡ k
+    → started (start.Heading h) text cells l (tail_of cells) (here n) (closed bs ps end number kept)
+    ≡ closed (bs ++ ended_block (kind.Heading h.level None) ps (piece_if k (heading_piece cells h l)) (cell_place cells n l.end) l.end ∷ []) (ps ++ piece_if k (heading_piece cells h l)) l.end l.number (length (ps ++ piece_if k (heading_piece cells h l)))
+unfolding started_in heading_started_in heading_put piece_taken heading_piece leaf_opened closed_to leaf_closed times list_left begun loosened had_marked list_of is_apart
+heading_put_as text cells l n h bs ps end number kept true e =
+    let p : Piece = heading_piece cells h l in
+    rw e (page_finished leaf.Nothing (kind.Heading h.level None) bs (length ps) (ps ++ p ∷ []) (ps ++ p ∷ []) (length (ps ++ p ∷ [])) (cell_place cells n l.end) l.end l.number (take-length (ps ++ p ∷ [])))
+heading_put_as text cells l n h bs ps end number kept false e =
+    rw e (page_finished leaf.Nothing (kind.Heading h.level None) bs (length ps) ps ps (length ps) (cell_place cells n l.end) l.end l.number (take-length ps))
+    ∙ ap (λ (xs : List Piece). closed (bs ++ block (kind.Heading h.level None) (cell_place cells n l.end) l.end (length ps) (length xs) ∷ []) xs l.end l.number (length xs)) (sym (append-nil ps))
+
+pub heading_comes : (text : List ℕ) (cells : List Cell) (l : Line) (n : ℕ) (h : Heading) (bs : List Block) (ps : List Piece) (end number kept : ℕ)
+    → started (start.Heading h) text cells l (tail_of cells) (here n) (closed bs ps end number kept)
+    ≡ closed (bs ++ ended_block (kind.Heading h.level None) ps (words cells h l) (cell_place cells n l.end) l.end ∷ []) (ps ++ words cells h l) l.end l.number (length (ps ++ words cells h l))
+heading_comes text cells l n h bs ps end number kept = heading_put_as text cells l n h bs ps end number kept (has_words cells h l) refl
+
+pub heading_ends : (text : List ℕ) (cells : List Cell) (l : Line) (n : ℕ) (x : Heading) (bs : List Block) (ps : List Piece) (q : Piece) (qs : List Piece) (end number : ℕ) → (byte_at text q.start == 91) ≡ false → length ps + 1 < 2 ^ 64
+    → started (start.Heading x) text cells l (tail_of cells) (here n) (paragraph_page bs ps (q ∷ qs) q.start end number)
+    ≡ started (start.Heading x) text cells l (tail_of cells) (here n) (closed (bs ++ ended_block kind.Paragraph ps (q ∷ qs) q.start end ∷ []) (ps ++ q ∷ qs) end number (length (ps ++ q ∷ qs)))
+unfolding started_in heading_started_in heading_put
+heading_ends text cells l n x bs ps q qs end number h fits =
+    ap (λ s. leaf_finished (piece_taken (heading_piece cells x l) l true (leaf_opened leaf.Nothing (kind.Heading x.level None) (cell_place cells n l.end) l s)))
+    (paragraph_ends text bs ps q qs end number h fits
+    ∙ sym (nothing_ends text (bs ++ ended_block kind.Paragraph ps (q ∷ qs) q.start end ∷ []) (ps ++ q ∷ qs) end number (length (ps ++ q ∷ qs))))

@@ -1,5 +1,5 @@
 -- Of a text without containers the reader finds the blocks that are declared.
-use Rattle.std.proofs.Common.{◌≡◌, ℕ, zero, suc, ◌+◌, ◌^◌, ◌<◌, ◌≤◌, Bool, true, false, ◌==◌, if◌then◌else◌, nat_lt, List, [], ◌∷◌, ◌++◌, length, map, drop, refl, ap, sym, subst, ◌∙◌, arith, append-nil, length-append}
+use Rattle.std.proofs.Common.{◌≡◌, ℕ, zero, suc, ◌+◌, ◌^◌, ◌<◌, ◌≤◌, Bool, true, false, ◌==◌, if◌then◌else◌, nat_lt, List, [], ◌∷◌, ◌++◌, length, map, drop, refl, ap, sym, subst, ◌∙◌, arith, append-nil, length-append, true≢false}
 use Rattle.std.specs.Prelude.{Option, Some, None}
 use Rattle.std.specs.List.{AllByRecursion, fold}
 use Rattle.std.proofs.lemmas.Bool.Decides.{nat_tests}
@@ -9,9 +9,12 @@ use Rattle.tocmark_read_scan.specs.Basic.{byte_at}
 use Rattle.tocmark_read_lines.specs.Cells.{cell_place}
 use Rattle.tocmark_read_lines.specs.Lines.{lines_of}
 use Rattle.tocmark_read_lines.specs.Marks.{tail_of}
+use Rattle.tocmark_read_lines.specs.declared.beginnings.Heading.{Heading as HeadingMark}
+use Rattle.tocmark_read_lines.specs.declared.cell.Cell.{Cell}
 use Rattle.tocmark_read_lines.specs.declared.line.Line.{Line}
 use Rattle.tocmark_read_page.specs.Definitions.{DefinitionView}
 use Rattle.tocmark_read_page.specs.Pages.{State, closed_to}
+use Rattle.tocmark_read_page.specs.Pieces.{heading_piece}
 use Rattle.tocmark_read_page.specs.declared.page.Block.{Block as ReadBlock}
 use Rattle.tocmark_read_page.specs.declared.page.BlockKind.TheVariants as kind
 use Rattle.tocmark_read_page.specs.declared.piece.Piece.{Piece}
@@ -19,16 +22,18 @@ use Rattle.tocmark_read_constructs.specs.Metadata.{known_of}
 use Rattle.tocmark_read_blocks.specs.Blocks.{line_taken, page_in, blocks_in, started}
 use Rattle.tocmark_read_blocks.specs.declared.leaf.LeafStart.{LeafStart}
 use Rattle.tocmark_read_blocks.specs.declared.leaf.LeafStart.TheVariants as start
-use Rattle.tocmark_commonmark.specs.Lines.{Line as DeclaredLine, line_bytes, line_ink, lines_of as declared_lines}
+use Rattle.tocmark_commonmark.specs.Lines.{Line as DeclaredLine, without_last_blanks, line_bytes, line_ink, cells, lines_of as declared_lines}
 use Rattle.tocmark_commonmark.specs.Tree.{Blocks, none, more, Rule, Heading, Paragraph, Found, ended, unended, tree, defined, defined_in, Taken}
-use Rattle.tocmark_commonmark.specs.Beginnings.{Beginning, beginning, interrupts, begins_with}
+use Rattle.tocmark_commonmark.specs.Beginnings.{Beginning, BlankLine, CodeLine, QuoteLine, HeadingLine, FenceLine, HtmlLine, RuleLine, ItemLine, TextLine, LazyLine, beginning, interrupts, begins_with, heading_text}
 use Rattle.tocmark_commonmark.specs.Leaves.{definitions, text_of, underline, underlined, Turn, GoesOn, Stops, Underlines, turn_of, turn, turned, paragraph_lines, paragraph_with, paragraph_of}
 use Rattle.tocmark_commonmark.specs.Blocks.{first_block, and_rest, blocks_from, size, blocks, blocks_of}
-use Rattle.tocmark_block_laws.specs.Trees.{told, told_before, line_text, tree_of, placed_in}
-use Rattle.tocmark_block_laws.specs.Leaves.{IsPlain, IsLeafLine, LeavesAreDeclared}
+use Rattle.tocmark_block_laws.specs.Trees.{told, told_before, line_text, leaf_text, tree_of, placed_in}
+use Rattle.tocmark_block_laws.specs.Leaves.{IsPlain, is_leaf, IsLeafLine, LeavesAreDeclared}
 use Rattle.tocmark_block_laws.proofs.TextLines.{declared, lines_same, Sound, lines_sound, lines_few}
-use Rattle.tocmark_block_laws.proofs.Starts.{start_as, kind_as, Facts, leaf_facts}
-use Rattle.tocmark_block_laws.proofs.Pages.{here, closed, paragraph_page, rule_block, ended_block, piece_in, closed_begins, open_begins, nothing_ends, blank_passes, rule_comes, text_begins, text_goes_on, paragraph_ends, blank_ends, rule_ends, underline_comes}
+use Rattle.tocmark_block_laws.proofs.Marks.{heading_later}
+use Rattle.tocmark_block_laws.proofs.Texts.{between_none}
+use Rattle.tocmark_block_laws.proofs.Starts.{start_as, is_blank_kind, may_underline, HeadingFacts, Facts, leaf_facts}
+use Rattle.tocmark_block_laws.proofs.Pages.{here, closed, paragraph_page, rule_block, ended_block, piece_in, closed_begins, open_begins, nothing_ends, blank_passes, rule_comes, text_begins, text_goes_on, paragraph_ends, blank_ends, rule_ends, underline_comes, piece_if, has_words, words, heading_comes, heading_ends}
 use Rattle.tocmark_block_laws.proofs.Told.{also, also_none, also_more, Holds, holds_none, holds_more, holds_read, paragraph_told, heading_told, definitions_none}
 
 -- a page at the end
@@ -70,19 +75,17 @@ from_there fuel at whole t = and_rest (λ n x. blocks_from fuel n x) at whole t
 
 -- paragraphs: what a line is to the one above it
 
-abbrev turn_kind : Bool → Option HeadingLevel → Bool → Turn
-turn_kind true u r = Stops
-turn_kind false (Some level) r = Underlines level
-turn_kind false None true = Stops
-turn_kind false None false = GoesOn
-
-turn_as : (b : Bool) (u : Option HeadingLevel) (r : Bool) → turn_of (kind_as b r) u ≡ turn_kind b u r
-unfolding interrupts
-turn_as true u r = refl
-turn_as false (Some level) true = refl
-turn_as false (Some level) false = refl
-turn_as false None true = refl
-turn_as false None false = refl
+turn_blank : (k : Beginning) → is_blank_kind k ≡ true → (u v : Option HeadingLevel) → turn_of k u ≡ turn_of k v
+turn_blank BlankLine e u v = refl
+turn_blank CodeLine e u v = absurd (true≢false (sym e))
+turn_blank QuoteLine e u v = absurd (true≢false (sym e))
+turn_blank (HeadingLine h) e u v = absurd (true≢false (sym e))
+turn_blank (FenceLine f) e u v = absurd (true≢false (sym e))
+turn_blank (HtmlLine k) e u v = absurd (true≢false (sym e))
+turn_blank RuleLine e u v = absurd (true≢false (sym e))
+turn_blank (ItemLine m) e u v = absurd (true≢false (sym e))
+turn_blank TextLine e u v = absurd (true≢false (sym e))
+turn_blank LazyLine e u v = absurd (true≢false (sym e))
 
 underlined_as : (t : List ℕ) (ts : List (List ℕ)) (u : Option HeadingLevel) → definitions (t ∷ ts) ≡ ([], 0) → underlined (t ∷ ts) u ≡ u
 underlined_as t ts None d = refl
@@ -90,12 +93,12 @@ underlined_as t ts (Some level) d =
     ap (λ (x : List DefinitionView × ℕ). if nat_lt (x.1) (suc (length ts)) then Some level else None) d
     ∙ (let some : nat_lt 0 (suc (length ts)) ≡ true = grind (arith, nat_tests) in ap (λ k. if k then Some level else None) some)
 
-turn_same : (text : List ℕ) (l : Line) (f : Facts text l) (t : List ℕ) (ts : List (List ℕ)) → definitions (t ∷ ts) ≡ ([], 0) → turn (t ∷ ts) (declared text l) ≡ turn_kind f.blank f.level f.rule
-turn_same text l f t ts d = ap (λ k. turn_of k (underline (t ∷ ts) (declared text l))) f.kind ∙ by f.blank refl
+turn_same : (text : List ℕ) (l : Line) (f : Facts text l) (t : List ℕ) (ts : List (List ℕ)) → definitions (t ∷ ts) ≡ ([], 0) → turn (t ∷ ts) (declared text l) ≡ turn_of f.kind f.level
+turn_same text l f t ts d = ap (λ k. turn_of k (underline (t ∷ ts) (declared text l))) f.begins ∙ by (is_blank_kind f.kind) refl
   where
-    by : (b : Bool) → f.blank ≡ b → turn_of (kind_as f.blank f.rule) (underline (t ∷ ts) (declared text l)) ≡ turn_kind f.blank f.level f.rule
-    by true e = ap (λ k. turn_of (kind_as k f.rule) (underline (t ∷ ts) (declared text l))) e ∙ sym (ap (λ k. turn_kind k f.level f.rule) e)
-    by false e = ap (λ u. turn_of (kind_as f.blank f.rule) u) (f.under e (t ∷ ts) ∙ underlined_as t ts f.level d) ∙ turn_as f.blank f.level f.rule
+    by : (b : Bool) → is_blank_kind f.kind ≡ b → turn_of f.kind (underline (t ∷ ts) (declared text l)) ≡ turn_of f.kind f.level
+    by true e = turn_blank f.kind e (underline (t ∷ ts) (declared text l)) f.level
+    by false e = ap (turn_of f.kind) (f.under e (t ∷ ts) ∙ underlined_as t ts f.level d)
 
 -- what is declared of a paragraph that ends
 
@@ -165,7 +168,7 @@ paragraph_last text fuel at whole bs ps q qs end number found t ts h o =
 
 -- the paragraph ends before a line, which does what it does where nothing is open
 paragraph_stops : (text : List ℕ) (fuel at : ℕ) → Goal text fuel → (whole : List DeclaredLine) (l : Line) (ls : List Line) (f : Facts text l) (bs : List ReadBlock) (ps : List Piece) (q : Piece) (qs : List Piece) (end number : ℕ) (found : Blocks) (t : List ℕ) (ts : List (List ℕ)) (b : LeafStart)
-    → Holds text bs ps found → Opened text fuel whole (l ∷ ls) ps q qs t ts → AllByRecursion (Facts text) (l ∷ ls) → start_as f.blank None f.rule ≡ b
+    → Holds text bs ps found → Opened text fuel whole (l ∷ ls) ps q qs t ts → AllByRecursion (Facts text) (l ∷ ls) → start_as f.spaces false f.level f.kind ≡ b
     → started b text f.columns l (tail_of f.columns) (here f.spaces) (paragraph_page bs ps (q ∷ qs) q.start end number) ≡ started b text f.columns l (tail_of f.columns) (here f.spaces) (shut bs ps q qs end number)
     → Ends text (final text (started b text f.columns l (tail_of f.columns) (here f.spaces) (paragraph_page bs ps (q ∷ qs) q.start end number)) ls) found (from_there fuel at whole (paragraph_of at (t ∷ ts, None)))
 paragraph_stops text fuel at again whole l ls f bs ps q qs end number found t ts b h o facts e same =
@@ -192,7 +195,7 @@ paragraph_heads text fuel at again whole l ls f bs ps q qs end number found t ts
     (subst (λ (fs : List Found). Ends text (final text after ls) found fs) (underlines_as fuel at whole (map (declared text) ls) t ts level (definitions_none t ts o.bracket) passed)
     (ends_cons text (final text after ls) found (heading_found at level t ts) (blocks_from fuel (at + (length (t ∷ ts) + 1)) (map (declared text) ls)) (λ y. refl) refl
     (again (at + (length (t ∷ ts) + 1)) ls (bs ++ b ∷ []) (ps ++ q ∷ qs) l.end l.number (length (ps ++ q ∷ qs)) (also found (more (Heading level (text_of (t ∷ ts))) none))
-    (holds_more text bs ps found b (Heading level (text_of (t ∷ ts))) (q ∷ qs) h refl (heading_told text level ps q qs (t ∷ ts) q.start l.end o.texts))
+    (holds_more text bs ps found b (Heading level (text_of (t ∷ ts))) (q ∷ qs) h refl (heading_told text level ps (q ∷ qs) (text_of (t ∷ ts)) q.start l.end (ap text_of o.texts)))
     room fewer (facts.1))))
   where
     b : ReadBlock
@@ -217,7 +220,7 @@ paragraph_heads text fuel at again whole l ls f bs ps q qs end number found t ts
     passed = ap (λ n. drop n whole) (let k : suc (length ts) + 1 ≡ suc (suc (length ts)) = omega arith in k) ∙ drop_next (suc (length ts)) whole (declared text l) (map (declared text) ls) o.rest
 
 -- what is known of it with one more line
-opened_more : (text : List ℕ) (fuel : ℕ) (whole : List DeclaredLine) (l : Line) (ls : List Line) (f : Facts text l) (ps : List Piece) (q : Piece) (qs : List Piece) (t : List ℕ) (ts : List (List ℕ)) → f.blank ≡ false
+opened_more : (text : List ℕ) (fuel : ℕ) (whole : List DeclaredLine) (l : Line) (ls : List Line) (f : Facts text l) (ps : List Piece) (q : Piece) (qs : List Piece) (t : List ℕ) (ts : List (List ℕ)) → is_blank_kind f.kind ≡ false
     → Opened text fuel whole (l ∷ ls) ps q qs t ts → Opened text fuel whole ls ps q (qs ++ piece_in f.columns f.spaces l ∷ []) t (ts ++ line_ink (declared text l) ∷ [])
 opened_more text fuel whole l ls f ps q qs t ts e o =
     record {
@@ -253,14 +256,15 @@ opened_more text fuel whole l ls f ps q qs t ts e o =
 -- the paragraph and a line after it
 paragraph_line : (text : List ℕ) (fuel at : ℕ) → Goal text fuel → (whole : List DeclaredLine) (l : Line) (ls : List Line) (f : Facts text l) (bs : List ReadBlock) (ps : List Piece) (q : Piece) (qs : List Piece) (end number : ℕ) (found : Blocks) (t : List ℕ) (ts : List (List ℕ))
     → Holds text bs ps found → Opened text fuel whole (l ∷ ls) ps q qs t ts → AllByRecursion (Facts text) (l ∷ ls)
-    → (f.blank ≡ false → Ends text (final text (paragraph_page bs ps (q ∷ (qs ++ piece_in f.columns f.spaces l ∷ [])) q.start l.end l.number) ls) found (from_there fuel at whole (paragraph_of at (paragraph_lines (t ∷ (ts ++ line_ink (declared text l) ∷ [])) (map (declared text) ls)))))
+    → (is_blank_kind f.kind ≡ false → Ends text (final text (paragraph_page bs ps (q ∷ (qs ++ piece_in f.columns f.spaces l ∷ [])) q.start l.end l.number) ls) found (from_there fuel at whole (paragraph_of at (paragraph_lines (t ∷ (ts ++ line_ink (declared text l) ∷ [])) (map (declared text) ls)))))
     → Ends text (final text (paragraph_page bs ps (q ∷ qs) q.start end number) (l ∷ ls)) found (from_there fuel at whole (paragraph_of at (paragraph_lines (t ∷ ts) (map (declared text) (l ∷ ls)))))
+unfolding interrupts
 paragraph_line text fuel at again whole l ls f bs ps q qs end number found t ts h o facts goes =
     subst (λ (s : State). Ends text (final text s ls) found (from_there fuel at whole (paragraph_of at (turned next (t ∷ ts) (line_ink (declared text l)) (turn (t ∷ ts) (declared text l))))))
     (sym (open_begins text l f bs ps (q ∷ qs) q.start end number))
-    (subst (λ (x : Turn). Ends text (final text (begun (start_as f.blank f.level f.rule)) ls) found (from_there fuel at whole (paragraph_of at (turned next (t ∷ ts) (line_ink (declared text l)) x))))
+    (subst (λ (x : Turn). Ends text (final text (begun (start_as f.spaces true f.level f.kind)) ls) found (from_there fuel at whole (paragraph_of at (turned next (t ∷ ts) (line_ink (declared text l)) x))))
     (sym (turn_same text l f t ts (definitions_none t ts o.bracket)))
-    (by f.blank f.level f.rule refl refl refl))
+    (by f.kind f.level refl refl f.leaf f.marked goes))
   where
     next : List (List ℕ) → List (List ℕ) × Option HeadingLevel
     next = λ x. paragraph_lines x (map (declared text) ls)
@@ -271,18 +275,37 @@ paragraph_line text fuel at again whole l ls f bs ps q qs end number found t ts 
     room : length ps + 1 < 2 ^ 64
     room = let all : length ps + suc (length qs) + suc (length ls) + 1 < 2 ^ 64 = o.room in omega (arith, all)
 
-    by : (b : Bool) (u : Option HeadingLevel) (r : Bool) → f.blank ≡ b → f.level ≡ u → f.rule ≡ r
-        → Ends text (final text (begun (start_as b u r)) ls) found (from_there fuel at whole (paragraph_of at (turned next (t ∷ ts) (line_ink (declared text l)) (turn_kind b u r))))
-    by true u r eb eu er =
-        paragraph_stops text fuel at again whole l ls f bs ps q qs end number found t ts start.Blank h o facts (ap (λ k. start_as k None f.rule) eb)
-        (blank_ends text f.columns l f.spaces bs ps q qs end number o.first room)
-    by false (Some level) r eb eu er = paragraph_heads text fuel at again whole l ls f bs ps q qs end number found t ts level h o facts
-    by false None true eb eu er =
-        paragraph_stops text fuel at again whole l ls f bs ps q qs end number found t ts start.Rule h o facts (ap (λ k. start_as k None f.rule) eb ∙ ap (λ k. start_as false None k) er)
-        (rule_ends text f.columns l f.spaces bs ps q qs end number o.first room)
-    by false None false eb eu er =
+    level_some : (u : Option HeadingLevel) (level : HeadingLevel) → u ≡ None → u ≡ Some level → ⊥
+    level_some u level e d = let q : None ≡ Some level = sym e ∙ d in absurd cc
+
+    Goes : Beginning → Type 0
+    Goes k = is_blank_kind k ≡ false → Ends text (final text (paragraph_page bs ps (q ∷ (qs ++ piece_in f.columns f.spaces l ∷ [])) q.start l.end l.number) ls) found (from_there fuel at whole (paragraph_of at (next (t ∷ (ts ++ line_ink (declared text l) ∷ [])))))
+
+    stops : (k : Beginning) (b : LeafStart) → f.kind ≡ k → start_as f.spaces false f.level k ≡ b
+        → started b text f.columns l (tail_of f.columns) (here f.spaces) (paragraph_page bs ps (q ∷ qs) q.start end number) ≡ started b text f.columns l (tail_of f.columns) (here f.spaces) (shut bs ps q qs end number)
+        → Ends text (final text (begun b) ls) found (from_there fuel at whole (paragraph_of at (t ∷ ts, None)))
+    stops k b e i same = paragraph_stops text fuel at again whole l ls f bs ps q qs end number found t ts b h o facts (ap (start_as f.spaces false f.level) e ∙ i) same
+
+    goes_on : (k : Beginning) → f.kind ≡ k → is_blank_kind k ≡ false → Goes k → Ends text (final text (begun start.Text) ls) found (from_there fuel at whole (paragraph_of at (next (t ∷ (ts ++ line_ink (declared text l) ∷ [])))))
+    goes_on k e b g =
         subst (λ (s : State). Ends text (final text s ls) found (from_there fuel at whole (paragraph_of at (next (t ∷ (ts ++ line_ink (declared text l) ∷ []))))))
-        (sym (text_goes_on text f.columns l f.spaces bs ps q qs q.start end number (f.some eb))) (goes eb)
+        (sym (text_goes_on text f.columns l f.spaces bs ps q qs q.start end number (f.some (ap is_blank_kind e ∙ b)))) (g b)
+
+    by : (k : Beginning) (u : Option HeadingLevel) → f.kind ≡ k → f.level ≡ u → is_leaf k ≡ true → (may_underline k ≡ false → f.level ≡ None) → Goes k
+        → Ends text (final text (begun (start_as f.spaces true u k)) ls) found (from_there fuel at whole (paragraph_of at (turned next (t ∷ ts) (line_ink (declared text l)) (turn_of k u))))
+    by BlankLine u e d leaf m g = stops BlankLine start.Blank e refl (blank_ends text f.columns l f.spaces bs ps q qs end number o.first room)
+    by CodeLine u e d leaf m g = absurd (true≢false (sym leaf))
+    by QuoteLine u e d leaf m g = absurd (true≢false (sym leaf))
+    by (HeadingLine x) (Some level) e d leaf m g = absurd (level_some f.level level (m refl) d)
+    by (HeadingLine x) None e d leaf m g = stops (HeadingLine x) (start.Heading (heading_later f.spaces x)) e refl (heading_ends text f.columns l f.spaces (heading_later f.spaces x) bs ps q qs end number o.first room)
+    by (FenceLine x) u e d leaf m g = absurd (true≢false (sym leaf))
+    by (HtmlLine x) u e d leaf m g = absurd (true≢false (sym leaf))
+    by RuleLine (Some level) e d leaf m g = paragraph_heads text fuel at again whole l ls f bs ps q qs end number found t ts level h o facts
+    by RuleLine None e d leaf m g = stops RuleLine start.Rule e refl (rule_ends text f.columns l f.spaces bs ps q qs end number o.first room)
+    by (ItemLine x) u e d leaf m g = absurd (true≢false (sym leaf))
+    by TextLine (Some level) e d leaf m g = paragraph_heads text fuel at again whole l ls f bs ps q qs end number found t ts level h o facts
+    by TextLine None e d leaf m g = goes_on TextLine e refl g
+    by LazyLine u e d leaf m g = absurd (true≢false (sym leaf))
 
 paragraph_read : (text : List ℕ) (fuel at : ℕ) → Goal text fuel → (whole : List DeclaredLine) (ls : List Line) (bs : List ReadBlock) (ps : List Piece) (q : Piece) (qs : List Piece) (end number : ℕ) (found : Blocks) (t : List ℕ) (ts : List (List ℕ))
     → Holds text bs ps found → Opened text fuel whole ls ps q qs t ts → AllByRecursion (Facts text) ls
@@ -293,15 +316,26 @@ paragraph_read text fuel at again whole (l ∷ ls) bs ps q qs end number found t
     (λ e. paragraph_read text fuel at again whole ls bs ps q (qs ++ piece_in (facts.0).columns (facts.0).spaces l ∷ []) l.end l.number found t (ts ++ line_ink (declared text l) ∷ []) h
     (opened_more text fuel whole l ls (facts.0) ps q qs t ts e o) (facts.1))
 
+-- the text of a heading is that which is declared
+words_told : (text : List ℕ) (l : Line) (columns : List Cell) (n : ℕ) (h : HeadingMark) (ys : List ℕ) → HeadingFacts text l columns n h ys → (k : Bool) → has_words columns (heading_later n h) l ≡ k
+    → leaf_text text (piece_if k (heading_piece columns (heading_later n h) l)) ≡ heading_text h ys (cells ys)
+unfolding heading_piece
+words_told text l columns n h ys f true e = ap without_last_blanks f.says ∙ f.idle
+words_told text l columns n h ys f false e = sym (between_none text (cell_place columns (n + h.from) l.end) (cell_place columns (n + h.to) l.end) e) ∙ f.says
+
+few_words : (k : Bool) (p : Piece) → length (piece_if k p) ≤ 1
+few_words true p = omega arith
+few_words false p = omega arith
+
 -- a line where nothing is open
 line_read : (text : List ℕ) (fuel at : ℕ) → Goal text fuel → (l : Line) (ls : List Line) (f : Facts text l) (bs : List ReadBlock) (ps : List Piece) (end number kept : ℕ) (found : Blocks) → Holds text bs ps found → length ps + suc (length ls) + 1 < 2 ^ 64 → length ls ≤ fuel → AllByRecursion (Facts text) ls
     → Ends text (final text (closed bs ps end number kept) (l ∷ ls)) found (from_there fuel at (map (declared text) (l ∷ ls)) (first_block (λ x. blocks_from fuel 0 x) at (declared text l) (map (declared text) ls) (beginning (declared text l))))
 line_read text fuel at again l ls f bs ps end number kept found h room few facts =
     subst (λ (s : State). Ends text (final text s ls) found (from_there fuel at (dl ∷ rest) (first_block inner at dl rest (beginning dl))))
     (sym (closed_begins text l f bs ps end number kept))
-    (subst (λ (k : Beginning). Ends text (final text (begun (start_as f.blank None f.rule)) ls) found (from_there fuel at (dl ∷ rest) (first_block inner at dl rest k)))
-    (sym f.kind)
-    (by f.blank f.rule refl refl))
+    (subst (λ (k : Beginning). Ends text (final text (begun (start_as f.spaces false f.level f.kind)) ls) found (from_there fuel at (dl ∷ rest) (first_block inner at dl rest k)))
+    (sym f.begins)
+    (by f.kind refl f.leaf))
   where
     dl : DeclaredLine
     dl = declared text l
@@ -330,19 +364,47 @@ line_read text fuel at again l ls f bs ps end number kept found h room few facts
     same : length ps + 1 + length ls + 1 < 2 ^ 64
     same = omega (arith, room)
 
-    by : (k r : Bool) → f.blank ≡ k → f.rule ≡ r → Ends text (final text (begun (start_as k None r)) ls) found (from_there fuel at (dl ∷ rest) (first_block inner at dl rest (kind_as k r)))
-    by true r eb er =
+    headed : (h' : HeadingMark) → f.kind ≡ HeadingLine h' → Ends text (final text (begun (start.Heading (heading_later f.spaces h'))) ls) found (ended (Heading h'.level (heading_text h' (line_ink dl) (cells (line_ink dl)))) at at ∷ blocks_from fuel (at + 1) rest)
+    headed h' e =
+        subst (λ (s : State). Ends text (final text s ls) found (ended (Heading h'.level text_in) at at ∷ blocks_from fuel (at + 1) rest)) (sym (heading_comes text f.columns l f.spaces x bs ps end number kept))
+        (ends_cons text (final text (closed (bs ++ b' ∷ []) (ps ++ new) l.end l.number (length (ps ++ new))) ls) found (ended (Heading h'.level text_in) at at) (blocks_from fuel (at + 1) rest) (λ y. refl) refl
+        (again (at + 1) ls (bs ++ b' ∷ []) (ps ++ new) l.end l.number (length (ps ++ new)) (also found (more (Heading h'.level text_in) none))
+        (holds_more text bs ps found b' (Heading h'.level text_in) new h refl (heading_told text h'.level ps new text_in (cell_place f.columns f.spaces l.end) l.end (words_told text l f.columns f.spaces h' (line_ink dl) (f.heads h' e) (has_words f.columns x l) refl)))
+        (let wide : length (ps ++ new) ≡ length ps + length new = length-append ps new in let one : length new ≤ 1 = few_words (has_words f.columns x l) (heading_piece f.columns x l) in omega (arith, wide, one, room)) few facts))
+      where
+        x : HeadingMark
+        x = heading_later f.spaces h'
+
+        new : List Piece
+        new = words f.columns x l
+
+        text_in : List ℕ
+        text_in = heading_text h' (line_ink dl) (cells (line_ink dl))
+
+        b' : ReadBlock
+        b' = ended_block (kind.Heading h'.level None) ps new (cell_place f.columns f.spaces l.end) l.end
+
+    by : (k : Beginning) → f.kind ≡ k → is_leaf k ≡ true → Ends text (final text (begun (start_as f.spaces false f.level k)) ls) found (from_there fuel at (dl ∷ rest) (first_block inner at dl rest k))
+    by BlankLine e leaf =
         subst (λ (s : State). Ends text (final text s ls) found (blocks_from fuel (at + 1) rest)) (sym (blank_passes text f.columns l f.spaces bs ps end number kept))
         (again (at + 1) ls bs ps end number kept found h less few facts)
-    by false true eb er =
+    by CodeLine e leaf = absurd (true≢false (sym leaf))
+    by QuoteLine e leaf = absurd (true≢false (sym leaf))
+    by (HeadingLine x) e leaf = headed x e
+    by (FenceLine x) e leaf = absurd (true≢false (sym leaf))
+    by (HtmlLine x) e leaf = absurd (true≢false (sym leaf))
+    by RuleLine e leaf =
         subst (λ (s : State). Ends text (final text s ls) found (ended Rule at at ∷ blocks_from fuel (at + 1) rest)) (sym (rule_comes text f.columns l f.spaces bs ps end number kept))
         (ends_cons text (final text (closed (bs ++ b ∷ []) ps l.end l.number (length ps)) ls) found (ended Rule at at) (blocks_from fuel (at + 1) rest) (λ y. refl) refl
         (again (at + 1) ls (bs ++ b ∷ []) ps l.end l.number (length ps) (also found (more Rule none)) ruled less few facts))
-    by false false eb er =
+    by (ItemLine x) e leaf = absurd (true≢false (sym leaf))
+    by TextLine e leaf =
+        let not_blank : is_blank_kind f.kind ≡ false = ap is_blank_kind e in
         subst (λ (s : State). Ends text (final text s ls) found (from_there fuel at (dl ∷ rest) (paragraph_of at (paragraph_lines (line_ink dl ∷ []) rest))))
-        (sym (text_begins text f.columns l f.spaces bs ps end number kept (f.some eb)))
+        (sym (text_begins text f.columns l f.spaces bs ps end number kept (f.some not_blank)))
         (paragraph_read text fuel at again (dl ∷ rest) ls bs ps p [] l.end l.number found (line_ink dl) [] h
-        (record { texts = ap (λ (x : List ℕ). x ∷ []) (f.ink eb); first = f.first eb; bracket = f.bracket; rest = refl; room = same; few = few }) facts)
+        (record { texts = ap (λ (x : List ℕ). x ∷ []) (f.ink not_blank); first = f.first not_blank; bracket = f.bracket; rest = refl; room = same; few = few }) facts)
+    by LazyLine e leaf = absurd (true≢false (sym leaf))
 
 read_all : (text : List ℕ) (fuel : ℕ) → Goal text fuel
 unfolding blocks_from

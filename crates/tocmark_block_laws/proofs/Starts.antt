@@ -1,21 +1,22 @@
 -- What a line without tabs begins: the reader sees at its column what the declaration sees in its bytes.
-use Rattle.std.proofs.Common.{◌≡◌, ℕ, zero, suc, ◌+◌, ◌-◌, ◌^◌, ◌<◌, ◌≤◌, Bool, true, false, ◌==◌, ◌&&◌, ◌||◌, cond, if◌then◌else◌, nat_lt, nat_le, List, [], ◌∷◌, ◌++◌, length, take, drop, reverse, refl, ap, sym, subst, ◌∙◌, arith, length-drop, length-take, true≢false}
-use Rattle.std.specs.Prelude.{take_while, unwrap_or, Option, Some, None}
-use Rattle.std.specs.List.{fold, prefix_len}
+use Rattle.std.proofs.Common.{◌≡◌, ◌⊎◌, inl, inr, ℕ, zero, suc, ◌+◌, ◌-◌, ◌^◌, ◌<◌, ◌≤◌, Bool, true, false, not, ◌==◌, ◌&&◌, ◌||◌, cond, if◌then◌else◌, nat_lt, nat_le, List, [], ◌∷◌, ◌++◌, length, take, drop, reverse, refl, ap, sym, subst, ◌∙◌, arith, length-drop, length-take, true≢false}
+use Rattle.std.specs.Prelude.{take_while, unwrap_or, Option, Some, None, is_some}
+use Rattle.std.specs.List.{fold, list_any, prefix_len}
+use Rattle.std.specs.Char.{is_ascii_digit}
 use Rattle.std.specs.Option.{option_map, option_and_then}
 use Rattle.std.proofs.lemmas.Bool.Decides.{nat_tests}
-use Rattle.std.proofs.lemmas.List.{drop-drop, drop-take, length-take-le, take-append-drop}
+use Rattle.std.proofs.lemmas.List.{drop-drop, drop-take, take-take, length-map, length-take-le, take-append-drop}
 use Rattle.std.proofs.lemmas.List.Folds.{length-prefix_len}
 use Rattle.tocmark_event.specs.declared.event.HeadingLevel.{HeadingLevel}
 use Rattle.tocmark_read_scan.specs.Basic.{plus, byte_at, bytes_between}
 use Rattle.tocmark_read_scan.specs.declared.syntax.TheConstants.{CORE}
-use Rattle.tocmark_read_scan.proofs.PlainTests.{both_false}
+use Rattle.tocmark_read_scan.proofs.PlainTests.{both_false, eq_of, one_of_four}
 use Rattle.tocmark_read_lines.specs.Cells.{bytes_of, cells_at, cells_of, cell_byte, cell_place, run_of, trailing, first_cursor}
 use Rattle.tocmark_read_lines.specs.Containers.{container_at, container_in, item_at, item_from}
 use Rattle.tocmark_read_lines.specs.DefinitionLists.{definition_start}
 use Rattle.tocmark_read_lines.specs.Notes.{note_start}
 use Rattle.tocmark_read_lines.specs.Html.{html_kind}
-use Rattle.tocmark_read_lines.specs.Marks.{heading_at, fence_at, tail_of, is_rule, underline_at, marker_at}
+use Rattle.tocmark_read_lines.specs.Marks.{level_of, is_behind, heading_at, is_fence_byte, fence_at, tail_of, is_rule_byte, is_rule, is_underline_byte, underline_at, digit_count, bullet_at, ordered_at, marker_at}
 use Rattle.tocmark_read_lines.specs.declared.beginnings.Heading.{Heading}
 use Rattle.tocmark_read_lines.specs.declared.beginnings.Fence.{Fence}
 use Rattle.tocmark_read_lines.specs.declared.beginnings.Marker.{Marker}
@@ -25,16 +26,17 @@ use Rattle.tocmark_read_lines.specs.declared.cell.Cursor.{Cursor}
 use Rattle.tocmark_read_lines.specs.declared.container.ItemStart.{ItemStart}
 use Rattle.tocmark_read_lines.specs.declared.container.ContainerStart.TheVariants as begins
 use Rattle.tocmark_read_lines.specs.declared.line.Line.{Line}
-use Rattle.tocmark_read_lines.proofs.Columns.{bytes_kept, length_kept, plain_cells, place_kept, run_asked, trailing_asked}
+use Rattle.tocmark_read_lines.proofs.Columns.{bytes_kept, length_kept, plain_cells, byte_asked, run_asked, digits_asked, trailing_asked}
 use Rattle.tocmark_read_blocks.specs.Leaves.{leaf_at, mark_at, html_at, interrupting, underline_in, rule_at}
 use Rattle.tocmark_read_blocks.specs.declared.leaf.LeafStart.{LeafStart}
 use Rattle.tocmark_read_blocks.specs.declared.leaf.LeafStart.TheVariants as start
-use Rattle.tocmark_commonmark.specs.Lines.{Part, is_blank_byte, is_blank, column_after, indent, line_ink, cells, document_line}
-use Rattle.tocmark_commonmark.specs.Beginnings.{Beginning, BlankLine, RuleLine, TextLine, html_if, begins_with, first_of_these, near_beginning, beginning_of, beginning}
+use Rattle.tocmark_commonmark.specs.Lines.{Part, is_blank_byte, is_blank, column_after, indent, line_ink, without_last_blanks, cells, document_line}
+use Rattle.tocmark_commonmark.specs.Beginnings.{Beginning, BlankLine, CodeLine, QuoteLine, HeadingLine, FenceLine, HtmlLine, RuleLine, ItemLine, TextLine, LazyLine, html_if, begins_with, first_of_these, near_beginning, beginning_of, beginning, heading_text}
 use Rattle.tocmark_commonmark.specs.Leaves.{underlined, underline}
 use Rattle.tocmark_block_laws.specs.Leaves.{IsPlain, is_leaf, IsLeafLine}
-use Rattle.tocmark_block_laws.proofs.Columns.{Behind, byte_on, front_low, plus_low, plus_zero}
+use Rattle.tocmark_block_laws.proofs.Columns.{Behind, byte_on, between_on, le_on, front_low, plus_low, plus_zero}
 use Rattle.tocmark_block_laws.proofs.Marks.{heading_later, heading_on, fence_indented, fence_on, underline_on, marker_on, back_stops, rule_on}
+use Rattle.tocmark_block_laws.proofs.Texts.{front_same, between_is, between_length, Trimmed, heading_text_trimmed, place_there, place_here}
 use Rattle.tocmark_block_laws.proofs.TextLines.{Plain, plain_head, no_tab, declared, Sound, drop_plain, front_plain, between_plain}
 
 -- the spaces in front of bytes
@@ -65,17 +67,6 @@ spaces_low xs = front_low is_blank_byte xs
 
 blank_same : (xs : List ℕ) → nat_le (length xs) (spaces_of xs) ≡ is_blank xs
 blank_same xs = let low : spaces_of xs ≤ length xs = spaces_low xs in grind (arith, nat_tests)
-
-front_same : (xs : List ℕ) → IsPlain xs → prefix_len (λ x. x == 32) xs ≡ prefix_len is_blank_byte xs
-front_same [] h = refl
-front_same (b ∷ bs) h = rw p.tab (by (b == 32) (front_same bs p.more))
-  where
-    p : Plain b bs
-    p = plain_head b bs h
-
-    by : (k : Bool) → prefix_len (λ x. x == 32) bs ≡ prefix_len is_blank_byte bs → cond k (1 + prefix_len (λ x. x == 32) bs) 0 ≡ cond (k || false) (1 + prefix_len is_blank_byte bs) 0
-    by true e = ap (λ n. 1 + n) e
-    by false e = refl
 
 run_same : (start : ℕ) (xs : List ℕ) → IsPlain xs → run_of (cells_at start [] xs) 0 32 ≡ spaces_of xs
 run_same start xs h =
@@ -154,85 +145,277 @@ byte_first text s e b bs h = drop_byte s text ∙ by (nat_le s e && nat_le e (le
     by true h = take_byte (e - s) (drop s text) b bs h
     by false h = absurd cc
 
--- what a line is, if its tests are these: blank, an underline, a thematic break
-abbrev pub start_as : Bool → Option HeadingLevel → Bool → LeafStart
-start_as true u r = start.Blank
-start_as false (Some level) r = start.Underline level
-start_as false None true = start.Rule
-start_as false None false = start.Text
+-- what a line begins, to the reader: in a paragraph or not, and with these columns in front
 
-abbrev pub kind_as : Bool → Bool → Beginning
-kind_as true r = BlankLine
-kind_as false true = RuleLine
-kind_as false false = TextLine
+abbrev pub plain_start : Bool → Option HeadingLevel → LeafStart → LeafStart
+plain_start true (Some level) other = start.Underline level
+plain_start true None other = other
+plain_start false u other = other
+
+abbrev pub html_start : Option HtmlKind → LeafStart
+html_start None = start.Text
+html_start (Some k) = start.Html k
+
+abbrev pub start_as : ℕ → Bool → Option HeadingLevel → Beginning → LeafStart
+start_as n p u BlankLine = start.Blank
+start_as n p u CodeLine = if p then start.Text else start.Indented (plus 0 4)
+start_as n p u QuoteLine = start.Text
+start_as n p u (HeadingLine h) = start.Heading (heading_later n h)
+start_as n p u (FenceLine f) = start.Fence f
+start_as n p u (HtmlLine k) = html_start (interrupting p k)
+start_as n p u RuleLine = plain_start p u start.Rule
+start_as n p u (ItemLine m) = start.Text
+start_as n p u TextLine = plain_start p u start.Text
+start_as n p u LazyLine = start.Text
+
+-- not the beginning of a container
+abbrev pub is_flat : Beginning → Bool
+is_flat QuoteLine = false
+is_flat (ItemLine m) = false
+is_flat LazyLine = false
+is_flat b = true
+
+abbrev pub is_blank_kind : Beginning → Bool
+is_blank_kind BlankLine = true
+is_blank_kind b = false
+
+-- a line that may be an underline
+abbrev pub may_underline : Beginning → Bool
+may_underline RuleLine = true
+may_underline TextLine = true
+may_underline b = false
+
+leaf_flat : (k : Beginning) → is_leaf k ≡ true → is_flat k ≡ true
+leaf_flat BlankLine e = refl
+leaf_flat CodeLine e = refl
+leaf_flat QuoteLine e = absurd (true≢false (sym e))
+leaf_flat (HeadingLine h) e = refl
+leaf_flat (FenceLine f) e = refl
+leaf_flat (HtmlLine k) e = refl
+leaf_flat RuleLine e = refl
+leaf_flat (ItemLine m) e = absurd (true≢false (sym e))
+leaf_flat TextLine e = refl
+leaf_flat LazyLine e = absurd (true≢false (sym e))
+
+-- the text of a heading, if this is the ink of its line
+pub record HeadingFacts (text : List ℕ) (l : Line) (columns : List Cell) (spaces : ℕ) (h : Heading) (ys : List ℕ) : Type 0 where
+  pub says : bytes_between text (cell_place columns (spaces + h.from) l.end) (cell_place columns (spaces + h.to) l.end) ≡ heading_text h ys (cells ys)
+  pub idle : without_last_blanks (heading_text h ys (cells ys)) ≡ heading_text h ys (cells ys)
 
 -- a line as both see it
 pub record Facts (text : List ℕ) (l : Line) : Type 0 where
   pub spaces : ℕ
   pub columns : List Cell
-  pub blank : Bool
+  pub kind : Beginning
   pub level : Option HeadingLevel
-  pub rule : Bool
   pub read : cells_of [] l.start (bytes_between text l.start l.end) ≡ columns
   pub cursor : first_cursor columns ≡ at_ink spaces
   pub opens : (p : Bool) → container_in CORE columns (tail_of columns) (at_ink spaces) p ≡ None
-  pub starts : (p : Bool) → leaf_at columns (bytes_between text (cell_place columns spaces l.end) l.end) (tail_of columns) (at_ink spaces) p p ≡ start_as blank (if p then level else None) rule
-  pub kind : beginning (declared text l) ≡ kind_as blank rule
-  pub under : blank ≡ false → (texts : List (List ℕ)) → underline texts (declared text l) ≡ underlined texts level
-  pub ink : blank ≡ false → bytes_between text (cell_place columns spaces l.end) l.end ≡ line_ink (declared text l)
-  pub some : blank ≡ false → nat_lt (cell_place columns spaces l.end) l.next ≡ true
-  pub first : blank ≡ false → (byte_at text (cell_place columns spaces l.end) == 91) ≡ false
+  pub starts : (p : Bool) → leaf_at columns (bytes_between text (cell_place columns spaces l.end) l.end) (tail_of columns) (at_ink spaces) p p ≡ start_as spaces p level kind
+  pub begins : beginning (declared text l) ≡ kind
+  pub leaf : is_leaf kind ≡ true
+  pub marked : may_underline kind ≡ false → level ≡ None
+  pub under : is_blank_kind kind ≡ false → (texts : List (List ℕ)) → underline texts (declared text l) ≡ underlined texts level
+  pub ink : is_blank_kind kind ≡ false → bytes_between text (cell_place columns spaces l.end) l.end ≡ line_ink (declared text l)
+  pub some : is_blank_kind kind ≡ false → nat_lt (cell_place columns spaces l.end) l.next ≡ true
+  pub first : is_blank_kind kind ≡ false → (byte_at text (cell_place columns spaces l.end) == 91) ≡ false
   pub bracket : begins_with 91 (line_ink (declared text l)) ≡ false
+  pub heads : (h : Heading) → kind ≡ HeadingLine h → HeadingFacts text l columns spaces h (line_ink (declared text l))
+
+-- a byte that a heading, a fence or HTML begins with begins nothing else
+
+abbrev is_sign : ℕ → Bool
+is_sign b = (b == 35) || (b == 96) || (b == 126) || (b == 60)
+
+record NoMark (b : ℕ) : Type 0 where
+  pub digit : is_ascii_digit b ≡ false
+  pub bullet : ((b == 45) || (b == 43) || (b == 42)) ≡ false
+  pub underline : is_underline_byte b ≡ false
+  pub rule : is_rule_byte b ≡ false
+
+sign_none : (b : ℕ) → is_sign b ≡ true → NoMark b
+unfolding is_underline_byte is_rule_byte
+sign_none b h = by (one_of_four (b == 35) (b == 96) (b == 126) (b == 60) h)
+  where
+    at : (c : ℕ) → (b == c) ≡ true → NoMark c → NoMark b
+    at c e k = subst NoMark (sym (eq_of b c e)) k
+
+    by : ((b == 35) ≡ true) ⊎ ((b == 96) ≡ true) ⊎ ((b == 126) ≡ true) ⊎ ((b == 60) ≡ true) → NoMark b
+    by (inl e) = at 35 e (record { digit = refl; bullet = refl; underline = refl; rule = refl })
+    by (inr (inl e)) = at 96 e (record { digit = refl; bullet = refl; underline = refl; rule = refl })
+    by (inr (inr (inl e))) = at 126 e (record { digit = refl; bullet = refl; underline = refl; rule = refl })
+    by (inr (inr (inr e))) = at 60 e (record { digit = refl; bullet = refl; underline = refl; rule = refl })
+
+-- columns whose first byte is this
+record First (r : List Cell) (b : ℕ) : Type 0 where
+  pub rest : List ℕ
+  pub bytes : bytes_of r ≡ b ∷ rest
+
+first_is : (r : List Cell) (b : ℕ) → First r b → cell_byte r 0 ≡ b
+first_is r b f = byte_asked r 0 ∙ ap (λ xs. byte_at xs 0) f.bytes
+
+no_digits : (r : List Cell) (b : ℕ) → First r b → is_ascii_digit b ≡ false → digit_count r 0 ≡ 0
+no_digits r b f e = digits_asked r 0 ∙ ap (λ (xs : List ℕ). length (take_while is_ascii_digit xs)) f.bytes ∙ ap (λ k. length (take (cond k (1 + prefix_len is_ascii_digit f.rest) 0) (b ∷ f.rest))) e
+
+no_run : (r : List Cell) (b c : ℕ) → First r b → (b == c) ≡ false → run_of r 0 c ≡ 0
+no_run r b c f e = run_asked r 0 c ∙ ap (λ (xs : List ℕ). length (take_while (λ x. x == c) xs)) f.bytes ∙ ap (λ k. length (take (cond k (1 + prefix_len (λ x. x == c) f.rest) 0) (b ∷ f.rest))) e
+
+no_bullet : (r : List Cell) (b : ℕ) → First r b → ((b == 45) || (b == 43) || (b == 42)) ≡ false → bullet_at r 0 ≡ None
+unfolding bullet_at
+no_bullet r b f e = rw (first_is r b f, e) refl
+
+no_order : (r : List Cell) (b : ℕ) → First r b → is_ascii_digit b ≡ false → ordered_at r 0 ≡ None
+unfolding ordered_at
+no_order r b f e = rw (no_digits r b f e) refl
+
+no_marker : (r : List Cell) (b : ℕ) → First r b → NoMark b → marker_at r 0 ≡ None
+unfolding marker_at
+no_marker r b f k = rw (no_bullet r b f k.bullet, no_order r b f k.digit) refl
+
+no_underline : (r : List Cell) (b : ℕ) → First r b → NoMark b → underline_at r 0 ≡ None
+unfolding underline_at
+no_underline r b f k = rw (first_is r b f, k.underline) refl
+
+no_rule : (r : List Cell) (b : ℕ) → First r b → NoMark b → is_rule r (tail_of r) 0 ≡ false
+unfolding is_rule
+no_rule r b f k = rw (first_is r b f, k.rule) refl
+
+abbrev no_heading_if : Bool → Option Heading
+no_heading_if k = if not k then None else None
+
+no_either : (k : Bool) → no_heading_if k ≡ None
+no_either true = refl
+no_either false = refl
+
+no_heading : (r : List Cell) (b : ℕ) → First r b → (b == 35) ≡ false → heading_at r 0 ≡ None
+unfolding heading_at level_of
+no_heading r b f e = rw (no_run r b 35 f e) (no_either (is_behind r 0))
+
+no_fence : (r : List Cell) (b : ℕ) (here : Cursor) → First r b → here.ink ≡ 0 → is_fence_byte b ≡ false → fence_at r here ≡ None
+unfolding fence_at
+no_fence r b here f z e = rw (z, first_is r b f, e) refl
+
+-- a heading, a fence or HTML begins
+abbrev begins_sign : Option Heading → Option Fence → Option HtmlKind → Bool
+begins_sign h f k = is_some h || is_some f || is_some k
+
+none_signs : (a b c d : Bool) → (a || b || c || d) ≡ false → (a ≡ false) × ((b || c) ≡ false) × (d ≡ false)
+none_signs true b c d h = absurd (true≢false h)
+none_signs false true c d h = absurd (true≢false h)
+none_signs false false true d h = absurd (true≢false h)
+none_signs false false false true h = absurd (true≢false h)
+none_signs false false false false h = (refl, refl, refl)
+
+sign_begins : (r : List Cell) (b : ℕ) (bs : List ℕ) (here : Cursor) → First r b → here.ink ≡ 0 → begins_sign (heading_at r 0) (fence_at r here) (html_if (b == 60) bs) ≡ true → NoMark b
+unfolding is_fence_byte
+sign_begins r b bs here f z e = by (is_sign b) refl
+  where
+    by : (k : Bool) → is_sign b ≡ k → NoMark b
+    by true q = sign_none b q
+    by false q =
+        let three = none_signs (b == 35) (b == 96) (b == 126) (b == 60) q in
+        absurd (true≢false (sym e
+        ∙ ap (λ o. is_some o || is_some (fence_at r here) || is_some (html_if (b == 60) bs)) (no_heading r b f (three.0))
+        ∙ ap (λ o. is_some o || is_some (html_if (b == 60) bs)) (no_fence r b here f z (three.1))
+        ∙ ap (λ k. is_some (html_if k bs)) (three.2)))
 
 -- the reader's tests of what begins, after those of blank lines and of indentation
 
-near_opens : (p : Part) (q : Bool) (h : Option Heading) (f : Option Fence) (k : Option HtmlKind) (r : Bool) (m : Option Marker) (item : Marker → Option ItemStart) → is_leaf (first_of_these p q h f k r m) ≡ true
+near_opens : (p : Part) (q : Bool) (h : Option Heading) (f : Option Fence) (k : Option HtmlKind) (r : Bool) (m : Option Marker) (item : Marker → Option ItemStart) → is_flat (first_of_these p q h f k r m) ≡ true → (begins_sign h f k ≡ true → m ≡ None)
     → (if q then Some begins.Quote else (if r then None else option_map (λ i. begins.Item i) (option_and_then item m))) ≡ None
-near_opens p true h f k r m item e = absurd (true≢false (sym e))
-near_opens p false (Some x) f k r m item e = absurd (true≢false (sym e))
-near_opens p false None (Some f) k r m item e = absurd (true≢false (sym e))
-near_opens p false None None (Some k) r m item e = absurd (true≢false (sym e))
-near_opens p false None None None true m item e = refl
-near_opens p false None None None false (Some m) item e = absurd (true≢false (sym e))
-near_opens p false None None None false None item e = refl
+near_opens p true h f k r m item e g = absurd (true≢false (sym e))
+near_opens p false (Some x) f k true m item e g = refl
+near_opens p false (Some x) f k false m item e g = ap (λ o. option_map (λ i. begins.Item i) (option_and_then item o)) (g refl)
+near_opens p false None (Some f) k true m item e g = refl
+near_opens p false None (Some f) k false m item e g = ap (λ o. option_map (λ i. begins.Item i) (option_and_then item o)) (g refl)
+near_opens p false None None (Some k) true m item e g = refl
+near_opens p false None None (Some k) false m item e g = ap (λ o. option_map (λ i. begins.Item i) (option_and_then item o)) (g refl)
+near_opens p false None None None true m item e g = refl
+near_opens p false None None None false (Some m) item e g = absurd (true≢false (sym e))
+near_opens p false None None None false None item e g = refl
 
-near_starts : (p : Part) (q : Bool) (h : Option Heading) (f : Option Fence) (k : Option HtmlKind) (r : Bool) (m : Option Marker) (n indented : ℕ) (html : Option HtmlKind) (u : Option HeadingLevel)
-    → is_leaf (first_of_these p q h f k r m) ≡ true → (k ≡ None → html ≡ None)
+html_starts : (p r : Bool) (u : Option HeadingLevel) (o : Option HtmlKind) → (u ≡ None) × (r ≡ false)
+    → unwrap_or (option_map (λ x. start.Html x) o) (unwrap_or (option_map (λ x. start.Underline x) (if p then u else None)) (if r then start.Rule else start.Text)) ≡ html_start o
+html_starts p r u (Some k) g = refl
+html_starts true r u None g = ap (λ x. unwrap_or (option_map (λ y. start.Underline y) x) (if r then start.Rule else start.Text)) (g.0) ∙ ap (λ k. if k then start.Rule else start.Text) (g.1)
+html_starts false r u None g = ap (λ k. if k then start.Rule else start.Text) (g.1)
+
+plain_starts : (p : Bool) (u : Option HeadingLevel) (other : LeafStart) → unwrap_or (option_map (λ x. start.Underline x) (if p then u else None)) other ≡ plain_start p u other
+plain_starts true (Some l) other = refl
+plain_starts true None other = refl
+plain_starts false u other = refl
+
+near_starts : (part : Part) (q : Bool) (h : Option Heading) (f : Option Fence) (k : Option HtmlKind) (r : Bool) (m : Option Marker) (n indented : ℕ) (p : Bool) (u : Option HeadingLevel)
+    → is_flat (first_of_these part q h f k r m) ≡ true → indented ≡ indent part → (begins_sign h f k ≡ true → (u ≡ None) × (r ≡ false))
     → unwrap_or (option_map (λ x. start.Heading x) (option_map (heading_later n) h))
     (unwrap_or (option_map (λ x. start.Fence x) (option_map (fence_indented indented) f))
-    (unwrap_or (option_map (λ x. start.Html x) html)
-    (unwrap_or (option_map (λ x. start.Underline x) u) (if r then start.Rule else start.Text))))
-    ≡ start_as false u r
-near_starts p true h f k r m n i html u e g = absurd (true≢false (sym e))
-near_starts p false (Some x) f k r m n i html u e g = absurd (true≢false (sym e))
-near_starts p false None (Some f) k r m n i html u e g = absurd (true≢false (sym e))
-near_starts p false None None (Some k) r m n i html u e g = absurd (true≢false (sym e))
-near_starts p false None None None true m n i html None e g = rw (g refl) refl
-near_starts p false None None None true m n i html (Some l) e g = rw (g refl) refl
-near_starts p false None None None false (Some m) n i html u e g = absurd (true≢false (sym e))
-near_starts p false None None None false None n i html None e g = rw (g refl) refl
-near_starts p false None None None false None n i html (Some l) e g = rw (g refl) refl
+    (unwrap_or (option_map (λ x. start.Html x) (option_and_then (interrupting p) k))
+    (unwrap_or (option_map (λ x. start.Underline x) (if p then u else None)) (if r then start.Rule else start.Text))))
+    ≡ start_as n p u (first_of_these part q h f k r m)
+near_starts part true h f k r m n i p u e w g = absurd (true≢false (sym e))
+near_starts part false (Some x) f k r m n i p u e w g = refl
+near_starts part false None (Some f) k r m n i p u e w g = ap (λ d. start.Fence (fence_indented d f)) w
+near_starts part false None None (Some k) r m n i p u e w g = html_starts p r u (interrupting p k) (g refl)
+near_starts part false None None None true m n i p u e w g = plain_starts p u start.Rule
+near_starts part false None None None false (Some m) n i p u e w g = absurd (true≢false (sym e))
+near_starts part false None None None false None n i p u e w g = plain_starts p u start.Text
 
-near_kind : (p : Part) (q : Bool) (h : Option Heading) (f : Option Fence) (k : Option HtmlKind) (r : Bool) (m : Option Marker) → is_leaf (first_of_these p q h f k r m) ≡ true → first_of_these p q h f k r m ≡ kind_as false r
-near_kind p true h f k r m e = absurd (true≢false (sym e))
-near_kind p false (Some x) f k r m e = absurd (true≢false (sym e))
-near_kind p false None (Some f) k r m e = absurd (true≢false (sym e))
-near_kind p false None None (Some k) r m e = absurd (true≢false (sym e))
-near_kind p false None None None true m e = refl
-near_kind p false None None None false (Some m) e = absurd (true≢false (sym e))
-near_kind p false None None None false None e = refl
+near_marked : (part : Part) (q : Bool) (h : Option Heading) (f : Option Fence) (k : Option HtmlKind) (r : Bool) (m : Option Marker) (u : Option HeadingLevel)
+    → is_flat (first_of_these part q h f k r m) ≡ true → (begins_sign h f k ≡ true → u ≡ None) → may_underline (first_of_these part q h f k r m) ≡ false → u ≡ None
+near_marked part true h f k r m u e g d = absurd (true≢false (sym e))
+near_marked part false (Some x) f k r m u e g d = g refl
+near_marked part false None (Some f) k r m u e g d = g refl
+near_marked part false None None (Some k) r m u e g d = g refl
+near_marked part false None None None true m u e g d = absurd (true≢false d)
+near_marked part false None None None false (Some m) u e g d = absurd (true≢false (sym e))
+near_marked part false None None None false None u e g d = absurd (true≢false d)
 
-html_none : (xs : List ℕ) → html_if (begins_with 60 xs) xs ≡ None → html_kind xs ≡ None
+near_heading : (part : Part) (q : Bool) (h : Option Heading) (f : Option Fence) (k : Option HtmlKind) (r : Bool) (m : Option Marker) (x : Heading) → first_of_these part q h f k r m ≡ HeadingLine x → h ≡ Some x
+near_heading part true h f k r m x e = absurd cc
+near_heading part false (Some y) f k r m x e = let q : y ≡ x = cc in ap (λ z. Some z) q
+near_heading part false None (Some f) k r m x e = absurd cc
+near_heading part false None None (Some k) r m x e = absurd cc
+near_heading part false None None None true m x e = absurd cc
+near_heading part false None None None false (Some m) x e = absurd cc
+near_heading part false None None None false None x e = absurd cc
+
+html_same : (b : ℕ) (bs : List ℕ) → html_kind (b ∷ bs) ≡ html_if (b == 60) (b ∷ bs)
 unfolding html_kind
-html_none [] e = refl
-html_none (b ∷ bs) e = by (b == 60) refl
+html_same b bs = by (b == 60) refl
   where
-    by : (k : Bool) → (b == 60) ≡ k → html_kind (b ∷ bs) ≡ None
-    by true q = sym (ap (λ t. html_if t (b ∷ bs)) q) ∙ e
+    by : (k : Bool) → (b == 60) ≡ k → html_kind (b ∷ bs) ≡ html_if k (b ∷ bs)
+    by true q = refl
     by false q = rw q refl
 
-interrupting_none : (p : Bool) (o : Option HtmlKind) → o ≡ None → option_and_then (interrupting p) o ≡ None
-interrupting_none p o e = ap (option_and_then (interrupting p)) e
+-- a part of a part of bytes
+pub between_in : (text : List ℕ) (s e a c : ℕ) → s ≤ e → e ≤ length text → c ≤ e - s → bytes_between text (s + a) (s + c) ≡ bytes_between (bytes_between text s e) a c
+between_in text s e a c order within low =
+    rw (wide, near, le_on s a c) (by (nat_le a c) refl)
+    ∙ sym (ap (λ n. if nat_le a c && nat_le c n then take (c - a) (drop a (bytes_between text s e)) else []) count ∙ ap (λ k. if nat_le a c && k then take (c - a) (drop a (bytes_between text s e)) else []) low_too)
+  where
+    count : length (bytes_between text s e) ≡ e - s
+    count = between_length text s e order within
+
+    low_too : nat_le c (e - s) ≡ true
+    low_too = grind (arith, low, nat_tests)
+
+    near : nat_le (s + c) (length text) ≡ true
+    near = let k : s + c ≤ length text = omega (arith, low, order, within) in grind (arith, k, nat_tests)
+
+    wide : s + c - (s + a) ≡ c - a
+    wide = omega arith
+
+    taken : a ≤ c → take (c - a) (drop (s + a) text) ≡ take (c - a) (drop a (bytes_between text s e))
+    taken o =
+        sym (ap (λ ys. take (c - a) (drop a ys)) (between_is text s e order within)
+        ∙ ap (λ w. take (c - a) (drop a (take w (drop s text)))) (let q : e - s ≡ a + (e - s - a) = omega (arith, low, o) in q)
+        ∙ ap (take (c - a)) (drop-take a (e - s - a) (drop s text))
+        ∙ take-take (c - a) (e - s - a) (drop a (drop s text)) (omega (arith, low))
+        ∙ ap (take (c - a)) (drop-drop a s text))
+
+    by : (k : Bool) → nat_le a c ≡ k → (if k && true then take (c - a) (drop (s + a) text) else []) ≡ (if k && true then take (c - a) (drop a (bytes_between text s e)) else [])
+    by true q = taken (grind (arith, q, nat_tests))
+    by false q = refl
 
 -- a line without a tab that is blank
 
@@ -242,60 +425,69 @@ blank_facts text l xs same h fits blank bracket =
     record {
       spaces = spaces_of xs;
       columns = cells_at l.start [] xs;
-      blank = true;
+      kind = BlankLine;
       level = None;
-      rule = false;
       read = ap (cells_of [] l.start) same ∙ plain_cells l.start xs (no_tab xs h);
       cursor = cursor_same l.start xs h fits;
       opens = λ p. rw long refl;
       starts = λ p. rw long refl;
-      kind = ap (λ ys. beginning_of (part_of ys) (is_blank ys) (nat_le 4 (indent (part_of ys)))) same ∙ ap (λ k. beginning_of (part_of xs) k (nat_le 4 (indent (part_of xs)))) blank;
+      begins = ap (λ ys. beginning_of (part_of ys) (is_blank ys) (nat_le 4 (indent (part_of ys)))) same ∙ ap (λ k. beginning_of (part_of xs) k (nat_le 4 (indent (part_of xs)))) blank;
+      leaf = refl;
+      marked = λ e. refl;
       under = λ e. absurd (true≢false e);
       ink = λ e. absurd (true≢false e);
       some = λ e. absurd (true≢false e);
       first = λ e. absurd (true≢false e);
       bracket = bracket;
+      heads = λ x e. absurd cc;
     }
   where
     long : nat_le (length (cells_at l.start [] xs)) (spaces_of xs) ≡ true
     long = ap (λ n. nat_le n (spaces_of xs)) (length_kept l.start [] xs) ∙ blank_same xs ∙ blank
 
--- another one
+-- a line with ink after its spaces
+record Inked (text : List ℕ) (l : Line) (xs : List ℕ) (b : ℕ) (bs : List ℕ) : Type 0 where
+  pub same : bytes_between text l.start l.end ≡ xs
+  pub plain : IsPlain xs
+  pub inked : drop (spaces_of xs) xs ≡ b ∷ bs
+  pub no_space : (b == 32) ≡ false
+  pub order : l.start ≤ l.end
+  pub within : l.end ≤ length text
+  pub short : length xs + 3 < 2 ^ 64
+  pub end_fits : l.end + 3 < 2 ^ 64
+  pub width : l.end ≡ l.start + length xs
+  pub count : length xs ≡ spaces_of xs + suc (length bs)
+  pub behind : Behind (spaces_of xs) (cells_at l.start [] xs) (cells (b ∷ bs))
+  pub long : nat_le (length (cells_at l.start [] xs)) (spaces_of xs) ≡ false
+  pub placed : cell_place (cells_at l.start [] xs) (spaces_of xs) l.end ≡ l.start + spaces_of xs
+  pub before_next : nat_lt (l.start + spaces_of xs) l.next ≡ true
+  pub rested : bytes_between text (cell_place (cells_at l.start [] xs) (spaces_of xs) l.end) l.end ≡ b ∷ bs
+  pub byte : byte_at text (l.start + spaces_of xs) ≡ b
+  pub rest_bytes : bytes_of (cells (b ∷ bs)) ≡ b ∷ bs
+  pub rest_plain : IsPlain (b ∷ bs)
 
-text_facts : (text : List ℕ) (l : Line) (xs : List ℕ) → bytes_between text l.start l.end ≡ xs → IsPlain xs → length text + 3 < 2 ^ 64 → Sound text l → is_blank xs ≡ false
-    → nat_le 4 (indent (part_of xs)) ≡ false
-    → (b : ℕ) (bs : List ℕ) → drop (spaces_of xs) xs ≡ b ∷ bs → is_blank_byte b ≡ false
-    → is_leaf (near_beginning (part_of xs) (b ∷ bs) (cells (b ∷ bs))) ≡ true
-    → (b == 91) ≡ false
-    → begins_with 91 (line_ink (declared text l)) ≡ false
-    → Facts text l
-unfolding container_in container_at item_at definition_start note_start leaf_at mark_at html_at underline_in rule_at beginning first_cursor
-text_facts text l xs same h fits sound blank near b bs inked first_byte leaf no_bracket bracket =
+inked_line : (text : List ℕ) (l : Line) (xs : List ℕ) → bytes_between text l.start l.end ≡ xs → IsPlain xs → length text + 3 < 2 ^ 64 → Sound text l → is_blank xs ≡ false
+    → (b : ℕ) (bs : List ℕ) → drop (spaces_of xs) xs ≡ b ∷ bs → is_blank_byte b ≡ false → Inked text l xs b bs
+inked_line text l xs same h fits sound blank b bs inked first_byte =
     record {
-      spaces = n;
-      columns = whole;
-      blank = false;
-      level = underline_at rest 0;
-      rule = is_rule rest (tail_of rest) 0;
-      read = ap (cells_of [] l.start) same ∙ plain_cells l.start xs (no_tab xs h);
-      cursor = cursor_same l.start xs h short;
-      opens = λ p. rw (long, not_far, quote, rule_same, marker_on n whole rest behind)
-          (near_opens (part_of xs) (b == 62) (heading_at rest 0) (fence_at rest (first_cursor rest)) (html_if (b == 60) (b ∷ bs)) (is_rule rest (tail_of rest) 0) (marker_at rest 0) (item_from whole (at_ink n) p) leaf);
-      starts = λ p. rw (long, narrow, heading_on n whole rest behind, fence_on n whole rest (at_ink n) (first_cursor rest) behind refl no_spaces, rested, underline_on n whole rest behind, rule_same)
-          (near_starts (part_of xs) (b == 62) (heading_at rest 0) (fence_at rest (first_cursor rest)) (html_if (b == 60) (b ∷ bs)) (is_rule rest (tail_of rest) 0) (marker_at rest 0) n (n - 0)
-          (option_and_then (interrupting p) (html_kind (b ∷ bs))) (if p then underline_at rest 0 else None) leaf (λ e. interrupting_none p (html_kind (b ∷ bs)) (html_none (b ∷ bs) e)));
-      kind = ap (λ ys. beginning_of (part_of ys) (is_blank ys) (nat_le 4 (indent (part_of ys)))) same
-          ∙ ap (λ k. beginning_of (part_of xs) k (nat_le 4 (indent (part_of xs)))) blank
-          ∙ ap (λ k. beginning_of (part_of xs) false k) near
-          ∙ ap (λ ys. near_beginning (part_of xs) ys (cells ys)) inked
-          ∙ near_kind (part_of xs) (b == 62) (heading_at rest 0) (fence_at rest (first_cursor rest)) (html_if (b == 60) (b ∷ bs)) (is_rule rest (tail_of rest) 0) (marker_at rest 0) leaf;
-      under = λ e texts. ap (λ ys. underline texts (document_line ys)) same
-          ∙ ap (λ k. if k then None else underlined texts (underline_at (cells (drop n xs)) 0)) near
-          ∙ ap (λ ys. underlined texts (underline_at (cells ys) 0)) inked;
-      ink = λ e. rested ∙ sym (ap (λ ys. line_ink (document_line ys)) same ∙ inked);
-      some = λ e. ap (λ k. nat_lt k l.next) placed ∙ before_next;
-      first = λ e. ap (λ k. byte_at text k == 91) placed ∙ ap (λ k. k == 91) byte ∙ no_bracket;
-      bracket = bracket;
+      same = same;
+      plain = h;
+      inked = inked;
+      no_space = (both_false (b == 32) (b == 9) first_byte).0;
+      order = ordered;
+      within = in_text;
+      short = short;
+      end_fits = omega (arith, in_text, fits);
+      width = omega (arith, width, ordered);
+      count = omega (arith, counted, suc_long);
+      behind = subst (λ (ys : List ℕ). Behind n whole (cells ys)) inked (behind_same l.start xs h short);
+      long = ap (λ k. nat_le k n) (length_kept l.start [] xs) ∙ blank_same xs ∙ blank;
+      placed = placed;
+      before_next = let less : l.start + n < l.next = let order : l.end ≤ l.next = sound.next in omega (arith, fewer, width, ordered, order) in grind (arith, nat_tests);
+      rested = rested;
+      byte = byte_first text (l.start + n) l.end b bs (sym (ap (λ k. bytes_between text k l.end) placed) ∙ rested);
+      rest_bytes = ap bytes_of (plain_cells 0 (b ∷ bs) (no_tab (b ∷ bs) rest_plain)) ∙ bytes_kept 0 [] (b ∷ bs);
+      rest_plain = rest_plain;
     }
   where
     n : ℕ
@@ -303,9 +495,6 @@ text_facts text l xs same h fits sound blank near b bs inked first_byte leaf no_
 
     whole : List Cell
     whole = cells_at l.start [] xs
-
-    rest : List Cell
-    rest = cells (b ∷ bs)
 
     ordered : l.start ≤ l.end
     ordered = sound.order
@@ -328,54 +517,8 @@ text_facts text l xs same h fits sound blank near b bs inked first_byte leaf no_
     fewer : n < length xs
     fewer = omega (arith, counted, suc_long)
 
-    behind : Behind n whole rest
-    behind = subst (λ (ys : List ℕ). Behind n whole (cells ys)) inked (behind_same l.start xs h short)
-
-    long : nat_le (length whole) n ≡ false
-    long = ap (λ k. nat_le k n) (length_kept l.start [] xs) ∙ blank_same xs ∙ blank
-
-    few : nat_le 4 n ≡ false
-    few = ap (nat_le 4) (sym (indent_same xs h)) ∙ near
-
-    not_far : nat_le 4 (n - 0) ≡ false
-    not_far = ap (nat_le 4) (let q : n - 0 ≡ n = omega arith in q) ∙ few
-
-    narrow : nat_lt (n - 0) 4 ≡ true
-    narrow = grind (arith, not_far, nat_tests)
-
-    rest_bytes : rest ≡ cells_at 0 [] (b ∷ bs)
-    rest_bytes = plain_cells 0 (b ∷ bs) (no_tab (b ∷ bs) (subst (λ (ys : List ℕ). IsPlain ys) inked (drop_plain n xs h)))
-
-    quote : (cell_byte whole n == 62) ≡ (b == 62)
-    quote = ap (λ k. cell_byte whole k == 62) (let q : n ≡ n + 0 = omega arith in q) ∙ ap (λ k. k == 62) (byte_on n whole rest 0 behind) ∙ ap (λ cs. cell_byte cs 0 == 62) rest_bytes
-
-    no_space : (b == 32) ≡ false
-    no_space = (both_false (b == 32) (b == 9) first_byte).0
-
-    no_spaces : (first_cursor rest).ink ≡ 0
-    no_spaces = ap (λ cs. plus 0 (run_of cs 0 32)) rest_bytes ∙ rw no_space refl
-
-    tail_short : trailing rest 32 < length rest
-    tail_short =
-        let asked : trailing (cells_at 0 [] (b ∷ bs)) 32 ≡ length (take_while (λ x. x == 32) (reverse (b ∷ bs))) = trailing_asked (cells_at 0 [] (b ∷ bs)) 32 ∙ ap (λ (ys : List ℕ). length (take_while (λ x. x == 32) (reverse ys))) (bytes_kept 0 [] (b ∷ bs)) in
-        let kept : length (cells_at 0 [] (b ∷ bs)) ≡ length (b ∷ bs) = length_kept 0 [] (b ∷ bs) in
-        let stops : length (take_while (λ x. x == 32) (reverse (b ∷ bs))) < length (b ∷ bs) = back_stops (λ x. x == 32) b bs no_space in
-        let one : trailing rest 32 ≡ trailing (cells_at 0 [] (b ∷ bs)) 32 = ap (λ cs. trailing cs 32) rest_bytes in
-        let two : length rest ≡ length (cells_at 0 [] (b ∷ bs)) = ap length rest_bytes in
-        omega (arith, asked, kept, stops, one, two)
-
-    rule_same : is_rule whole (tail_of whole) n ≡ is_rule rest (tail_of rest) 0
-    rule_same = rule_on n whole rest behind tail_short
-
     placed : cell_place whole n l.end ≡ l.start + n
-    placed =
-        let low : l.start < 2 ^ 64 = omega (arith, ordered, in_text, fits) in
-        let there : nat_lt n (length xs) ≡ true = grind (arith, fewer, nat_tests) in
-        let sum : plus l.start n ≡ l.start + n = plus_low l.start n (omega (arith, fewer, width, in_text, fits)) in
-        place_kept l.start [] xs n l.end low ∙ rw there sum
-
-    before_next : nat_lt (l.start + n) l.next ≡ true
-    before_next = let less : l.start + n < l.next = let order : l.end ≤ l.next = sound.next in omega (arith, fewer, width, ordered, order) in grind (arith, nat_tests)
+    placed = place_there l.start xs n l.end (omega (arith, fewer)) (omega (arith, width, ordered)) (omega (arith, in_text, fits))
 
     rested : bytes_between text (cell_place whole n l.end) l.end ≡ b ∷ bs
     rested =
@@ -383,8 +526,161 @@ text_facts text l xs same h fits sound blank near b bs inked first_byte leaf no_
         ∙ between_further text l.start n l.end (omega (arith, fewer, width, ordered)) in_text
         ∙ ap (drop n) same ∙ inked
 
-    byte : byte_at text (l.start + n) ≡ b
-    byte = byte_first text (l.start + n) l.end b bs (sym (ap (λ k. bytes_between text k l.end) placed) ∙ rested)
+    rest_plain : IsPlain (b ∷ bs)
+    rest_plain = subst (λ (ys : List ℕ). IsPlain ys) inked (drop_plain n xs h)
+
+-- a part of the ink, in the text and by itself
+ink_part : (text : List ℕ) (l : Line) (xs : List ℕ) (b : ℕ) (bs : List ℕ) → Inked text l xs b bs → (from to : ℕ) → from ≤ length (b ∷ bs) → to ≤ length (b ∷ bs)
+    → bytes_between text (cell_place (cells_at l.start [] xs) (spaces_of xs + from) l.end) (cell_place (cells_at l.start [] xs) (spaces_of xs + to) l.end) ≡ bytes_between (b ∷ bs) from to
+ink_part text l xs b bs i from to low high =
+    ap (λ k. bytes_between text k (cell_place whole (n + to) l.end)) (place_there l.start xs (n + from) l.end (omega (arith, low, count)) width end_fits)
+    ∙ ap (bytes_between text (l.start + (n + from))) (place_there l.start xs (n + to) l.end (omega (arith, high, count)) width end_fits)
+    ∙ between_in text l.start l.end (n + from) (n + to) i.order i.within (omega (arith, high, count, width))
+    ∙ ap (λ ys. bytes_between ys (n + from) (n + to)) (i.same ∙ sym (bytes_kept l.start [] xs))
+    ∙ between_on n whole (cells (b ∷ bs)) from to i.behind
+    ∙ ap (λ ys. bytes_between ys from to) i.rest_bytes
+  where
+    n : ℕ
+    n = spaces_of xs
+
+    whole : List Cell
+    whole = cells_at l.start [] xs
+
+    count : length xs ≡ n + suc (length bs)
+    count = i.count
+
+    width : l.end ≡ l.start + length xs
+    width = i.width
+
+    end_fits : l.end + 3 < 2 ^ 64
+    end_fits = i.end_fits
+
+heading_facts : (text : List ℕ) (l : Line) (xs : List ℕ) (b : ℕ) (bs : List ℕ) → Inked text l xs b bs → (h : Heading) → heading_at (cells (b ∷ bs)) 0 ≡ Some h → HeadingFacts text l (cells_at l.start [] xs) (spaces_of xs) h (b ∷ bs)
+heading_facts text l xs b bs i h e =
+    record {
+      says = ink_part text l xs b bs i h.from h.to low high ∙ sym is;
+      idle = ap without_last_blanks (is ∙ sym read) ∙ t.idle ∙ read ∙ sym is;
+    }
+  where
+    r : List Cell
+    r = cells (b ∷ bs)
+
+    count : length (bytes_of r) ≡ length (b ∷ bs)
+    count = ap length i.rest_bytes
+
+    t : Trimmed r h.from h.to
+    t = heading_text_trimmed r h (subst (λ (ys : List ℕ). IsPlain ys) (sym i.rest_bytes) i.rest_plain) (sym (length-map r (λ (c : Cell). c.byte))) e
+
+    low : h.from ≤ length (b ∷ bs)
+    low = omega (arith, t.begins, count)
+
+    high : h.to ≤ length (b ∷ bs)
+    high = omega (arith, t.ends, count)
+
+    read : bytes_between (bytes_of r) h.from h.to ≡ bytes_between (b ∷ bs) h.from h.to
+    read = ap (λ ys. bytes_between ys h.from h.to) i.rest_bytes
+
+    fits : length (b ∷ bs) + 3 < 2 ^ 64
+    fits = let k : length xs ≡ spaces_of xs + suc (length bs) = i.count in omega (arith, k, i.short)
+
+    is : heading_text h (b ∷ bs) r ≡ bytes_between (b ∷ bs) h.from h.to
+    is = ap (λ k. bytes_between (b ∷ bs) k (cell_place r h.to (length (b ∷ bs)))) (place_here (b ∷ bs) h.from i.rest_plain low fits)
+        ∙ ap (bytes_between (b ∷ bs) h.from) (place_here (b ∷ bs) h.to i.rest_plain high fits)
+
+-- a line that isn't indented so far
+
+near_facts : (text : List ℕ) (l : Line) (xs : List ℕ) (b : ℕ) (bs : List ℕ) → Inked text l xs b bs → is_blank xs ≡ false
+    → nat_le 4 (indent (part_of xs)) ≡ false
+    → is_leaf (near_beginning (part_of xs) (b ∷ bs) (cells (b ∷ bs))) ≡ true
+    → (b == 91) ≡ false
+    → begins_with 91 (line_ink (declared text l)) ≡ false
+    → Facts text l
+unfolding container_in container_at item_at definition_start note_start leaf_at mark_at html_at underline_in rule_at beginning first_cursor
+near_facts text l xs b bs i blank near leaf no_bracket bracket =
+    record {
+      spaces = n;
+      columns = whole;
+      kind = near_beginning (part_of xs) (b ∷ bs) rest;
+      level = underline_at rest 0;
+      read = ap (cells_of [] l.start) i.same ∙ plain_cells l.start xs (no_tab xs i.plain);
+      cursor = cursor_same l.start xs i.plain i.short;
+      opens = λ p. rw (i.long, not_far, quote, rule_same, marker_on n whole rest i.behind)
+          (near_opens (part_of xs) (b == 62) (heading_at rest 0) (fence_at rest (first_cursor rest)) (html_if (b == 60) (b ∷ bs)) (is_rule rest (tail_of rest) 0) (marker_at rest 0) (item_from whole (at_ink n) p) flat
+          (λ e. no_marker rest b first (signs e)));
+      starts = λ p. rw (i.long, narrow, heading_on n whole rest i.behind, fence_on n whole rest (at_ink n) (first_cursor rest) i.behind refl no_spaces, i.rested, html_same b bs, underline_on n whole rest i.behind, rule_same)
+          (near_starts (part_of xs) (b == 62) (heading_at rest 0) (fence_at rest (first_cursor rest)) (html_if (b == 60) (b ∷ bs)) (is_rule rest (tail_of rest) 0) (marker_at rest 0) n (n - 0) p (underline_at rest 0) flat indented
+          (λ e. (no_underline rest b first (signs e), no_rule rest b first (signs e))));
+      begins = ap (λ ys. beginning_of (part_of ys) (is_blank ys) (nat_le 4 (indent (part_of ys)))) i.same
+          ∙ ap (λ k. beginning_of (part_of xs) k (nat_le 4 (indent (part_of xs)))) blank
+          ∙ ap (λ k. beginning_of (part_of xs) false k) near
+          ∙ ap (λ ys. near_beginning (part_of xs) ys (cells ys)) i.inked;
+      leaf = leaf;
+      marked = near_marked (part_of xs) (b == 62) (heading_at rest 0) (fence_at rest (first_cursor rest)) (html_if (b == 60) (b ∷ bs)) (is_rule rest (tail_of rest) 0) (marker_at rest 0) (underline_at rest 0) flat
+          (λ e. no_underline rest b first (signs e));
+      under = λ e texts. ap (λ ys. underline texts (document_line ys)) i.same
+          ∙ ap (λ k. if k then None else underlined texts (underline_at (cells (drop n xs)) 0)) near
+          ∙ ap (λ ys. underlined texts (underline_at (cells ys) 0)) i.inked;
+      ink = λ e. i.rested ∙ sym ink_is;
+      some = λ e. ap (λ k. nat_lt k l.next) i.placed ∙ i.before_next;
+      first = λ e. ap (λ k. byte_at text k == 91) i.placed ∙ ap (λ k. k == 91) i.byte ∙ no_bracket;
+      bracket = bracket;
+      heads = λ x e. subst (λ (ys : List ℕ). HeadingFacts text l whole n x ys) (sym ink_is) (heading_facts text l xs b bs i x
+          (near_heading (part_of xs) (b == 62) (heading_at rest 0) (fence_at rest (first_cursor rest)) (html_if (b == 60) (b ∷ bs)) (is_rule rest (tail_of rest) 0) (marker_at rest 0) x e));
+    }
+  where
+    n : ℕ
+    n = spaces_of xs
+
+    whole : List Cell
+    whole = cells_at l.start [] xs
+
+    rest : List Cell
+    rest = cells (b ∷ bs)
+
+    first : First rest b
+    first = record { rest = bs; bytes = i.rest_bytes }
+
+    flat : is_flat (near_beginning (part_of xs) (b ∷ bs) rest) ≡ true
+    flat = leaf_flat (near_beginning (part_of xs) (b ∷ bs) rest) leaf
+
+    ink_is : line_ink (declared text l) ≡ b ∷ bs
+    ink_is = ap (λ ys. line_ink (document_line ys)) i.same ∙ i.inked
+
+    indented : n - 0 ≡ indent (part_of xs)
+    indented = (let q : n - 0 ≡ n = omega arith in q) ∙ sym (indent_same xs i.plain)
+
+    few : nat_le 4 n ≡ false
+    few = ap (nat_le 4) (sym (indent_same xs i.plain)) ∙ near
+
+    not_far : nat_le 4 (n - 0) ≡ false
+    not_far = ap (nat_le 4) (let q : n - 0 ≡ n = omega arith in q) ∙ few
+
+    narrow : nat_lt (n - 0) 4 ≡ true
+    narrow = grind (arith, not_far, nat_tests)
+
+    rest_cells : rest ≡ cells_at 0 [] (b ∷ bs)
+    rest_cells = plain_cells 0 (b ∷ bs) (no_tab (b ∷ bs) i.rest_plain)
+
+    quote : (cell_byte whole n == 62) ≡ (b == 62)
+    quote = ap (λ k. cell_byte whole k == 62) (let q : n ≡ n + 0 = omega arith in q) ∙ ap (λ k. k == 62) (byte_on n whole rest 0 i.behind) ∙ ap (λ cs. cell_byte cs 0 == 62) rest_cells
+
+    no_spaces : (first_cursor rest).ink ≡ 0
+    no_spaces = ap (λ cs. plus 0 (run_of cs 0 32)) rest_cells ∙ rw i.no_space refl
+
+    signs : begins_sign (heading_at rest 0) (fence_at rest (first_cursor rest)) (html_if (b == 60) (b ∷ bs)) ≡ true → NoMark b
+    signs e = sign_begins rest b (b ∷ bs) (first_cursor rest) first no_spaces e
+
+    tail_short : trailing rest 32 < length rest
+    tail_short =
+        let asked : trailing (cells_at 0 [] (b ∷ bs)) 32 ≡ length (take_while (λ x. x == 32) (reverse (b ∷ bs))) = trailing_asked (cells_at 0 [] (b ∷ bs)) 32 ∙ ap (λ (ys : List ℕ). length (take_while (λ x. x == 32) (reverse ys))) (bytes_kept 0 [] (b ∷ bs)) in
+        let kept : length (cells_at 0 [] (b ∷ bs)) ≡ length (b ∷ bs) = length_kept 0 [] (b ∷ bs) in
+        let stops : length (take_while (λ x. x == 32) (reverse (b ∷ bs))) < length (b ∷ bs) = back_stops (λ x. x == 32) b bs i.no_space in
+        let one : trailing rest 32 ≡ trailing (cells_at 0 [] (b ∷ bs)) 32 = ap (λ cs. trailing cs 32) rest_cells in
+        let two : length rest ≡ length (cells_at 0 [] (b ∷ bs)) = ap length rest_cells in
+        omega (arith, asked, kept, stops, one, two)
+
+    rule_same : is_rule whole (tail_of whole) n ≡ is_rule rest (tail_of rest) 0
+    rule_same = rule_on n whole rest i.behind tail_short
 
 -- the facts of a line that begins a leaf
 pub leaf_facts : (text : List ℕ) (l : Line) → IsPlain text → length text + 3 < 2 ^ 64 → Sound text l → IsLeafLine (declared text l) → Facts text l
@@ -410,7 +706,7 @@ leaf_facts text l h fits sound leaf = by (is_blank xs) (nat_le 4 (indent (part_o
     short = omega (arith, between_long text l.start l.end ordered in_text, in_text, fits)
 
     inked : is_blank xs ≡ false → nat_le 4 (indent (part_of xs)) ≡ false → (b : ℕ) × (bs : List ℕ) × (drop (spaces_of xs) xs ≡ b ∷ bs) × (is_blank_byte b ≡ false) → Facts text l
-    inked blank near (b, bs, e, no_blank) = text_facts text l xs refl inner fits sound blank near b bs e no_blank
+    inked blank near (b, bs, e, no_blank) = near_facts text l xs b bs (inked_line text l xs refl inner fits sound blank b bs e no_blank) blank near
         (sym (ap (λ k. is_leaf (beginning_of (part_of xs) k (nat_le 4 (indent (part_of xs))))) blank
         ∙ ap (λ k. is_leaf (beginning_of (part_of xs) false k)) near
         ∙ ap (λ ys. is_leaf (near_beginning (part_of xs) ys (cells ys))) e) ∙ begins_leaf)

@@ -9,13 +9,14 @@ use Rattle.tocmark_read_scan.proofs.Repeats.{repeated_stop}
 use Rattle.tocmark_read_tokens.specs.Word.{label, defined_label, definition_at}
 use Rattle.tocmark_read_page.specs.Definitions.{define_once}
 use Rattle.tocmark_read_page.specs.declared.page.Block.{Block as ReadBlock}
+use Rattle.tocmark_read_page.specs.declared.page.BlockKind.{BlockKind}
 use Rattle.tocmark_read_page.specs.declared.page.BlockKind.TheVariants as kind
 use Rattle.tocmark_read_page.specs.declared.piece.Piece.{Piece}
 use Rattle.tocmark_commonmark.specs.Tree.{Block, Blocks, none, more, Heading, Paragraph}
 use Rattle.tocmark_commonmark.specs.Lines.{with_feeds}
 use Rattle.tocmark_commonmark.specs.Beginnings.{begins_with}
 use Rattle.tocmark_commonmark.specs.Leaves.{counted, definitions_in, definitions, text_of}
-use Rattle.tocmark_block_laws.specs.Trees.{line_text, block_as, Placed, more_if, tree_of, pieces_of, put, placed_in}
+use Rattle.tocmark_block_laws.specs.Trees.{line_text, leaf_text, block_as, Placed, more_if, tree_of, pieces_of, put, placed_in}
 
 -- blocks before others
 abbrev pub also : Blocks → Blocks → Blocks
@@ -108,15 +109,18 @@ holds_read text bs ps found h =
 pieces_new : (ps new later : List Piece) → drop (length ps) (take (length (ps ++ new)) ((ps ++ new) ++ later)) ≡ new
 pieces_new ps new later = ap (drop (length ps)) (take_front (ps ++ new) later) ∙ drop_behind ps new
 
+-- a block with its lines
+pub block_told : (text : List ℕ) (k : BlockKind) (ps qs : List Piece) (start end : ℕ) (later : List Piece)
+    → leaf_as text ((ps ++ qs) ++ later) (record { depth = 0; kind = k; start = start; end = end; first = length ps; last = length (ps ++ qs); loose = false; list = None; task = None }) ≡ block_as text k false qs none
+block_told text k ps qs start end later = ap (λ xs. block_as text k false xs none) (pieces_new ps qs later)
+
 pub paragraph_told : (text : List ℕ) (ps : List Piece) (q : Piece) (qs : List Piece) (texts : List (List ℕ)) (start end : ℕ) → map (line_text text) (q ∷ qs) ≡ texts → (later : List Piece)
     → leaf_as text ((ps ++ q ∷ qs) ++ later) (record { depth = 0; kind = kind.Paragraph; start = start; end = end; first = length ps; last = length (ps ++ q ∷ qs); loose = false; list = None; task = None }) ≡ Some (Paragraph (text_of texts))
-paragraph_told text ps q qs texts start end h later =
-    ap (λ xs. block_as text kind.Paragraph false xs none) (pieces_new ps (q ∷ qs) later) ∙ ap (λ ts. Some (Paragraph (text_of ts))) h
+paragraph_told text ps q qs texts start end h later = block_told text kind.Paragraph ps (q ∷ qs) start end later ∙ ap (λ ts. Some (Paragraph (text_of ts))) h
 
-pub heading_told : (text : List ℕ) (level : HeadingLevel) (ps : List Piece) (q : Piece) (qs : List Piece) (texts : List (List ℕ)) (start end : ℕ) → map (line_text text) (q ∷ qs) ≡ texts → (later : List Piece)
-    → leaf_as text ((ps ++ q ∷ qs) ++ later) (record { depth = 0; kind = kind.Heading level None; start = start; end = end; first = length ps; last = length (ps ++ q ∷ qs); loose = false; list = None; task = None }) ≡ Some (Heading level (text_of texts))
-heading_told text level ps q qs texts start end h later =
-    ap (λ xs. block_as text (kind.Heading level None) false xs none) (pieces_new ps (q ∷ qs) later) ∙ ap (λ ts. Some (Heading level (text_of ts))) h
+pub heading_told : (text : List ℕ) (level : HeadingLevel) (ps qs : List Piece) (words : List ℕ) (start end : ℕ) → leaf_text text qs ≡ words → (later : List Piece)
+    → leaf_as text ((ps ++ qs) ++ later) (record { depth = 0; kind = kind.Heading level None; start = start; end = end; first = length ps; last = length (ps ++ qs); loose = false; list = None; task = None }) ≡ Some (Heading level words)
+heading_told text level ps qs words start end h later = block_told text (kind.Heading level None) ps qs start end later ∙ ap (λ t. Some (Heading level t)) h
 
 -- no definition begins without a bracket
 

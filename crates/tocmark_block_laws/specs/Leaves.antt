@@ -5,7 +5,7 @@ use Rattle.tocmark_read_scan.specs.declared.syntax.TheConstants.{CORE}
 use Rattle.tocmark_read_blocks.specs.Blocks.{BlocksView, blocks_in}
 use Rattle.tocmark_commonmark.specs.Lines.{Line, line_ink, lines_of}
 use Rattle.tocmark_commonmark.specs.Tree.{Blocks, defined}
-use Rattle.tocmark_commonmark.specs.Beginnings.{Beginning, BlankLine, RuleLine, TextLine, beginning, begins_with}
+use Rattle.tocmark_commonmark.specs.Beginnings.{Beginning, BlankLine, HeadingLine, RuleLine, TextLine, beginning, begins_with}
 use Rattle.tocmark_commonmark.specs.Blocks.{blocks_of}
 use Rattle.tocmark_block_laws.specs.Trees.{told, read_tree}
 
@@ -26,9 +26,10 @@ is_special b = (b == 9) || (b == 13) || (b == 0)
 abbrev pub IsPlain : List ℕ → Type 0
 IsPlain text = list_any is_special text ≡ false
 
--- a blank line, a thematic break, or the first line of a paragraph
+-- a blank line, a thematic break, a heading, or the first line of a paragraph
 abbrev pub is_leaf : Beginning → Bool
 is_leaf BlankLine = true
+is_leaf (HeadingLine h) = true
 is_leaf RuleLine = true
 is_leaf TextLine = true
 is_leaf b = false
