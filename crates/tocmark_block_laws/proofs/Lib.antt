@@ -2,7 +2,11 @@ pub mod Columns
 pub mod Marks
 pub mod TextLines
 pub mod Texts
+pub mod Fronts
+pub mod Codes
 pub mod Starts
 pub mod Pages
 pub mod Told
+pub mod Ends
+pub mod ReadCodes
 pub mod Read

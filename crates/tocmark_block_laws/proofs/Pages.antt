@@ -1,10 +1,10 @@
 -- A page without open containers, and what a line makes of it.
-use Rattle.std.proofs.Common.{◌≡◌, ℕ, zero, suc, ◌+◌, ◌-◌, ◌^◌, ◌<◌, Bool, true, false, ◌==◌, nat_lt, nat_le, List, [], ◌∷◌, ◌++◌, length, take, slice_get, refl, ap, sym, ◌∙◌, arith, append_assoc, append-nil, length-append, Some, None}
+use Rattle.std.proofs.Common.{◌≡◌, ℕ, zero, suc, ◌+◌, ◌-◌, ◌^◌, ◌<◌, Bool, true, false, ◌==◌, nat_lt, nat_le, List, [], ◌∷◌, ◌++◌, length, take, slice_get, refl, ap, sym, ◌∙◌, arith, append_assoc, append-nil, length-append, true≢false, if◌then◌else◌, Option, Some, None}
 use Rattle.std.proofs.Math.Seq.{take-length}
 use Rattle.std.specs.Prelude.{slice_set}
 use Rattle.std.proofs.lemmas.Bool.Decides.{nat_tests}
 use Rattle.tocmark_event.specs.declared.event.HeadingLevel.{HeadingLevel}
-use Rattle.tocmark_read_scan.specs.Basic.{plus, byte_at}
+use Rattle.tocmark_read_scan.specs.Basic.{plus, byte_at, bytes_between}
 use Rattle.tocmark_read_scan.specs.Repeat.{repeated}
 use Rattle.tocmark_read_scan.specs.declared.syntax.TheConstants.{CORE}
 use Rattle.tocmark_read_scan.proofs.PlainContent.{get_behind}
@@ -19,7 +19,7 @@ use Rattle.tocmark_read_lines.specs.declared.line.Line.{Line}
 use Rattle.tocmark_read_page.specs.Definitions.{begins_definition, definitions_from}
 use Rattle.tocmark_read_page.specs.Leaves.{is_paragraph}
 use Rattle.tocmark_read_page.specs.Pages.{State, leaf_opened, leaf_closed, closed_to, times, list_left, begun, loosened, had_marked, list_of, is_apart, leaf_finished, finished, settled, shortened, has_text, piece_taken, one_closed}
-use Rattle.tocmark_read_page.specs.Pieces.{text_piece, heading_piece, whole_place}
+use Rattle.tocmark_read_page.specs.Pieces.{piece_of, code_piece, keeps_line, text_piece, heading_piece, whole_place}
 use Rattle.tocmark_read_page.specs.declared.line_start.LineStart.{LineStart}
 use Rattle.tocmark_read_page.specs.declared.page.Block.{Block}
 use Rattle.tocmark_read_page.specs.declared.page.BlockKind.{BlockKind}
@@ -32,12 +32,22 @@ use Rattle.tocmark_read_constructs.specs.Headings.{heading_put, heading_started_
 use Rattle.tocmark_read_constructs.specs.Metadata.{metadata_in}
 use Rattle.tocmark_read_constructs.specs.Quotes.{quote_kind_in, tag_in}
 use Rattle.tocmark_read_constructs.specs.Tasks.{task_in}
-use Rattle.tocmark_read_blocks.specs.Blocks.{core_known, underlined_if, underline_taken_in, started_in, leaf_started_in, cells_taken_in, line_taken_in, leaf_started, started_at, passed_in, turn_in, turn_of, touched, cells_taken, line_taken, started}
+use Rattle.tocmark_read_blocks.specs.Blocks.{leaf_ended, turn_taken_in, core_known, underlined_if, underline_taken_in, started_in, leaf_started_in, cells_taken_in, line_taken_in, leaf_started, started_at, passed_in, turn_in, turn_of, touched, cells_taken, line_taken, started}
 use Rattle.tocmark_read_blocks.specs.Containers.{goes_directly, begun_at, container_once_in, container_once, containers_opened}
-use Rattle.tocmark_read_blocks.specs.Leaves.{leaf_turn, rule_at, metadata_or, task_or, quote_kind_or, tag_or}
-use Rattle.tocmark_read_blocks.specs.Paragraphs.{text_started, text_taken, rule_started}
+use Rattle.tocmark_read_blocks.specs.Leaves.{interrupting, leaf_turn, rule_at, metadata_or, task_or, quote_kind_or, tag_or}
+use Rattle.tocmark_read_blocks.specs.Paragraphs.{in_paragraph, text_started, text_taken, rule_started}
+use Rattle.tocmark_read_blocks.specs.Codes.{info_of, html_ended, code_taken, indented_started, fence_started, html_started}
+use Rattle.tocmark_read_blocks.specs.declared.leaf.LeafStart.{LeafStart}
 use Rattle.tocmark_read_blocks.specs.declared.leaf.LeafStart.TheVariants as start
-use Rattle.tocmark_block_laws.proofs.Starts.{at_ink, start_as, Facts}
+use Rattle.tocmark_read_blocks.specs.declared.leaf.Turn.{Turn}
+use Rattle.tocmark_read_blocks.specs.declared.leaf.Turn.TheVariants as turn
+use Rattle.tocmark_read_lines.specs.declared.beginnings.Fence.{Fence}
+use Rattle.tocmark_read_lines.specs.declared.html.HtmlKind.{HtmlKind}
+use Rattle.tocmark_read_lines.specs.declared.html.HtmlKind.TheVariants as html
+use Rattle.tocmark_commonmark.specs.Beginnings.{Beginning, BlankLine, CodeLine, QuoteLine, HeadingLine, FenceLine, HtmlLine, RuleLine, ItemLine, TextLine, LazyLine}
+use Rattle.tocmark_block_laws.proofs.Fronts.{at_ink}
+use Rattle.tocmark_block_laws.proofs.Marks.{heading_later}
+use Rattle.tocmark_block_laws.proofs.Starts.{html_start, start_as, Facts}
 
 -- the front of a line at the top
 abbrev pub here : ℕ → LineStart
@@ -253,22 +263,78 @@ unfolding closed_to leaf_closed times
 paragraph_ends text bs ps q qs end number h fits =
     ap (λ s. times one_closed (length s.opened - 0) s) (ap leaf_finished (settled_none text bs ps q qs end number h fits) ∙ page_finished leaf.Paragraph kind.Paragraph bs (length ps) (ps ++ q ∷ qs) (ps ++ q ∷ qs) (length (ps ++ q ∷ qs)) q.start end number (take-length (ps ++ q ∷ qs)))
 
-pub blank_ends : (text : List ℕ) (cells : List Cell) (l : Line) (n : ℕ) (bs : List Block) (ps : List Piece) (q : Piece) (qs : List Piece) (end number : ℕ) → (byte_at text q.start == 91) ≡ false → length ps + 1 < 2 ^ 64
-    → started start.Blank text cells l (tail_of cells) (here n) (paragraph_page bs ps (q ∷ qs) q.start end number)
-    ≡ started start.Blank text cells l (tail_of cells) (here n) (closed (bs ++ ended_block kind.Paragraph ps (q ∷ qs) q.start end ∷ []) (ps ++ q ∷ qs) end number (length (ps ++ q ∷ qs)))
-unfolding started_in
-blank_ends text cells l n bs ps q qs end number h fits =
+pub paragraph_shuts : (text : List ℕ) (bs : List Block) (ps : List Piece) (q : Piece) (qs : List Piece) (end number : ℕ) → (byte_at text q.start == 91) ≡ false → length ps + 1 < 2 ^ 64
+    → closed_to text 0 (paragraph_page bs ps (q ∷ qs) q.start end number)
+    ≡ closed_to text 0 (closed (bs ++ ended_block kind.Paragraph ps (q ∷ qs) q.start end ∷ []) (ps ++ q ∷ qs) end number (length (ps ++ q ∷ qs)))
+paragraph_shuts text bs ps q qs end number h fits =
     paragraph_ends text bs ps q qs end number h fits
     ∙ sym (nothing_ends text (bs ++ ended_block kind.Paragraph ps (q ∷ qs) q.start end ∷ []) (ps ++ q ∷ qs) end number (length (ps ++ q ∷ qs)))
 
-pub rule_ends : (text : List ℕ) (cells : List Cell) (l : Line) (n : ℕ) (bs : List Block) (ps : List Piece) (q : Piece) (qs : List Piece) (end number : ℕ) → (byte_at text q.start == 91) ≡ false → length ps + 1 < 2 ^ 64
-    → started start.Rule text cells l (tail_of cells) (here n) (paragraph_page bs ps (q ∷ qs) q.start end number)
-    ≡ started start.Rule text cells l (tail_of cells) (here n) (closed (bs ++ ended_block kind.Paragraph ps (q ∷ qs) q.start end ∷ []) (ps ++ q ∷ qs) end number (length (ps ++ q ∷ qs)))
-unfolding started_in rule_started
-rule_ends text cells l n bs ps q qs end number h fits =
-    ap (λ s. leaf_finished (leaf_opened leaf.Nothing kind.Rule (cell_place cells n l.end) l s))
-    (paragraph_ends text bs ps q qs end number h fits
-    ∙ sym (nothing_ends text (bs ++ ended_block kind.Paragraph ps (q ∷ qs) q.start end ∷ []) (ps ++ q ∷ qs) end number (length (ps ++ q ∷ qs))))
+-- a leaf before which all else ends
+abbrev pub closes_first : LeafStart → Bool
+closes_first start.Blank = true
+closes_first (start.Indented c) = true
+closes_first (start.Heading x) = true
+closes_first (start.Fence x) = true
+closes_first (start.Html k) = true
+closes_first start.Rule = true
+closes_first b = false
+
+-- it begins on pages that end as the same one
+pub same_start : (text : List ℕ) (cells : List Cell) (l : Line) (n : ℕ) (b : LeafStart) (s t : State) → closes_first b ≡ true → closed_to text 0 s ≡ closed_to text 0 t
+    → started b text cells l (tail_of cells) (here n) s ≡ started b text cells l (tail_of cells) (here n) t
+unfolding started_in indented_started heading_started_in heading_put fence_started html_started rule_started
+same_start text cells l n start.Blank s t e h = h
+same_start text cells l n (start.Indented c) s t e h = ap (λ u. code_taken text cells c l (leaf_opened leaf.Indented kind.Indented (cell_place cells c l.end) l u)) h
+same_start text cells l n (start.Heading x) s t e h = ap (λ u. leaf_finished (piece_taken (heading_piece cells x l) l true (leaf_opened leaf.Nothing (kind.Heading x.level None) (cell_place cells n l.end) l u))) h
+same_start text cells l n (start.Fence x) s t e h = ap (λ u. leaf_opened (leaf.Fenced x) (info_of cells (at_ink n) x l) (cell_place cells n l.end) l u) h
+same_start text cells l n (start.Html k) s t e h = ap (λ u. code_taken text cells 0 l (leaf_opened (leaf.Html k) kind.Html (cell_place cells 0 l.end) l u)) h
+same_start text cells l n start.Rule s t e h = ap (λ u. leaf_finished (leaf_opened leaf.Nothing kind.Rule (cell_place cells n l.end) l u)) h
+same_start text cells l n start.Text s t e h = absurd (true≢false (sym e))
+same_start text cells l n (start.Underline x) s t e h = absurd (true≢false (sym e))
+same_start text cells l n (start.Metadata x) s t e h = absurd (true≢false (sym e))
+same_start text cells l n (start.Task x) s t e h = absurd (true≢false (sym e))
+same_start text cells l n (start.QuoteKind x) s t e h = absurd (true≢false (sym e))
+
+text_start : (text : List ℕ) (cells : List Cell) (l : Line) (n : ℕ) (s t : State) → is_paragraph s.leaf ≡ false → is_paragraph t.leaf ≡ false → closed_to text 0 s ≡ closed_to text 0 t
+    → started start.Text text cells l (tail_of cells) (here n) s ≡ started start.Text text cells l (tail_of cells) (here n) t
+unfolding started_in text_taken
+text_start text cells l n s t hs ht h = ap (λ u. piece_taken words' l true (text_started words'.start u)) same
+  where
+    words' : Piece
+    words' = text_piece cells (at_ink n) l
+
+    begin : State → State
+    begin u = leaf_opened leaf.Paragraph kind.Paragraph words'.start l (closed_to text 0 u)
+
+    same : in_paragraph text cells l (here n) s ≡ in_paragraph text cells l (here n) t
+    same = ap (λ k. if k then s else begin s) hs ∙ ap (leaf_opened leaf.Paragraph kind.Paragraph words'.start l) h ∙ sym (ap (λ k. if k then t else begin t) ht)
+
+interrupts_first : (k : HtmlKind) → interrupting false k ≡ Some k
+interrupts_first html.Raw = refl
+interrupts_first html.Comment = refl
+interrupts_first html.Instruction = refl
+interrupts_first html.Declaration = refl
+interrupts_first html.CharacterData = refl
+interrupts_first html.Named = refl
+interrupts_first html.Alone = refl
+
+-- where no paragraph is open, each line begins the same on pages that end as the same one
+pub passes_start : (text : List ℕ) (cells : List Cell) (l : Line) (n : ℕ) (u : Option HeadingLevel) (k : Beginning) (s t : State) → is_paragraph s.leaf ≡ false → is_paragraph t.leaf ≡ false → closed_to text 0 s ≡ closed_to text 0 t
+    → started (start_as n false u k) text cells l (tail_of cells) (here n) s ≡ started (start_as n false u k) text cells l (tail_of cells) (here n) t
+passes_start text cells l n u BlankLine s t hs ht h = same_start text cells l n start.Blank s t refl h
+passes_start text cells l n u CodeLine s t hs ht h = same_start text cells l n (start.Indented (plus 0 4)) s t refl h
+passes_start text cells l n u QuoteLine s t hs ht h = text_start text cells l n s t hs ht h
+passes_start text cells l n u (HeadingLine x) s t hs ht h = same_start text cells l n (start.Heading (heading_later n x)) s t refl h
+passes_start text cells l n u (FenceLine x) s t hs ht h = same_start text cells l n (start.Fence x) s t refl h
+passes_start text cells l n u (HtmlLine k) s t hs ht h =
+    ap (λ o. started (html_start o) text cells l (tail_of cells) (here n) s) (interrupts_first k)
+    ∙ same_start text cells l n (start.Html k) s t refl h
+    ∙ sym (ap (λ o. started (html_start o) text cells l (tail_of cells) (here n) t) (interrupts_first k))
+passes_start text cells l n u RuleLine s t hs ht h = same_start text cells l n start.Rule s t refl h
+passes_start text cells l n u (ItemLine m) s t hs ht h = text_start text cells l n s t hs ht h
+passes_start text cells l n u TextLine s t hs ht h = text_start text cells l n s t hs ht h
+passes_start text cells l n u LazyLine s t hs ht h = text_start text cells l n s t hs ht h
 
 -- a heading with an underline
 
@@ -328,11 +394,92 @@ pub heading_comes : (text : List ℕ) (cells : List Cell) (l : Line) (n : ℕ) (
     ≡ closed (bs ++ ended_block (kind.Heading h.level None) ps (words cells h l) (cell_place cells n l.end) l.end ∷ []) (ps ++ words cells h l) l.end l.number (length (ps ++ words cells h l))
 heading_comes text cells l n h bs ps end number kept = heading_put_as text cells l n h bs ps end number kept (has_words cells h l) refl
 
-pub heading_ends : (text : List ℕ) (cells : List Cell) (l : Line) (n : ℕ) (x : Heading) (bs : List Block) (ps : List Piece) (q : Piece) (qs : List Piece) (end number : ℕ) → (byte_at text q.start == 91) ≡ false → length ps + 1 < 2 ^ 64
-    → started (start.Heading x) text cells l (tail_of cells) (here n) (paragraph_page bs ps (q ∷ qs) q.start end number)
-    ≡ started (start.Heading x) text cells l (tail_of cells) (here n) (closed (bs ++ ended_block kind.Paragraph ps (q ∷ qs) q.start end ∷ []) (ps ++ q ∷ qs) end number (length (ps ++ q ∷ qs)))
-unfolding started_in heading_started_in heading_put
-heading_ends text cells l n x bs ps q qs end number h fits =
-    ap (λ s. leaf_finished (piece_taken (heading_piece cells x l) l true (leaf_opened leaf.Nothing (kind.Heading x.level None) (cell_place cells n l.end) l s)))
-    (paragraph_ends text bs ps q qs end number h fits
-    ∙ sym (nothing_ends text (bs ++ ended_block kind.Paragraph ps (q ∷ qs) q.start end ∷ []) (ps ++ q ∷ qs) end number (length (ps ++ q ∷ qs))))
+-- code
+
+-- a leaf whose lines are kept as they are
+abbrev pub is_code_leaf : Leaf → Bool
+is_code_leaf leaf.Indented = true
+is_code_leaf (leaf.Fenced f) = true
+is_code_leaf (leaf.Html k) = true
+is_code_leaf lf = false
+
+pub page_shuts : (text : List ℕ) (lf : Leaf) (k : BlockKind) (bs : List Block) (first : ℕ) (ps qs : List Piece) (kept start end number : ℕ) → is_code_leaf lf ≡ true → take kept ps ≡ qs
+    → closed_to text 0 (leaf_page lf k bs first ps kept start end number) ≡ closed_to text 0 (closed (bs ++ block k start end first (length qs) ∷ []) qs end number kept)
+unfolding closed_to leaf_closed times
+page_shuts text leaf.Indented k bs first ps qs kept start end number e h = ap (λ s. times one_closed (length s.opened - 0) s) (page_finished leaf.Indented k bs first ps qs kept start end number h)
+page_shuts text (leaf.Fenced f) k bs first ps qs kept start end number e h = ap (λ s. times one_closed (length s.opened - 0) s) (page_finished (leaf.Fenced f) k bs first ps qs kept start end number h)
+page_shuts text (leaf.Html x) k bs first ps qs kept start end number e h = ap (λ s. times one_closed (length s.opened - 0) s) (page_finished (leaf.Html x) k bs first ps qs kept start end number h)
+page_shuts text leaf.Nothing k bs first ps qs kept start end number e h = absurd (true≢false (sym e))
+page_shuts text leaf.Paragraph k bs first ps qs kept start end number e h = absurd (true≢false (sym e))
+page_shuts text (leaf.Metadata x) k bs first ps qs kept start end number e h = absurd (true≢false (sym e))
+page_shuts text (leaf.Table x) k bs first ps qs kept start end number e h = absurd (true≢false (sym e))
+
+-- the open leaf has its turn
+pub page_turns : (text : List ℕ) (l : Line) (f : Facts text l) (lf : Leaf) (k : BlockKind) (bs : List Block) (first : ℕ) (ps : List Piece) (kept start end number : ℕ) (t : Turn) → leaf_turn text f.columns l (at_ink f.spaces) lf ≡ t
+    → line_taken text (leaf_page lf k bs first ps kept start end number) l ≡ turn_taken_in core_known t text f.columns l (here f.spaces) (leaf_page lf k bs first ps kept start end number)
+unfolding line_taken_in cells_taken_in touched turn_in turn_of
+page_turns text l f lf k bs first ps kept start end number t h =
+    let s : State = leaf_page lf k bs first ps kept start end number in
+    ap (λ c. cells_taken text c l s) f.read
+    ∙ ap (λ c. turn_taken_in core_known (leaf_turn text f.columns l c lf) text f.columns l (record { cursor = c; depth = 0 }) s) f.cursor
+    ∙ ap (λ x. turn_taken_in core_known x text f.columns l (here f.spaces) s) h
+
+-- a line passes code that has ended
+pub code_passes : (text : List ℕ) (l : Line) (f : Facts text l) (k : BlockKind) (bs : List Block) (first : ℕ) (ps : List Piece) (kept start end number : ℕ) → leaf_turn text f.columns l (at_ink f.spaces) leaf.Indented ≡ turn.Passes
+    → line_taken text (leaf_page leaf.Indented k bs first ps kept start end number) l ≡ started (start_as f.spaces false f.level f.kind) text f.columns l (tail_of f.columns) (here f.spaces) (leaf_page leaf.Indented k bs first ps kept start end number)
+unfolding passed_in leaf_started_in metadata_in metadata_or task_in task_or quote_kind_in quote_kind_or tag_in tag_or goes_directly is_paragraph
+code_passes text l f k bs first ps kept start end number h =
+    let s : State = leaf_page leaf.Indented k bs first ps kept start end number in
+    page_turns text l f leaf.Indented k bs first ps kept start end number turn.Passes h
+    ∙ ap (started_at text f.columns l (tail_of f.columns)) (opens_none text f.columns l f.spaces s f.opens)
+    ∙ ap (λ x. started x text f.columns l (tail_of f.columns) (here f.spaces) s) (f.starts false)
+
+-- a line goes into code, and is kept
+pub takes_kept : (text : List ℕ) (cells : List Cell) (l : Line) (c at : ℕ) (lf : Leaf) (k : BlockKind) (bs : List Block) (first : ℕ) (ps : List Piece) (kept start end number : ℕ) → code_piece cells c l ≡ piece_of 0 at l.end l.next → nat_lt at l.next ≡ true → keeps_line cells c lf ≡ true
+    → code_taken text cells c l (leaf_page lf k bs first ps kept start end number)
+    ≡ html_ended (bytes_between text at l.end) (leaf_page lf k bs first (ps ++ piece_of 0 at l.end l.next ∷ []) (length (ps ++ piece_of 0 at l.end l.next ∷ [])) start l.end l.number)
+unfolding code_taken piece_taken
+takes_kept text cells l c at lf k bs first ps kept start end number h some keeps =
+    let s : State = leaf_page lf k bs first ps kept start end number in
+    ap (λ (q : Piece). html_ended (bytes_between text q.start q.end) (piece_taken q l (keeps_line cells c lf) s)) h
+    ∙ ap (λ x. html_ended (bytes_between text at l.end) (piece_taken (piece_of 0 at l.end l.next) l x s)) keeps
+    ∙ ap (html_ended (bytes_between text at l.end)) (ap (λ (x : Bool). with_piece x) some)
+  where
+    with_piece : Bool → State
+    with_piece x =
+        let s : State = leaf_page lf k bs first ps kept start end number in
+        let t : State = if x then record s { pieces = ps ++ piece_of 0 at l.end l.next ∷ [] } else s in
+        record t { kept = length t.pieces; end = l.end; line = l.number }
+
+-- a line goes into code, and isn't kept yet
+pub takes_blank : (text : List ℕ) (cells : List Cell) (l : Line) (c at : ℕ) (k : BlockKind) (bs : List Block) (first : ℕ) (ps : List Piece) (kept start end number : ℕ) → code_piece cells c l ≡ piece_of 0 at l.end l.next → nat_lt at l.next ≡ true → keeps_line cells c leaf.Indented ≡ false
+    → code_taken text cells c l (leaf_page leaf.Indented k bs first ps kept start end number)
+    ≡ leaf_page leaf.Indented k bs first (ps ++ piece_of 0 at l.end l.next ∷ []) kept start end number
+unfolding code_taken piece_taken html_ended
+takes_blank text cells l c at k bs first ps kept start end number h some keeps =
+    let s : State = leaf_page leaf.Indented k bs first ps kept start end number in
+    ap (λ (q : Piece). html_ended (bytes_between text q.start q.end) (piece_taken q l (keeps_line cells c leaf.Indented) s)) h
+    ∙ ap (λ x. html_ended (bytes_between text at l.end) (piece_taken (piece_of 0 at l.end l.next) l x s)) keeps
+    ∙ ap (λ (x : Bool). html_ended (bytes_between text at l.end) (with_piece x)) some
+  where
+    with_piece : Bool → State
+    with_piece x =
+        let s : State = leaf_page leaf.Indented k bs first ps kept start end number in
+        if x then record s { pieces = ps ++ piece_of 0 at l.end l.next ∷ [] } else s
+
+pub fence_comes : (text : List ℕ) (cells : List Cell) (l : Line) (n : ℕ) (f : Fence) (bs : List Block) (ps : List Piece) (end number kept : ℕ)
+    → started (start.Fence f) text cells l (tail_of cells) (here n) (closed bs ps end number kept)
+    ≡ leaf_page (leaf.Fenced f) (info_of cells (at_ink n) f l) bs (length ps) ps (length ps) (cell_place cells n l.end) l.end l.number
+unfolding started_in fence_started leaf_opened closed_to leaf_closed times list_left begun loosened had_marked list_of is_apart
+fence_comes text cells l n f bs ps end number kept = refl
+
+pub indented_comes : (text : List ℕ) (cells : List Cell) (l : Line) (n c : ℕ) (bs : List Block) (ps : List Piece) (end number kept : ℕ)
+    → started (start.Indented c) text cells l (tail_of cells) (here n) (closed bs ps end number kept)
+    ≡ code_taken text cells c l (leaf_page leaf.Indented kind.Indented bs (length ps) ps (length ps) (cell_place cells c l.end) l.end l.number)
+unfolding started_in indented_started leaf_opened closed_to leaf_closed times list_left begun loosened had_marked list_of is_apart
+indented_comes text cells l n c bs ps end number kept = refl
+
+pub fence_ends : (text : List ℕ) (l : Line) (f : Fence) (k : BlockKind) (bs : List Block) (first : ℕ) (ps : List Piece) (start end number : ℕ)
+    → leaf_ended l (leaf_page (leaf.Fenced f) k bs first ps (length ps) start end number) ≡ closed (bs ++ block k start l.end first (length ps) ∷ []) ps l.end l.number (length ps)
+unfolding leaf_ended
+fence_ends text l f k bs first ps start end number = page_finished (leaf.Fenced f) k bs first ps ps (length ps) start l.end l.number (take-length ps)

@@ -1,77 +1,49 @@
 -- Of a text without containers the reader finds the blocks that are declared.
-use Rattle.std.proofs.Common.{◌≡◌, ℕ, zero, suc, ◌+◌, ◌^◌, ◌<◌, ◌≤◌, Bool, true, false, ◌==◌, if◌then◌else◌, nat_lt, List, [], ◌∷◌, ◌++◌, length, map, drop, refl, ap, sym, subst, ◌∙◌, arith, append-nil, length-append, true≢false}
+use Rattle.std.proofs.Common.{◌≡◌, ℕ, zero, suc, ◌+◌, ◌^◌, ◌<◌, ◌≤◌, Bool, true, false, not, ◌==◌, ◌||◌, if◌then◌else◌, min, nat_le, nat_lt, List, [], ◌∷◌, ◌++◌, length, map, drop, refl, ap, sym, subst, ◌∙◌, arith, append-nil, length-append, true≢false}
 use Rattle.std.specs.Prelude.{Option, Some, None}
 use Rattle.std.specs.List.{AllByRecursion, fold}
 use Rattle.std.proofs.lemmas.Bool.Decides.{nat_tests}
 use Rattle.std.proofs.lemmas.List.{length-map, map-append}
 use Rattle.tocmark_event.specs.declared.event.HeadingLevel.{HeadingLevel}
-use Rattle.tocmark_read_scan.specs.Basic.{byte_at}
-use Rattle.tocmark_read_lines.specs.Cells.{cell_place}
+use Rattle.tocmark_read_scan.specs.Basic.{plus, byte_at, bytes_between}
+use Rattle.tocmark_read_lines.specs.Cells.{cell_place, first_cursor}
 use Rattle.tocmark_read_lines.specs.Lines.{lines_of}
-use Rattle.tocmark_read_lines.specs.Marks.{tail_of}
+use Rattle.tocmark_read_lines.specs.Marks.{heading_at, fence_at, tail_of, is_rule, marker_at}
+use Rattle.tocmark_read_lines.specs.declared.beginnings.Fence.{Fence}
+use Rattle.tocmark_read_lines.specs.declared.beginnings.Marker.{Marker}
+use Rattle.tocmark_read_lines.specs.declared.html.HtmlKind.{HtmlKind}
+use Rattle.tocmark_read_blocks.specs.Codes.{html_ended}
 use Rattle.tocmark_read_lines.specs.declared.beginnings.Heading.{Heading as HeadingMark}
 use Rattle.tocmark_read_lines.specs.declared.cell.Cell.{Cell}
 use Rattle.tocmark_read_lines.specs.declared.line.Line.{Line}
 use Rattle.tocmark_read_page.specs.Definitions.{DefinitionView}
 use Rattle.tocmark_read_page.specs.Pages.{State, closed_to}
-use Rattle.tocmark_read_page.specs.Pieces.{heading_piece}
+use Rattle.tocmark_read_page.specs.Pieces.{piece_of, heading_piece}
 use Rattle.tocmark_read_page.specs.declared.page.Block.{Block as ReadBlock}
 use Rattle.tocmark_read_page.specs.declared.page.BlockKind.TheVariants as kind
 use Rattle.tocmark_read_page.specs.declared.piece.Piece.{Piece}
+use Rattle.tocmark_read_page.specs.declared.leaf.Leaf.TheVariants as leaf
 use Rattle.tocmark_read_constructs.specs.Metadata.{known_of}
 use Rattle.tocmark_read_blocks.specs.Blocks.{line_taken, page_in, blocks_in, started}
 use Rattle.tocmark_read_blocks.specs.declared.leaf.LeafStart.{LeafStart}
 use Rattle.tocmark_read_blocks.specs.declared.leaf.LeafStart.TheVariants as start
-use Rattle.tocmark_commonmark.specs.Lines.{Line as DeclaredLine, without_last_blanks, line_bytes, line_ink, cells, lines_of as declared_lines}
+use Rattle.tocmark_commonmark.specs.Lines.{Line as DeclaredLine, Part, is_blank, indent, ink, without_last_blanks, line_bytes, line_ink, cells, lines_of as declared_lines}
 use Rattle.tocmark_commonmark.specs.Tree.{Blocks, none, more, Rule, Heading, Paragraph, Found, ended, unended, tree, defined, defined_in, Taken}
-use Rattle.tocmark_commonmark.specs.Beginnings.{Beginning, BlankLine, CodeLine, QuoteLine, HeadingLine, FenceLine, HtmlLine, RuleLine, ItemLine, TextLine, LazyLine, beginning, interrupts, begins_with, heading_text}
-use Rattle.tocmark_commonmark.specs.Leaves.{definitions, text_of, underline, underlined, Turn, GoesOn, Stops, Underlines, turn_of, turn, turned, paragraph_lines, paragraph_with, paragraph_of}
+use Rattle.tocmark_commonmark.specs.Beginnings.{Beginning, BlankLine, CodeLine, QuoteLine, HeadingLine, FenceLine, HtmlLine, RuleLine, ItemLine, TextLine, LazyLine, first_of_these, html_if, beginning_of, beginning, interrupts, begins_with, heading_text}
+use Rattle.tocmark_commonmark.specs.Leaves.{indented_code, fenced_code, definitions, text_of, underline, underlined, Turn, GoesOn, Stops, Underlines, turn_of, turn, turned, paragraph_lines, paragraph_with, paragraph_of}
 use Rattle.tocmark_commonmark.specs.Blocks.{first_block, and_rest, blocks_from, size, blocks, blocks_of}
 use Rattle.tocmark_block_laws.specs.Trees.{told, told_before, line_text, leaf_text, tree_of, placed_in}
-use Rattle.tocmark_block_laws.specs.Leaves.{IsPlain, is_leaf, IsLeafLine, LeavesAreDeclared}
+use Rattle.tocmark_block_laws.specs.Leaves.{IsPlain, ends_with_feed, is_leaf, IsLeafLine, LeavesAreDeclared}
 use Rattle.tocmark_block_laws.proofs.TextLines.{declared, lines_same, Sound, lines_sound, lines_few}
 use Rattle.tocmark_block_laws.proofs.Marks.{heading_later}
 use Rattle.tocmark_block_laws.proofs.Texts.{between_none}
 use Rattle.tocmark_block_laws.proofs.Starts.{start_as, is_blank_kind, may_underline, HeadingFacts, Facts, leaf_facts}
-use Rattle.tocmark_block_laws.proofs.Pages.{here, closed, paragraph_page, rule_block, ended_block, piece_in, closed_begins, open_begins, nothing_ends, blank_passes, rule_comes, text_begins, text_goes_on, paragraph_ends, blank_ends, rule_ends, underline_comes, piece_if, has_words, words, heading_comes, heading_ends}
+use Rattle.tocmark_block_laws.proofs.Pages.{here, closed, paragraph_page, rule_block, ended_block, piece_in, closed_begins, open_begins, nothing_ends, blank_passes, rule_comes, text_begins, text_goes_on, paragraph_ends, paragraph_shuts, closes_first, same_start, underline_comes, piece_if, has_words, words, heading_comes, leaf_page, takes_kept, fence_comes, indented_comes}
+use Rattle.tocmark_block_laws.proofs.Ends.{final, Ends, ends_cons, ends_closed, no_blocks, Goal, from_there}
+use Rattle.tocmark_block_laws.proofs.ReadCodes.{says_at, same_column, fence_read, CodeOpen, code_read}
+use Rattle.tocmark_block_laws.proofs.Codes.{Fed, Taken as LineTaken, lines_fed}
+use Rattle.tocmark_block_laws.proofs.Fronts.{part_of}
 use Rattle.tocmark_block_laws.proofs.Told.{also, also_none, also_more, Holds, holds_none, holds_more, holds_read, paragraph_told, heading_told, definitions_none}
-
--- a page at the end
-abbrev final : List ℕ → State → List Line → State
-final text s ls = closed_to text 0 (fold (line_taken text) s ls)
-
--- a page has these blocks and the declared ones, and neither has definitions
-pub record Ends (text : List ℕ) (s : State) (found : Blocks) (declared : List Found) : Type 0 where
-  pub blocks : tree_of (placed_in text s.pieces s.blocks) ≡ also found (told (tree declared))
-  pub read : s.definitions ≡ []
-  pub declares : defined (tree declared) ≡ []
-
-ends_cons : (text : List ℕ) (s : State) (found : Blocks) (f : Found) (fs : List Found) → ((y : Blocks) → told_before f.block y ≡ more f.block y) → defined_in f.block ≡ []
-    → Ends text s (also found (more f.block none)) fs → Ends text s found (f ∷ fs)
-ends_cons text s found f fs plain nothing e = record {
-  blocks = e.blocks ∙ also_more found f.block (told (tree fs)) ∙ ap (also found) (sym (plain (told (tree fs))));
-  read = e.read;
-  declares = ap (λ (d : List DefinitionView). d ++ defined (tree fs)) nothing ∙ e.declares;
-}
-
-ends_closed : (text : List ℕ) (bs : List ReadBlock) (ps : List Piece) (end number kept : ℕ) (found : Blocks) → Holds text bs ps found → Ends text (closed_to text 0 (closed bs ps end number kept)) found []
-ends_closed text bs ps end number kept found h =
-    subst (λ (s : State). Ends text s found []) (sym (nothing_ends text bs ps end number kept)) (record { blocks = holds_read text bs ps found h ∙ sym (also_none found); read = refl; declares = refl })
-
--- the blocks of no lines
-no_blocks : (fuel at : ℕ) → blocks_from fuel at [] ≡ []
-unfolding blocks_from
-no_blocks zero at = refl
-no_blocks (suc fuel) at = refl
-
--- what is read of lines with so much fuel, after the blocks so far
-abbrev Goal : List ℕ → ℕ → Type 0
-Goal text fuel = (at : ℕ) (ls : List Line) (bs : List ReadBlock) (ps : List Piece) (end number kept : ℕ) (found : Blocks) → Holds text bs ps found → length ps + length ls + 1 < 2 ^ 64 → length ls ≤ fuel → AllByRecursion (Facts text) ls
-    → Ends text (final text (closed bs ps end number kept) ls) found (blocks_from fuel at (map (declared text) ls))
-
--- the declared blocks from a block on
-abbrev from_there : ℕ → ℕ → List DeclaredLine → Taken → List Found
-from_there fuel at whole t = and_rest (λ n x. blocks_from fuel n x) at whole t
 
 -- paragraphs: what a line is to the one above it
 
@@ -281,27 +253,30 @@ paragraph_line text fuel at again whole l ls f bs ps q qs end number found t ts 
     Goes : Beginning → Type 0
     Goes k = is_blank_kind k ≡ false → Ends text (final text (paragraph_page bs ps (q ∷ (qs ++ piece_in f.columns f.spaces l ∷ [])) q.start l.end l.number) ls) found (from_there fuel at whole (paragraph_of at (next (t ∷ (ts ++ line_ink (declared text l) ∷ [])))))
 
-    stops : (k : Beginning) (b : LeafStart) → f.kind ≡ k → start_as f.spaces false f.level k ≡ b
-        → started b text f.columns l (tail_of f.columns) (here f.spaces) (paragraph_page bs ps (q ∷ qs) q.start end number) ≡ started b text f.columns l (tail_of f.columns) (here f.spaces) (shut bs ps q qs end number)
+    stops : (k : Beginning) (b : LeafStart) → f.kind ≡ k → start_as f.spaces false f.level k ≡ b → closes_first b ≡ true
         → Ends text (final text (begun b) ls) found (from_there fuel at whole (paragraph_of at (t ∷ ts, None)))
-    stops k b e i same = paragraph_stops text fuel at again whole l ls f bs ps q qs end number found t ts b h o facts (ap (start_as f.spaces false f.level) e ∙ i) same
+    stops k b e i first =
+        paragraph_stops text fuel at again whole l ls f bs ps q qs end number found t ts b h o facts (ap (start_as f.spaces false f.level) e ∙ i)
+        (same_start text f.columns l f.spaces b (paragraph_page bs ps (q ∷ qs) q.start end number) (shut bs ps q qs end number) first (paragraph_shuts text bs ps q qs end number o.first room))
 
     goes_on : (k : Beginning) → f.kind ≡ k → is_blank_kind k ≡ false → Goes k → Ends text (final text (begun start.Text) ls) found (from_there fuel at whole (paragraph_of at (next (t ∷ (ts ++ line_ink (declared text l) ∷ [])))))
     goes_on k e b g =
         subst (λ (s : State). Ends text (final text s ls) found (from_there fuel at whole (paragraph_of at (next (t ∷ (ts ++ line_ink (declared text l) ∷ []))))))
         (sym (text_goes_on text f.columns l f.spaces bs ps q qs q.start end number (f.some (ap is_blank_kind e ∙ b)))) (g b)
 
-    by : (k : Beginning) (u : Option HeadingLevel) → f.kind ≡ k → f.level ≡ u → is_leaf k ≡ true → (may_underline k ≡ false → f.level ≡ None) → Goes k
+    by : (k : Beginning) (u : Option HeadingLevel) → f.kind ≡ k → f.level ≡ u → is_leaf (ends_with_feed text) k ≡ true → (may_underline k ≡ false → f.level ≡ None) → Goes k
         → Ends text (final text (begun (start_as f.spaces true u k)) ls) found (from_there fuel at whole (paragraph_of at (turned next (t ∷ ts) (line_ink (declared text l)) (turn_of k u))))
-    by BlankLine u e d leaf m g = stops BlankLine start.Blank e refl (blank_ends text f.columns l f.spaces bs ps q qs end number o.first room)
-    by CodeLine u e d leaf m g = absurd (true≢false (sym leaf))
+    by BlankLine u e d leaf m g = stops BlankLine start.Blank e refl refl
+    by CodeLine (Some level) e d leaf m g = absurd (level_some f.level level (m refl) d)
+    by CodeLine None e d leaf m g = goes_on CodeLine e refl g
     by QuoteLine u e d leaf m g = absurd (true≢false (sym leaf))
     by (HeadingLine x) (Some level) e d leaf m g = absurd (level_some f.level level (m refl) d)
-    by (HeadingLine x) None e d leaf m g = stops (HeadingLine x) (start.Heading (heading_later f.spaces x)) e refl (heading_ends text f.columns l f.spaces (heading_later f.spaces x) bs ps q qs end number o.first room)
-    by (FenceLine x) u e d leaf m g = absurd (true≢false (sym leaf))
+    by (HeadingLine x) None e d leaf m g = stops (HeadingLine x) (start.Heading (heading_later f.spaces x)) e refl refl
+    by (FenceLine x) (Some level) e d leaf m g = absurd (level_some f.level level (m refl) d)
+    by (FenceLine x) None e d leaf m g = stops (FenceLine x) (start.Fence x) e refl refl
     by (HtmlLine x) u e d leaf m g = absurd (true≢false (sym leaf))
     by RuleLine (Some level) e d leaf m g = paragraph_heads text fuel at again whole l ls f bs ps q qs end number found t ts level h o facts
-    by RuleLine None e d leaf m g = stops RuleLine start.Rule e refl (rule_ends text f.columns l f.spaces bs ps q qs end number o.first room)
+    by RuleLine None e d leaf m g = stops RuleLine start.Rule e refl refl
     by (ItemLine x) u e d leaf m g = absurd (true≢false (sym leaf))
     by TextLine (Some level) e d leaf m g = paragraph_heads text fuel at again whole l ls f bs ps q qs end number found t ts level h o facts
     by TextLine None e d leaf m g = goes_on TextLine e refl g
@@ -327,9 +302,28 @@ few_words : (k : Bool) (p : Piece) → length (piece_if k p) ≤ 1
 few_words true p = omega arith
 few_words false p = omega arith
 
+-- a line begins code only if it is indented so far
+
+near_code : (part : Part) (q : Bool) (h : Option HeadingMark) (f : Option Fence) (k : Option HtmlKind) (r : Bool) (m : Option Marker) → first_of_these part q h f k r m ≡ CodeLine → ⊥
+near_code part true h f k r m e = absurd cc
+near_code part false (Some x) f k r m e = absurd cc
+near_code part false None (Some f) k r m e = absurd cc
+near_code part false None None (Some k) r m e = absurd cc
+near_code part false None None None true m e = absurd cc
+near_code part false None None None false (Some m) e = absurd cc
+near_code part false None None None false None e = absurd cc
+
+begins_code : (p : Part) (blank far : Bool) → beginning_of p blank far ≡ CodeLine → (blank ≡ false) × (far ≡ true)
+begins_code p true far e = absurd cc
+begins_code p false true e = (refl, refl)
+begins_code p false false e =
+    let c : List Cell = cells (ink p) in
+    absurd (near_code p (begins_with 62 (ink p)) (heading_at c 0) (fence_at c (first_cursor c)) (html_if (begins_with 60 (ink p)) (ink p)) (is_rule c (tail_of c) 0) (marker_at c 0) e)
+
 -- a line where nothing is open
 line_read : (text : List ℕ) (fuel at : ℕ) → Goal text fuel → (l : Line) (ls : List Line) (f : Facts text l) (bs : List ReadBlock) (ps : List Piece) (end number kept : ℕ) (found : Blocks) → Holds text bs ps found → length ps + suc (length ls) + 1 < 2 ^ 64 → length ls ≤ fuel → AllByRecursion (Facts text) ls
     → Ends text (final text (closed bs ps end number kept) (l ∷ ls)) found (from_there fuel at (map (declared text) (l ∷ ls)) (first_block (λ x. blocks_from fuel 0 x) at (declared text l) (map (declared text) ls) (beginning (declared text l))))
+unfolding beginning html_ended
 line_read text fuel at again l ls f bs ps end number kept found h room few facts =
     subst (λ (s : State). Ends text (final text s ls) found (from_there fuel at (dl ∷ rest) (first_block inner at dl rest (beginning dl))))
     (sym (closed_begins text l f bs ps end number kept))
@@ -384,14 +378,55 @@ line_read text fuel at again l ls f bs ps end number kept found h room few facts
         b' : ReadBlock
         b' = ended_block (kind.Heading h'.level None) ps new (cell_place f.columns f.spaces l.end) l.end
 
-    by : (k : Beginning) → f.kind ≡ k → is_leaf k ≡ true → Ends text (final text (begun (start_as f.spaces false f.level k)) ls) found (from_there fuel at (dl ∷ rest) (first_block inner at dl rest k))
+    fenced : (x : Fence) → f.kind ≡ FenceLine x → ends_with_feed text ≡ true → Ends text (final text (begun (start.Fence x)) ls) found (from_there fuel at (dl ∷ rest) (fenced_code at x (line_ink dl) rest))
+    fenced x e fed =
+        subst (λ (s : State). Ends text (final text s ls) found (from_there fuel at (dl ∷ rest) (fenced_code at x (line_ink dl) rest)))
+        (sym (fence_comes text f.columns l f.spaces x bs ps end number kept
+        ∙ ap (λ k. leaf_page (leaf.Fenced x) k bs (length ps) ps (length ps) (cell_place f.columns f.spaces l.end) l.end l.number) (f.infos x e).shape
+        ∙ ap (λ xs. leaf_page (leaf.Fenced x) (kind.Fenced (f.infos x e).from (f.infos x e).to) bs (length ps) xs (length xs) (cell_place f.columns f.spaces l.end) l.end l.number) (sym (append-nil ps))))
+        (fence_read text fuel at again dl x (line_ink dl) [] ls bs ps [] (f.infos x e).from (f.infos x e).to (cell_place f.columns f.spaces l.end) l.end l.number found h tt refl (f.infos x e).says (omega (arith, room)) few facts fed)
+
+    coded : f.kind ≡ CodeLine → ends_with_feed text ≡ true → Ends text (final text (begun (start.Indented (plus 0 4))) ls) found (from_there fuel at (dl ∷ rest) (indented_code at (dl ∷ rest)))
+    coded e fed =
+        subst (λ (s : State). Ends text (final text s ls) found (from_there fuel at (dl ∷ rest) (indented_code at (dl ∷ rest))))
+        (sym (indented_comes text f.columns l f.spaces (plus 0 4) bs ps end number kept
+        ∙ takes_kept text f.columns l (plus 0 4) t.at leaf.Indented kind.Indented bs (length ps) ps (length ps) (cell_place f.columns (plus 0 4) l.end) l.end l.number t.piece t.some (f.code.keeps (plus 0 4) (omega (arith, four)) ∙ ap not (is.0))))
+        (code_read text fuel at again [] dl [] ls bs ps (piece_of 0 t.at l.end l.next ∷ []) [] (cell_place f.columns (plus 0 4) l.end) l.end l.number found h
+        (record {
+          codes = (ap (λ k. k || nat_le 4 (indent p')) (is.0) ∙ is.1, tt);
+          last = is.0;
+          says = says_at text l f.columns f.spaces 4 (plus 0 4) same_four f.code t;
+          facts = tt;
+          blank = tt;
+          blank_says = refl;
+          pauses = omega arith;
+          room = omega (arith, room);
+          few = omega (arith, few);
+        }) facts fed)
+      where
+        p' : Part
+        p' = part_of (bytes_between text l.start l.end)
+
+        is : (is_blank p'.bytes ≡ false) × (nat_le 4 (indent p') ≡ true)
+        is = begins_code p' (is_blank p'.bytes) (nat_le 4 (indent p')) (f.begins ∙ e)
+
+        four : 4 ≤ f.spaces
+        four = let q : nat_le 4 f.spaces ≡ true = sym (ap (nat_le 4) f.code.width) ∙ is.1 in grind (arith, q, nat_tests)
+
+        same_four : plus 0 4 ≡ min 4 f.spaces
+        same_four = omega (arith, four)
+
+        t : LineTaken text l f.columns (plus 0 4)
+        t = same_column text l f.columns (plus 0 4) (min 4 f.spaces) same_four (f.code.taken (f.fed fed) (min 4 f.spaces) (omega arith))
+
+    by : (k : Beginning) → f.kind ≡ k → is_leaf (ends_with_feed text) k ≡ true → Ends text (final text (begun (start_as f.spaces false f.level k)) ls) found (from_there fuel at (dl ∷ rest) (first_block inner at dl rest k))
     by BlankLine e leaf =
         subst (λ (s : State). Ends text (final text s ls) found (blocks_from fuel (at + 1) rest)) (sym (blank_passes text f.columns l f.spaces bs ps end number kept))
         (again (at + 1) ls bs ps end number kept found h less few facts)
-    by CodeLine e leaf = absurd (true≢false (sym leaf))
+    by CodeLine e leaf = coded e leaf
     by QuoteLine e leaf = absurd (true≢false (sym leaf))
     by (HeadingLine x) e leaf = headed x e
-    by (FenceLine x) e leaf = absurd (true≢false (sym leaf))
+    by (FenceLine x) e leaf = fenced x e leaf
     by (HtmlLine x) e leaf = absurd (true≢false (sym leaf))
     by RuleLine e leaf =
         subst (λ (s : State). Ends text (final text s ls) found (ended Rule at at ∷ blocks_from fuel (at + 1) rest)) (sym (rule_comes text f.columns l f.spaces bs ps end number kept))
@@ -415,9 +450,9 @@ read_all text (suc fuel) at (l ∷ ls) bs ps end number kept found h room few fa
     line_read text fuel at (read_all text fuel) l ls (facts.0) bs ps end number kept found h room (let k : suc (length ls) ≤ suc fuel = few in omega (arith, k)) (facts.1)
 
 -- the facts of all lines
-all_facts : (text : List ℕ) (ls : List Line) → IsPlain text → length text + 3 < 2 ^ 64 → AllByRecursion (Sound text) ls → AllByRecursion IsLeafLine (map (declared text) ls) → AllByRecursion (Facts text) ls
-all_facts text [] h fits sound leaves = tt
-all_facts text (l ∷ ls) h fits sound leaves = (leaf_facts text l h fits (sound.0) (leaves.0), all_facts text ls h fits (sound.1) (leaves.1))
+all_facts : (text : List ℕ) (ls : List Line) → IsPlain text → length text + 3 < 2 ^ 64 → AllByRecursion (Sound text) ls → AllByRecursion (IsLeafLine (ends_with_feed text)) (map (declared text) ls) → (ends_with_feed text ≡ true → AllByRecursion (Fed text) ls) → AllByRecursion (Facts text) ls
+all_facts text [] h fits sound leaves fed = tt
+all_facts text (l ∷ ls) h fits sound leaves fed = (leaf_facts text l h fits (sound.0) (leaves.0) (λ e. (fed e).0), all_facts text ls h fits (sound.1) (leaves.1) (λ e. (fed e).1))
 
 -- the fuel of the declaration is enough for its lines
 size_from : (n : ℕ) (ls : List DeclaredLine) → n + length ls ≤ fold (λ (m : ℕ) (l : DeclaredLine). m + length (line_bytes l) + 1) n ls
@@ -446,7 +481,7 @@ leaves-declared text fits plain leaves = record { blocks = ends.blocks; definiti
     room = omega (arith, lines_few text, fits)
 
     facts : AllByRecursion (Facts text) (lines_of text)
-    facts = all_facts text (lines_of text) plain fits (lines_sound text plain) (subst (λ (ls : List DeclaredLine). AllByRecursion IsLeafLine ls) (sym same) leaves)
+    facts = all_facts text (lines_of text) plain fits (lines_sound text plain) (subst (λ (ls : List DeclaredLine). AllByRecursion (IsLeafLine (ends_with_feed text)) ls) (sym same) leaves) (λ e. lines_fed text plain e)
 
     ends : Ends text (final text (closed [] [] 0 0 0) (lines_of text)) none (blocks_from (size ds) 0 ds)
     ends = subst (λ (ls : List DeclaredLine). Ends text (final text (closed [] [] 0 0 0) (lines_of text)) none (blocks_from (size ds) 0 ls)) same

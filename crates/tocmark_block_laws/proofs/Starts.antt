@@ -5,13 +5,13 @@ use Rattle.std.specs.List.{fold, list_any, prefix_len}
 use Rattle.std.specs.Char.{is_ascii_digit}
 use Rattle.std.specs.Option.{option_map, option_and_then}
 use Rattle.std.proofs.lemmas.Bool.Decides.{nat_tests}
-use Rattle.std.proofs.lemmas.List.{drop-drop, drop-take, take-take, length-map, length-take-le, take-append-drop}
+use Rattle.std.proofs.lemmas.List.{take_all, drop-drop, drop-take, take-take, length-map, length-take-le, take-append-drop}
 use Rattle.std.proofs.lemmas.List.Folds.{length-prefix_len}
 use Rattle.tocmark_event.specs.declared.event.HeadingLevel.{HeadingLevel}
 use Rattle.tocmark_read_scan.specs.Basic.{plus, byte_at, bytes_between}
 use Rattle.tocmark_read_scan.specs.declared.syntax.TheConstants.{CORE}
 use Rattle.tocmark_read_scan.proofs.PlainTests.{both_false, eq_of, one_of_four}
-use Rattle.tocmark_read_lines.specs.Cells.{bytes_of, cells_at, cells_of, cell_byte, cell_place, run_of, trailing, first_cursor}
+use Rattle.tocmark_read_lines.specs.Cells.{ink_from, trimmed, count_of, indent_of, bytes_of, cells_at, cells_of, cell_byte, cell_place, run_of, trailing, first_cursor}
 use Rattle.tocmark_read_lines.specs.Containers.{container_at, container_in, item_at, item_from}
 use Rattle.tocmark_read_lines.specs.DefinitionLists.{definition_start}
 use Rattle.tocmark_read_lines.specs.Notes.{note_start}
@@ -32,118 +32,16 @@ use Rattle.tocmark_read_blocks.specs.declared.leaf.LeafStart.{LeafStart}
 use Rattle.tocmark_read_blocks.specs.declared.leaf.LeafStart.TheVariants as start
 use Rattle.tocmark_commonmark.specs.Lines.{Part, is_blank_byte, is_blank, column_after, indent, line_ink, without_last_blanks, cells, document_line}
 use Rattle.tocmark_commonmark.specs.Beginnings.{Beginning, BlankLine, CodeLine, QuoteLine, HeadingLine, FenceLine, HtmlLine, RuleLine, ItemLine, TextLine, LazyLine, html_if, begins_with, first_of_these, near_beginning, beginning_of, beginning, heading_text}
-use Rattle.tocmark_commonmark.specs.Leaves.{underlined, underline}
-use Rattle.tocmark_block_laws.specs.Leaves.{IsPlain, is_leaf, IsLeafLine}
-use Rattle.tocmark_block_laws.proofs.Columns.{Behind, byte_on, between_on, le_on, front_low, plus_low, plus_zero}
-use Rattle.tocmark_block_laws.proofs.Marks.{heading_later, heading_on, fence_indented, fence_on, underline_on, marker_on, back_stops, rule_on}
-use Rattle.tocmark_block_laws.proofs.Texts.{front_same, between_is, between_length, Trimmed, heading_text_trimmed, place_there, place_here}
+use Rattle.tocmark_commonmark.specs.Leaves.{info, underlined, underline}
+use Rattle.tocmark_block_laws.specs.Leaves.{IsPlain, ends_with_feed, is_leaf, IsLeafLine}
+use Rattle.tocmark_read_blocks.specs.Codes.{info_of}
+use Rattle.tocmark_read_page.specs.declared.page.BlockKind.TheVariants as block_kind
+use Rattle.tocmark_block_laws.proofs.Columns.{length_on, ink_on, run_low, ink_low, Behind, byte_on, between_on, le_on, front_low, plus_low, plus_zero}
+use Rattle.tocmark_block_laws.proofs.Marks.{trimmed_on, heading_later, heading_on, fence_indented, fence_on, underline_on, marker_on, back_stops, rule_on}
+use Rattle.tocmark_block_laws.proofs.Fronts.{spaces_of, part_of, at_ink, indent_same, spaces_low, blank_same, cursor_same, behind_at, between_further, ink_first, byte_first, between_in}
+use Rattle.tocmark_block_laws.proofs.Codes.{Fed, CodeFacts, code_facts}
+use Rattle.tocmark_block_laws.proofs.Texts.{blanks_same, trimmed_high, trimmed_text, front_same, between_is, between_length, Trimmed, heading_text_trimmed, place_there, place_here}
 use Rattle.tocmark_block_laws.proofs.TextLines.{Plain, plain_head, no_tab, declared, Sound, drop_plain, front_plain, between_plain}
-
--- the spaces in front of bytes
-abbrev pub spaces_of : List ℕ → ℕ
-spaces_of xs = length (take_while is_blank_byte xs)
-
--- the line of a document
-abbrev pub part_of : List ℕ → Part
-part_of xs = record { column = 0; spaces = 0; bytes = xs }
-
--- a cursor at the front of a line with so many spaces
-abbrev pub at_ink : ℕ → Cursor
-at_ink n = record { column = 0; ink = n }
-
-columns_counted : (xs : List ℕ) (c : ℕ) → IsPlain xs → fold column_after c xs ≡ c + length xs
-columns_counted [] c h = omega arith
-columns_counted (b ∷ bs) c h =
-    let p : Plain b bs = plain_head b bs h in
-    rw p.tab (columns_counted bs (c + 1) p.more ∙ (let q : c + 1 + length bs ≡ c + suc (length bs) = omega arith in q))
-
-indent_same : (xs : List ℕ) → IsPlain xs → indent (part_of xs) ≡ spaces_of xs
-indent_same xs h =
-    let all : fold column_after 0 (take_while is_blank_byte xs) ≡ 0 + spaces_of xs = columns_counted (take_while is_blank_byte xs) 0 (front_plain (prefix_len is_blank_byte xs) xs h) in
-    omega (arith, all)
-
-spaces_low : (xs : List ℕ) → spaces_of xs ≤ length xs
-spaces_low xs = front_low is_blank_byte xs
-
-blank_same : (xs : List ℕ) → nat_le (length xs) (spaces_of xs) ≡ is_blank xs
-blank_same xs = let low : spaces_of xs ≤ length xs = spaces_low xs in grind (arith, nat_tests)
-
-run_same : (start : ℕ) (xs : List ℕ) → IsPlain xs → run_of (cells_at start [] xs) 0 32 ≡ spaces_of xs
-run_same start xs h =
-    run_asked (cells_at start [] xs) 0 32 ∙ ap (λ (ys : List ℕ). length (take_while (λ x. x == 32) ys)) (bytes_kept start [] xs)
-    ∙ length-prefix_len (λ x. x == 32) xs ∙ front_same xs h ∙ sym (length-prefix_len is_blank_byte xs)
-
-cursor_same : (start : ℕ) (xs : List ℕ) → IsPlain xs → length xs + 3 < 2 ^ 64 → first_cursor (cells_at start [] xs) ≡ at_ink (spaces_of xs)
-unfolding first_cursor
-cursor_same start xs h fits =
-    let low : spaces_of xs ≤ length xs = spaces_low xs in
-    let sum : plus 0 (spaces_of xs) ≡ spaces_of xs = plus_zero (spaces_of xs) (omega arith) in
-    ap (λ n. at_ink (plus 0 n)) (run_same start xs h) ∙ ap at_ink sum
-
--- the columns of a line are its spaces and the columns of its ink
-behind_same : (start : ℕ) (xs : List ℕ) → IsPlain xs → length xs + 3 < 2 ^ 64 → Behind (spaces_of xs) (cells_at start [] xs) (cells (drop (spaces_of xs) xs))
-behind_same start xs h fits =
-    let n : ℕ = spaces_of xs in
-    let low : n ≤ length xs = spaces_low xs in
-    let same : cells (drop n xs) ≡ cells_at 0 [] (drop n xs) = plain_cells 0 (drop n xs) (no_tab (drop n xs) (drop_plain n xs h)) in
-    let count : length (cells (drop n xs)) ≡ length xs - n = ap length same ∙ length_kept 0 [] (drop n xs) ∙ length-drop n xs in
-    record {
-      pre = take n xs;
-      count = length-take-le n xs low;
-      bytes = bytes_kept start [] xs ∙ sym (take-append-drop n xs) ∙ ap (λ (ys : List ℕ). take n xs ++ ys) (sym (ap bytes_of same ∙ bytes_kept 0 [] (drop n xs)));
-      fits = omega (arith, low, count, fits);
-    }
-
-between_further : (text : List ℕ) (s n e : ℕ) → s + n ≤ e → e ≤ length text → bytes_between text (s + n) e ≡ drop n (bytes_between text s e)
-between_further text s n e order within =
-    let far : nat_le (s + n) e ≡ true = grind (arith, nat_tests) in
-    let near : nat_le s e ≡ true = grind (arith, nat_tests) in
-    let in_text : nat_le e (length text) ≡ true = grind (arith, nat_tests) in
-    let width : e - s ≡ n + (e - (s + n)) = omega arith in
-    rw (far, near, in_text)
-    (ap (take (e - (s + n))) (sym (drop-drop n s text)) ∙ sym (drop-take n (e - (s + n)) (drop s text)) ∙ ap (λ w. drop n (take w (drop s text))) (sym width))
-
--- a part of a text that lies in it
-between_long : (text : List ℕ) (s e : ℕ) → s ≤ e → e ≤ length text → length (bytes_between text s e) ≡ e - s
-between_long text s e order within =
-    let near : nat_le s e ≡ true = grind (arith, nat_tests) in
-    let in_text : nat_le e (length text) ≡ true = grind (arith, nat_tests) in
-    rw (near, in_text) (length-take (e - s) (drop s text) ∙ (let d : length (drop s text) ≡ length text - s = length-drop s text in omega (arith, d, order, within)))
-
--- the first byte after the spaces is none
-ink_first : (xs : List ℕ) → is_blank xs ≡ false → (b : ℕ) × (bs : List ℕ) × (drop (spaces_of xs) xs ≡ b ∷ bs) × (is_blank_byte b ≡ false)
-ink_first [] h = absurd (true≢false h)
-ink_first (x ∷ xs) h = by (is_blank_byte x) refl (λ e. ink_first xs e)
-  where
-    HasInk : List ℕ → Type 0
-    HasInk ys = (b : ℕ) × (bs : List ℕ) × (drop (spaces_of ys) ys ≡ b ∷ bs) × (is_blank_byte b ≡ false)
-
-    later : spaces_of (x ∷ xs) ≡ suc (spaces_of xs) → HasInk xs → HasInk (x ∷ xs)
-    later count (b, bs, p, q) = (b, bs, ap (λ n. drop n (x ∷ xs)) count ∙ p, q)
-
-    by : (k : Bool) → is_blank_byte x ≡ k → (is_blank xs ≡ false → HasInk xs) → HasInk (x ∷ xs)
-    by false e again = (x, xs, ap (λ n. drop n (x ∷ xs)) (length-prefix_len is_blank_byte (x ∷ xs) ∙ ap (λ k. cond k (1 + prefix_len is_blank_byte xs) 0) e), e)
-    by true e again =
-        let count : spaces_of (x ∷ xs) ≡ suc (spaces_of xs) = length-prefix_len is_blank_byte (x ∷ xs) ∙ ap (λ k. cond k (1 + prefix_len is_blank_byte xs) 0) e ∙ (let q : 1 + prefix_len is_blank_byte xs ≡ suc (spaces_of xs) = omega (arith, length-prefix_len is_blank_byte xs) in q) in
-        let r : (suc (spaces_of xs) == suc (length xs)) ≡ (spaces_of xs == length xs) = grind (arith, nat_tests) in
-        later count (again (sym (ap (λ n. n == suc (length xs)) count ∙ r) ∙ h))
-
-drop_byte : (s : ℕ) (text : List ℕ) → byte_at text s ≡ byte_at (drop s text) 0
-drop_byte zero text = refl
-drop_byte (suc s) [] = refl
-drop_byte (suc s) (x ∷ xs) = drop_byte s xs
-
-take_byte : (m : ℕ) (ys : List ℕ) (b : ℕ) (bs : List ℕ) → take m ys ≡ b ∷ bs → byte_at ys 0 ≡ b
-take_byte zero ys b bs e = absurd cc
-take_byte (suc m) [] b bs e = absurd cc
-take_byte (suc m) (y ∷ ys) b bs e = let q : y ≡ b = cc in q
-
-byte_first : (text : List ℕ) (s e b : ℕ) (bs : List ℕ) → bytes_between text s e ≡ b ∷ bs → byte_at text s ≡ b
-byte_first text s e b bs h = drop_byte s text ∙ by (nat_le s e && nat_le e (length text)) h
-  where
-    by : (k : Bool) → (if k then take (e - s) (drop s text) else []) ≡ b ∷ bs → byte_at (drop s text) 0 ≡ b
-    by true h = take_byte (e - s) (drop s text) b bs h
-    by false h = absurd cc
 
 -- what a line begins, to the reader: in a paragraph or not, and with these columns in front
 
@@ -185,22 +83,29 @@ may_underline RuleLine = true
 may_underline TextLine = true
 may_underline b = false
 
-leaf_flat : (k : Beginning) → is_leaf k ≡ true → is_flat k ≡ true
-leaf_flat BlankLine e = refl
-leaf_flat CodeLine e = refl
-leaf_flat QuoteLine e = absurd (true≢false (sym e))
-leaf_flat (HeadingLine h) e = refl
-leaf_flat (FenceLine f) e = refl
-leaf_flat (HtmlLine k) e = refl
-leaf_flat RuleLine e = refl
-leaf_flat (ItemLine m) e = absurd (true≢false (sym e))
-leaf_flat TextLine e = refl
-leaf_flat LazyLine e = absurd (true≢false (sym e))
+leaf_flat : (fed : Bool) (k : Beginning) → is_leaf fed k ≡ true → is_flat k ≡ true
+leaf_flat fed BlankLine e = refl
+leaf_flat fed CodeLine e = refl
+leaf_flat fed QuoteLine e = absurd (true≢false (sym e))
+leaf_flat fed (HeadingLine h) e = refl
+leaf_flat fed (FenceLine f) e = refl
+leaf_flat fed (HtmlLine k) e = refl
+leaf_flat fed RuleLine e = refl
+leaf_flat fed (ItemLine m) e = absurd (true≢false (sym e))
+leaf_flat fed TextLine e = refl
+leaf_flat fed LazyLine e = absurd (true≢false (sym e))
 
 -- the text of a heading, if this is the ink of its line
 pub record HeadingFacts (text : List ℕ) (l : Line) (columns : List Cell) (spaces : ℕ) (h : Heading) (ys : List ℕ) : Type 0 where
   pub says : bytes_between text (cell_place columns (spaces + h.from) l.end) (cell_place columns (spaces + h.to) l.end) ≡ heading_text h ys (cells ys)
   pub idle : without_last_blanks (heading_text h ys (cells ys)) ≡ heading_text h ys (cells ys)
+
+-- the info string of a fence, if this is the ink of its line
+pub record InfoFacts (text : List ℕ) (l : Line) (columns : List Cell) (spaces : ℕ) (f : Fence) (ys : List ℕ) : Type 0 where
+  pub from : ℕ
+  pub to : ℕ
+  pub shape : info_of columns (at_ink spaces) f l ≡ block_kind.Fenced from to
+  pub says : bytes_between text from to ≡ info f ys
 
 -- a line as both see it
 pub record Facts (text : List ℕ) (l : Line) : Type 0 where
@@ -213,7 +118,7 @@ pub record Facts (text : List ℕ) (l : Line) : Type 0 where
   pub opens : (p : Bool) → container_in CORE columns (tail_of columns) (at_ink spaces) p ≡ None
   pub starts : (p : Bool) → leaf_at columns (bytes_between text (cell_place columns spaces l.end) l.end) (tail_of columns) (at_ink spaces) p p ≡ start_as spaces p level kind
   pub begins : beginning (declared text l) ≡ kind
-  pub leaf : is_leaf kind ≡ true
+  pub leaf : is_leaf (ends_with_feed text) kind ≡ true
   pub marked : may_underline kind ≡ false → level ≡ None
   pub under : is_blank_kind kind ≡ false → (texts : List (List ℕ)) → underline texts (declared text l) ≡ underlined texts level
   pub ink : is_blank_kind kind ≡ false → bytes_between text (cell_place columns spaces l.end) l.end ≡ line_ink (declared text l)
@@ -221,6 +126,9 @@ pub record Facts (text : List ℕ) (l : Line) : Type 0 where
   pub first : is_blank_kind kind ≡ false → (byte_at text (cell_place columns spaces l.end) == 91) ≡ false
   pub bracket : begins_with 91 (line_ink (declared text l)) ≡ false
   pub heads : (h : Heading) → kind ≡ HeadingLine h → HeadingFacts text l columns spaces h (line_ink (declared text l))
+  pub infos : (x : Fence) → kind ≡ FenceLine x → InfoFacts text l columns spaces x (line_ink (declared text l))
+  pub code : CodeFacts text l columns spaces
+  pub fed : ends_with_feed text ≡ true → Fed text l
 
 -- a byte that a heading, a fence or HTML begins with begins nothing else
 
@@ -379,6 +287,28 @@ near_heading part false None None None true m x e = absurd cc
 near_heading part false None None None false (Some m) x e = absurd cc
 near_heading part false None None None false None x e = absurd cc
 
+near_fence : (part : Part) (q : Bool) (h : Option Heading) (f : Option Fence) (k : Option HtmlKind) (r : Bool) (m : Option Marker) (x : Fence) → first_of_these part q h f k r m ≡ FenceLine x → (y : Fence) × (f ≡ Some y) × (x.count ≡ y.count)
+near_fence part true h f k r m x e = absurd cc
+near_fence part false (Some y) f k r m x e = absurd cc
+near_fence part false None (Some f) k r m x e = let q : record f { indent = indent part } ≡ x = cc in (f, refl, sym (ap (λ (z : Fence). z.count) q))
+near_fence part false None None (Some k) r m x e = absurd cc
+near_fence part false None None None true m x e = absurd cc
+near_fence part false None None None false (Some m) x e = absurd cc
+near_fence part false None None None false None x e = absurd cc
+
+fence_if : (k : Bool) (x y : Fence) → (if k then Some x else None) ≡ Some y → y ≡ x
+fence_if true x y e = let q : x ≡ y = cc in sym q
+fence_if false x y e = absurd cc
+
+fence_count : (r : List Cell) (here : Cursor) (y : Fence) → fence_at r here ≡ Some y → y.count ≡ run_of r here.ink (cell_byte r here.ink)
+unfolding fence_at
+fence_count r here y e =
+    let b : ℕ = cell_byte r here.ink in
+    let count : ℕ = run_of r here.ink b in
+    let same : y ≡ record { byte = b; count = count; indent = indent_of here } =
+    fence_if (is_fence_byte b && nat_le 3 count && not ((b == 96) && nat_lt 0 (count_of r (plus here.ink count) 96))) (record { byte = b; count = count; indent = indent_of here }) y e in
+    ap (λ (z : Fence). z.count) same
+
 html_same : (b : ℕ) (bs : List ℕ) → html_kind (b ∷ bs) ≡ html_if (b == 60) (b ∷ bs)
 unfolding html_kind
 html_same b bs = by (b == 60) refl
@@ -387,41 +317,11 @@ html_same b bs = by (b == 60) refl
     by true q = refl
     by false q = rw q refl
 
--- a part of a part of bytes
-pub between_in : (text : List ℕ) (s e a c : ℕ) → s ≤ e → e ≤ length text → c ≤ e - s → bytes_between text (s + a) (s + c) ≡ bytes_between (bytes_between text s e) a c
-between_in text s e a c order within low =
-    rw (wide, near, le_on s a c) (by (nat_le a c) refl)
-    ∙ sym (ap (λ n. if nat_le a c && nat_le c n then take (c - a) (drop a (bytes_between text s e)) else []) count ∙ ap (λ k. if nat_le a c && k then take (c - a) (drop a (bytes_between text s e)) else []) low_too)
-  where
-    count : length (bytes_between text s e) ≡ e - s
-    count = between_length text s e order within
-
-    low_too : nat_le c (e - s) ≡ true
-    low_too = grind (arith, low, nat_tests)
-
-    near : nat_le (s + c) (length text) ≡ true
-    near = let k : s + c ≤ length text = omega (arith, low, order, within) in grind (arith, k, nat_tests)
-
-    wide : s + c - (s + a) ≡ c - a
-    wide = omega arith
-
-    taken : a ≤ c → take (c - a) (drop (s + a) text) ≡ take (c - a) (drop a (bytes_between text s e))
-    taken o =
-        sym (ap (λ ys. take (c - a) (drop a ys)) (between_is text s e order within)
-        ∙ ap (λ w. take (c - a) (drop a (take w (drop s text)))) (let q : e - s ≡ a + (e - s - a) = omega (arith, low, o) in q)
-        ∙ ap (take (c - a)) (drop-take a (e - s - a) (drop s text))
-        ∙ take-take (c - a) (e - s - a) (drop a (drop s text)) (omega (arith, low))
-        ∙ ap (take (c - a)) (drop-drop a s text))
-
-    by : (k : Bool) → nat_le a c ≡ k → (if k && true then take (c - a) (drop (s + a) text) else []) ≡ (if k && true then take (c - a) (drop a (bytes_between text s e)) else [])
-    by true q = taken (grind (arith, q, nat_tests))
-    by false q = refl
-
 -- a line without a tab that is blank
 
-blank_facts : (text : List ℕ) (l : Line) (xs : List ℕ) → bytes_between text l.start l.end ≡ xs → IsPlain xs → length xs + 3 < 2 ^ 64 → is_blank xs ≡ true → begins_with 91 (line_ink (declared text l)) ≡ false → Facts text l
+blank_facts : (text : List ℕ) (l : Line) (xs : List ℕ) → bytes_between text l.start l.end ≡ xs → IsPlain xs → length xs + 3 < 2 ^ 64 → is_blank xs ≡ true → begins_with 91 (line_ink (declared text l)) ≡ false → CodeFacts text l (cells_at l.start [] xs) (spaces_of xs) → (ends_with_feed text ≡ true → Fed text l) → Facts text l
 unfolding container_in container_at definition_start note_start leaf_at beginning
-blank_facts text l xs same h fits blank bracket =
+blank_facts text l xs same h fits blank bracket code fed =
     record {
       spaces = spaces_of xs;
       columns = cells_at l.start [] xs;
@@ -440,6 +340,9 @@ blank_facts text l xs same h fits blank bracket =
       first = λ e. absurd (true≢false e);
       bracket = bracket;
       heads = λ x e. absurd cc;
+      infos = λ x e. absurd cc;
+      code = code;
+      fed = fed;
     }
   where
     long : nat_le (length (cells_at l.start [] xs)) (spaces_of xs) ≡ true
@@ -480,7 +383,7 @@ inked_line text l xs same h fits sound blank b bs inked first_byte =
       end_fits = omega (arith, in_text, fits);
       width = omega (arith, width, ordered);
       count = omega (arith, counted, suc_long);
-      behind = subst (λ (ys : List ℕ). Behind n whole (cells ys)) inked (behind_same l.start xs h short);
+      behind = subst (λ (ys : List ℕ). Behind n whole (cells ys)) inked (behind_at l.start xs n (spaces_low xs) h short);
       long = ap (λ k. nat_le k n) (length_kept l.start [] xs) ∙ blank_same xs ∙ blank;
       placed = placed;
       before_next = let less : l.start + n < l.next = let order : l.end ≤ l.next = sound.next in omega (arith, fewer, width, ordered, order) in grind (arith, nat_tests);
@@ -503,7 +406,7 @@ inked_line text l xs same h fits sound blank b bs inked first_byte =
     in_text = sound.within
 
     width : length xs ≡ l.end - l.start
-    width = sym (ap length same) ∙ between_long text l.start l.end ordered in_text
+    width = sym (ap length same) ∙ between_length text l.start l.end ordered in_text
 
     short : length xs + 3 < 2 ^ 64
     short = omega (arith, width, in_text, fits)
@@ -587,16 +490,86 @@ heading_facts text l xs b bs i h e =
     is = ap (λ k. bytes_between (b ∷ bs) k (cell_place r h.to (length (b ∷ bs)))) (place_here (b ∷ bs) h.from i.rest_plain low fits)
         ∙ ap (bytes_between (b ∷ bs) h.from) (place_here (b ∷ bs) h.to i.rest_plain high fits)
 
+info_facts : (text : List ℕ) (l : Line) (xs : List ℕ) (b : ℕ) (bs : List ℕ) → Inked text l xs b bs → (first_cursor (cells (b ∷ bs))).ink ≡ 0 → (x y : Fence) → fence_at (cells (b ∷ bs)) (first_cursor (cells (b ∷ bs))) ≡ Some y → x.count ≡ y.count → InfoFacts text l (cells_at l.start [] xs) (spaces_of xs) x (b ∷ bs)
+unfolding info_of
+info_facts text l xs b bs i z x y e same =
+    record {
+      from = cell_place whole (n + from) l.end;
+      to = cell_place whole (n + to) l.end;
+      shape = ap (λ k. block_kind.Fenced (cell_place whole k l.end) (cell_place whole (trimmed whole k (length whole) 32) l.end)) first
+          ∙ ap (λ k. block_kind.Fenced (cell_place whole (n + from) l.end) (cell_place whole k l.end)) second;
+      says = ink_part text l xs b bs i from to low_from low_to
+          ∙ sym (ap (λ zs. bytes_between zs from to) i.rest_bytes)
+          ∙ ap (λ k. bytes_between (bytes_of r) from (trimmed r from k 32)) (sym long)
+          ∙ trimmed_text r from (length (bytes_of r)) (subst (λ (zs : List ℕ). IsPlain zs) (sym i.rest_bytes) i.rest_plain) (omega (arith, low_from, long_bytes)) (omega arith)
+          ∙ ap (λ zs. without_last_blanks (bytes_between zs from (length zs))) i.rest_bytes
+          ∙ ap without_last_blanks (between_is ys from (length ys) low_from (omega arith) ∙ take_all (length ys - from) (drop from ys) (omega (arith, length-drop from ys)))
+          ∙ ap without_last_blanks (ap (λ k. drop k ys) from_is ∙ sym (drop-drop (length (take_while is_blank_byte (drop x.count ys))) x.count ys));
+    }
+  where
+    ys : List ℕ
+    ys = b ∷ bs
+
+    n : ℕ
+    n = spaces_of xs
+
+    whole : List Cell
+    whole = cells_at l.start [] xs
+
+    r : List Cell
+    r = cells ys
+
+    from : ℕ
+    from = ink_from r x.count
+
+    to : ℕ
+    to = trimmed r from (length r) 32
+
+    long : length (bytes_of r) ≡ length r
+    long = length-map r (λ (c : Cell). c.byte)
+
+    long_bytes : length (bytes_of r) ≡ length ys
+    long_bytes = ap length i.rest_bytes
+
+    low : x.count ≤ length r
+    low =
+        let count : y.count ≡ run_of r (first_cursor r).ink (cell_byte r (first_cursor r).ink) = fence_count r (first_cursor r) y e in
+        let there : y.count ≡ run_of r 0 (cell_byte r 0) = count ∙ ap (λ k. run_of r k (cell_byte r k)) z in
+        omega (arith, same, there, run_low r 0 (cell_byte r 0) (omega arith))
+
+    fits : n + length r + 3 < 2 ^ 64
+    fits = let h : Behind n whole r = i.behind in h.fits
+
+    low_from : from ≤ length ys
+    low_from = omega (arith, ink_low r x.count low, long, long_bytes)
+
+    low_to : to ≤ length ys
+    low_to = omega (arith, trimmed_high r from (length r) 32, long, long_bytes)
+
+    first : ink_from whole (plus n x.count) ≡ n + from
+    first = ap (ink_from whole) (plus_low n x.count (omega (arith, low, fits))) ∙ ink_on n whole r x.count i.behind low
+
+    second : trimmed whole (n + from) (length whole) 32 ≡ n + to
+    second = ap (λ k. trimmed whole (n + from) k 32) (length_on n whole r i.behind) ∙ trimmed_on n whole r from (length r) 32 i.behind
+
+    run : run_of r x.count 32 ≡ length (take_while is_blank_byte (drop x.count ys))
+    run = run_asked r x.count 32 ∙ ap (λ (zs : List ℕ). length (take_while (λ k. k == 32) (drop x.count zs))) i.rest_bytes ∙ blanks_same (drop x.count ys) (drop_plain x.count ys i.rest_plain)
+
+    from_is : from ≡ x.count + length (take_while is_blank_byte (drop x.count ys))
+    from_is = omega (arith, run, run_low r x.count 32 low, fits)
+
 -- a line that isn't indented so far
 
 near_facts : (text : List ℕ) (l : Line) (xs : List ℕ) (b : ℕ) (bs : List ℕ) → Inked text l xs b bs → is_blank xs ≡ false
     → nat_le 4 (indent (part_of xs)) ≡ false
-    → is_leaf (near_beginning (part_of xs) (b ∷ bs) (cells (b ∷ bs))) ≡ true
+    → is_leaf (ends_with_feed text) (near_beginning (part_of xs) (b ∷ bs) (cells (b ∷ bs))) ≡ true
     → (b == 91) ≡ false
     → begins_with 91 (line_ink (declared text l)) ≡ false
+    → CodeFacts text l (cells_at l.start [] xs) (spaces_of xs)
+    → (ends_with_feed text ≡ true → Fed text l)
     → Facts text l
 unfolding container_in container_at item_at definition_start note_start leaf_at mark_at html_at underline_in rule_at beginning first_cursor
-near_facts text l xs b bs i blank near leaf no_bracket bracket =
+near_facts text l xs b bs i blank near leaf no_bracket bracket code fed =
     record {
       spaces = n;
       columns = whole;
@@ -626,6 +599,10 @@ near_facts text l xs b bs i blank near leaf no_bracket bracket =
       bracket = bracket;
       heads = λ x e. subst (λ (ys : List ℕ). HeadingFacts text l whole n x ys) (sym ink_is) (heading_facts text l xs b bs i x
           (near_heading (part_of xs) (b == 62) (heading_at rest 0) (fence_at rest (first_cursor rest)) (html_if (b == 60) (b ∷ bs)) (is_rule rest (tail_of rest) 0) (marker_at rest 0) x e));
+      infos = λ x e. subst (λ (ys : List ℕ). InfoFacts text l whole n x ys) (sym ink_is) (info_from x
+          (near_fence (part_of xs) (b == 62) (heading_at rest 0) (fence_at rest (first_cursor rest)) (html_if (b == 60) (b ∷ bs)) (is_rule rest (tail_of rest) 0) (marker_at rest 0) x e));
+      code = code;
+      fed = fed;
     }
   where
     n : ℕ
@@ -641,7 +618,7 @@ near_facts text l xs b bs i blank near leaf no_bracket bracket =
     first = record { rest = bs; bytes = i.rest_bytes }
 
     flat : is_flat (near_beginning (part_of xs) (b ∷ bs) rest) ≡ true
-    flat = leaf_flat (near_beginning (part_of xs) (b ∷ bs) rest) leaf
+    flat = leaf_flat (ends_with_feed text) (near_beginning (part_of xs) (b ∷ bs) rest) leaf
 
     ink_is : line_ink (declared text l) ≡ b ∷ bs
     ink_is = ap (λ ys. line_ink (document_line ys)) i.same ∙ i.inked
@@ -667,6 +644,9 @@ near_facts text l xs b bs i blank near leaf no_bracket bracket =
     no_spaces : (first_cursor rest).ink ≡ 0
     no_spaces = ap (λ cs. plus 0 (run_of cs 0 32)) rest_cells ∙ rw i.no_space refl
 
+    info_from : (x : Fence) → (y : Fence) × (fence_at rest (first_cursor rest) ≡ Some y) × (x.count ≡ y.count) → InfoFacts text l whole n x (b ∷ bs)
+    info_from x (y, found, same) = info_facts text l xs b bs i no_spaces x y found same
+
     signs : begins_sign (heading_at rest 0) (fence_at rest (first_cursor rest)) (html_if (b == 60) (b ∷ bs)) ≡ true → NoMark b
     signs e = sign_begins rest b (b ∷ bs) (first_cursor rest) first no_spaces e
 
@@ -682,10 +662,63 @@ near_facts text l xs b bs i blank near leaf no_bracket bracket =
     rule_same : is_rule whole (tail_of whole) n ≡ is_rule rest (tail_of rest) 0
     rule_same = rule_on n whole rest i.behind tail_short
 
+-- a line that is indented by four columns or more
+
+far_facts : (text : List ℕ) (l : Line) (xs : List ℕ) (b : ℕ) (bs : List ℕ) → Inked text l xs b bs → is_blank xs ≡ false
+    → nat_le 4 (indent (part_of xs)) ≡ true
+    → is_leaf (ends_with_feed text) CodeLine ≡ true
+    → (b == 91) ≡ false
+    → begins_with 91 (line_ink (declared text l)) ≡ false
+    → CodeFacts text l (cells_at l.start [] xs) (spaces_of xs)
+    → (ends_with_feed text ≡ true → Fed text l)
+    → Facts text l
+unfolding container_in container_at definition_start note_start leaf_at beginning
+far_facts text l xs b bs i blank far leaf no_bracket bracket code fed =
+    record {
+      spaces = n;
+      columns = whole;
+      kind = CodeLine;
+      level = None;
+      read = ap (cells_of [] l.start) i.same ∙ plain_cells l.start xs (no_tab xs i.plain);
+      cursor = cursor_same l.start xs i.plain i.short;
+      opens = λ p. rw (i.long, deep) refl;
+      starts = λ p. rw (i.long, wide) refl;
+      begins = ap (λ ys. beginning_of (part_of ys) (is_blank ys) (nat_le 4 (indent (part_of ys)))) i.same
+          ∙ ap (λ k. beginning_of (part_of xs) k (nat_le 4 (indent (part_of xs)))) blank
+          ∙ ap (λ k. beginning_of (part_of xs) false k) far;
+      leaf = leaf;
+      marked = λ e. refl;
+      under = λ e texts. ap (λ ys. underline texts (document_line ys)) i.same
+          ∙ ap (λ k. if k then None else underlined texts (underline_at (cells (drop n xs)) 0)) far;
+      ink = λ e. i.rested ∙ sym ink_is;
+      some = λ e. ap (λ k. nat_lt k l.next) i.placed ∙ i.before_next;
+      first = λ e. ap (λ k. byte_at text k == 91) i.placed ∙ ap (λ k. k == 91) i.byte ∙ no_bracket;
+      bracket = bracket;
+      heads = λ x e. absurd cc;
+      infos = λ x e. absurd cc;
+      code = code;
+      fed = fed;
+    }
+  where
+    n : ℕ
+    n = spaces_of xs
+
+    whole : List Cell
+    whole = cells_at l.start [] xs
+
+    ink_is : line_ink (declared text l) ≡ b ∷ bs
+    ink_is = ap (λ ys. line_ink (document_line ys)) i.same ∙ i.inked
+
+    deep : nat_le 4 (n - 0) ≡ true
+    deep = ap (nat_le 4) ((let q : n - 0 ≡ n = omega arith in q) ∙ sym (indent_same xs i.plain)) ∙ far
+
+    wide : nat_lt (n - 0) 4 ≡ false
+    wide = grind (arith, deep, nat_tests)
+
 -- the facts of a line that begins a leaf
-pub leaf_facts : (text : List ℕ) (l : Line) → IsPlain text → length text + 3 < 2 ^ 64 → Sound text l → IsLeafLine (declared text l) → Facts text l
+pub leaf_facts : (text : List ℕ) (l : Line) → IsPlain text → length text + 3 < 2 ^ 64 → Sound text l → IsLeafLine (ends_with_feed text) (declared text l) → (ends_with_feed text ≡ true → Fed text l) → Facts text l
 unfolding beginning
-leaf_facts text l h fits sound leaf = by (is_blank xs) (nat_le 4 (indent (part_of xs))) refl refl
+leaf_facts text l h fits sound leaf fed = by (is_blank xs) (nat_le 4 (indent (part_of xs))) refl refl
   where
     xs : List ℕ
     xs = bytes_between text l.start l.end
@@ -693,7 +726,10 @@ leaf_facts text l h fits sound leaf = by (is_blank xs) (nat_le 4 (indent (part_o
     inner : IsPlain xs
     inner = between_plain text l.start l.end h
 
-    begins_leaf : is_leaf (beginning_of (part_of xs) (is_blank xs) (nat_le 4 (indent (part_of xs)))) ≡ true
+    code : CodeFacts text l (cells_at l.start [] xs) (spaces_of xs)
+    code = code_facts text l inner fits sound
+
+    begins_leaf : is_leaf (ends_with_feed text) (beginning_of (part_of xs) (is_blank xs) (nat_le 4 (indent (part_of xs)))) ≡ true
     begins_leaf = leaf.begins
 
     ordered : l.start ≤ l.end
@@ -703,19 +739,23 @@ leaf_facts text l h fits sound leaf = by (is_blank xs) (nat_le 4 (indent (part_o
     in_text = sound.within
 
     short : length xs + 3 < 2 ^ 64
-    short = omega (arith, between_long text l.start l.end ordered in_text, in_text, fits)
+    short = omega (arith, between_length text l.start l.end ordered in_text, in_text, fits)
 
-    inked : is_blank xs ≡ false → nat_le 4 (indent (part_of xs)) ≡ false → (b : ℕ) × (bs : List ℕ) × (drop (spaces_of xs) xs ≡ b ∷ bs) × (is_blank_byte b ≡ false) → Facts text l
-    inked blank near (b, bs, e, no_blank) = near_facts text l xs b bs (inked_line text l xs refl inner fits sound blank b bs e no_blank) blank near
-        (sym (ap (λ k. is_leaf (beginning_of (part_of xs) k (nat_le 4 (indent (part_of xs))))) blank
-        ∙ ap (λ k. is_leaf (beginning_of (part_of xs) false k)) near
-        ∙ ap (λ ys. is_leaf (near_beginning (part_of xs) ys (cells ys))) e) ∙ begins_leaf)
+    begins_so : (far : Bool) → is_blank xs ≡ false → nat_le 4 (indent (part_of xs)) ≡ far → is_leaf (ends_with_feed text) (beginning_of (part_of xs) false far) ≡ true
+    begins_so far blank near =
+        sym (ap (λ k. is_leaf (ends_with_feed text) (beginning_of (part_of xs) k (nat_le 4 (indent (part_of xs))))) blank
+        ∙ ap (λ k. is_leaf (ends_with_feed text) (beginning_of (part_of xs) false k)) near) ∙ begins_leaf
+
+    inked : (far : Bool) → is_blank xs ≡ false → nat_le 4 (indent (part_of xs)) ≡ far → (b : ℕ) × (bs : List ℕ) × (drop (spaces_of xs) xs ≡ b ∷ bs) × (is_blank_byte b ≡ false) → Facts text l
+    inked true blank near (b, bs, e, no_blank) = far_facts text l xs b bs (inked_line text l xs refl inner fits sound blank b bs e no_blank) blank near
+        (begins_so true blank near)
         (sym (ap (begins_with 91) e) ∙ leaf.bracket)
-        leaf.bracket
+        leaf.bracket code fed
+    inked false blank near (b, bs, e, no_blank) = near_facts text l xs b bs (inked_line text l xs refl inner fits sound blank b bs e no_blank) blank near
+        (sym (ap (λ ys. is_leaf (ends_with_feed text) (near_beginning (part_of xs) ys (cells ys))) e) ∙ begins_so false blank near)
+        (sym (ap (begins_with 91) e) ∙ leaf.bracket)
+        leaf.bracket code fed
 
     by : (k far : Bool) → is_blank xs ≡ k → nat_le 4 (indent (part_of xs)) ≡ far → Facts text l
-    by true far blank near = blank_facts text l xs refl inner short blank leaf.bracket
-    by false true blank near = absurd (true≢false (sym begins_leaf
-        ∙ ap (λ k. is_leaf (beginning_of (part_of xs) k (nat_le 4 (indent (part_of xs))))) blank
-        ∙ ap (λ k. is_leaf (beginning_of (part_of xs) false k)) near))
-    by false false blank near = inked blank near (ink_first xs blank)
+    by true far blank near = blank_facts text l xs refl inner short blank leaf.bracket code fed
+    by false far blank near = inked far blank near (ink_first xs blank)

@@ -43,7 +43,7 @@ plain_same : (xs : List ℕ) → IsPlain xs → plain_bytes false xs ≡ xs
 plain_same [] h = refl
 plain_same (b ∷ bs) h = let c : Plain b bs = plain_head b bs h in rw (c.return, never (b == 10), c.zero_byte) (ap (λ (ys : List ℕ). b ∷ ys) (plain_same bs c.more))
 
-stop_same : (text : List ℕ) (start b at : ℕ) → IsPlain text → line_stop text start b at ≡ at
+pub stop_same : (text : List ℕ) (start b at : ℕ) → IsPlain text → line_stop text start b at ≡ at
 unfolding line_stop
 stop_same text start b at h = by (b == 10) (nat_lt start at)
   where
@@ -52,7 +52,7 @@ stop_same text start b at h = by (b == 10) (nat_lt start at)
     by true false = refl
     by false m = refl
 
-ends_same : (text : List ℕ) (b at : ℕ) → (b == 13) ≡ false → ends_here text b at ≡ (b == 10)
+pub ends_same : (text : List ℕ) (b at : ℕ) → (b == 13) ≡ false → ends_here text b at ≡ (b == 10)
 unfolding ends_here
 ends_same text b at h = rw h (by (b == 10))
   where

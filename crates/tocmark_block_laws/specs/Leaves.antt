@@ -1,11 +1,11 @@
 -- The reader and the declaration say the same of texts without containers.
-use Rattle.std.specs.Prelude.{ℕ, ◌+◌, ◌^◌, ◌<◌, ◌≡◌, Bool, true, false, ◌==◌, ◌||◌, List, length}
+use Rattle.std.specs.Prelude.{ℕ, ◌+◌, ◌^◌, ◌<◌, ◌≡◌, Bool, true, false, ◌==◌, ◌||◌, List, length, reverse}
 use Rattle.std.specs.List.{AllByRecursion, list_any}
 use Rattle.tocmark_read_scan.specs.declared.syntax.TheConstants.{CORE}
 use Rattle.tocmark_read_blocks.specs.Blocks.{BlocksView, blocks_in}
 use Rattle.tocmark_commonmark.specs.Lines.{Line, line_ink, lines_of}
 use Rattle.tocmark_commonmark.specs.Tree.{Blocks, defined}
-use Rattle.tocmark_commonmark.specs.Beginnings.{Beginning, BlankLine, HeadingLine, RuleLine, TextLine, beginning, begins_with}
+use Rattle.tocmark_commonmark.specs.Beginnings.{Beginning, BlankLine, CodeLine, HeadingLine, FenceLine, RuleLine, TextLine, beginning, begins_with}
 use Rattle.tocmark_commonmark.specs.Blocks.{blocks_of}
 use Rattle.tocmark_block_laws.specs.Trees.{told, read_tree}
 
@@ -26,19 +26,25 @@ is_special b = (b == 9) || (b == 13) || (b == 0)
 abbrev pub IsPlain : List ℕ → Type 0
 IsPlain text = list_any is_special text ≡ false
 
--- a blank line, a thematic break, a heading, or the first line of a paragraph
-abbrev pub is_leaf : Beginning → Bool
-is_leaf BlankLine = true
-is_leaf (HeadingLine h) = true
-is_leaf RuleLine = true
-is_leaf TextLine = true
-is_leaf b = false
+-- the last byte is a line feed
+abbrev pub ends_with_feed : List ℕ → Bool
+ends_with_feed text = begins_with 10 (reverse text)
+
+-- a line that begins no quote, no item and no HTML; code only if the text ends with a line feed
+abbrev pub is_leaf : Bool → Beginning → Bool
+is_leaf fed BlankLine = true
+is_leaf fed CodeLine = fed
+is_leaf fed (HeadingLine h) = true
+is_leaf fed (FenceLine f) = fed
+is_leaf fed RuleLine = true
+is_leaf fed TextLine = true
+is_leaf fed b = false
 
 -- such a line, which begins with no bracket, and so no definition
-pub record IsLeafLine (l : Line) : Type 0 where
-  pub begins : is_leaf (beginning l) ≡ true
+pub record IsLeafLine (fed : Bool) (l : Line) : Type 0 where
+  pub begins : is_leaf fed (beginning l) ≡ true
   pub bracket : begins_with 91 (line_ink l) ≡ false
 
 -- of texts of such lines the reader and the declaration say the same
 abbrev pub LeavesAreDeclared : Type 0
-LeavesAreDeclared = (text : List ℕ) → length text + 3 < 2 ^ 64 → IsPlain text → AllByRecursion IsLeafLine (lines_of text) → Agrees text
+LeavesAreDeclared = (text : List ℕ) → length text + 3 < 2 ^ 64 → IsPlain text → AllByRecursion (IsLeafLine (ends_with_feed text)) (lines_of text) → Agrees text
