@@ -25,10 +25,11 @@ use Rattle.tocmark_read_spans.specs.declared.role.Leaf.TheVariants as leaf
 use Rattle.tocmark_commonmark.specs.InlineTree.{Text, Atom}
 use Rattle.tocmark_commonmark.specs.Tokens.{ampersand, numbered, reference_if, reference}
 use Rattle.tocmark_inline_laws.specs.Said.{letters, words}
+use Rattle.tocmark_inline_laws.proofs.Phases.{Passes, passes_by}
 use Rattle.tocmark_inline_laws.proofs.Places.{clean_after, past_end}
 use Rattle.tocmark_inline_laws.proofs.Plains.{drop_more, drop_past, past_within, between_text}
 use Rattle.tocmark_inline_laws.proofs.Sim.{Clean, Sim, Goes}
-use Rattle.tocmark_inline_laws.proofs.Tokens.{byte_goes, leaf_goes}
+use Rattle.tocmark_inline_laws.proofs.Tokens.{byte_passes, byte_goes, leaf_goes}
 
 -- what is kept among the texts is there, also when more are added
 pub kept_words : (xs ys zs : List ℕ) → words (xs ++ ys ++ zs) (stretch (length xs) (length (xs ++ ys))) ≡ ys
@@ -125,14 +126,14 @@ quot_letters : AllByRecursion (λ c. is_in TagName c ≡ true) (codes "quot")
 unfolding is_in
 quot_letters = (refl, (refl, (refl, (refl, tt))))
 
-some_none : {A : Type 0} (x : A) → Some x ≡ None → ⊥
+pub some_none : {A : Type 0} (x : A) → Some x ≡ None → ⊥
 some_none x e = let k : Some x ≡ None = e in cc
 
-same_some : {A : Type 0} (x y : A) → Some x ≡ Some y → x ≡ y
+pub same_some : {A : Type 0} (x y : A) → Some x ≡ Some y → x ≡ y
 same_some x y e = let k : Some x ≡ Some y = e in cc
 
 -- a name that isn't known is none of the four
-none_of_four : (bytes : List ℕ) (p : ℕ) → p ≤ length bytes → length bytes + 1 < 2 ^ 64 → name_at bytes p ≡ None → number.named bytes p ≡ None
+pub none_of_four : (bytes : List ℕ) (p : ℕ) → p ≤ length bytes → length bytes + 1 < 2 ^ 64 → name_at bytes p ≡ None → number.named bytes p ≡ None
 unfolding number.named
 none_of_four bytes p in_it fits unknown = by (starts_at bytes p (codes "&amp;")) (starts_at bytes p (codes "&lt;")) (starts_at bytes p (codes "&gt;")) (starts_at bytes p (codes "&quot;")) refl refl refl refl
   where
@@ -153,7 +154,7 @@ unfolding is_in
 hash = refl
 
 -- a numeric reference is none by a name
-none_named : (bytes : List ℕ) (p : ℕ) → p ≤ length bytes → length bytes + 1 < 2 ^ 64 → starts_at bytes p (codes "&#") ≡ true → name.named bytes p ≡ None
+pub none_named : (bytes : List ℕ) (p : ℕ) → p ≤ length bytes → length bytes + 1 < 2 ^ 64 → starts_at bytes p (codes "&#") ≡ true → name.named bytes p ≡ None
 unfolding name.named name_at
 none_named bytes p in_it fits s =
     ap (λ q. name.named_to (plus (name_end bytes p) 1) (if (byte_at bytes p == 38) && (byte_at bytes q == 59) then characters_of (bytes_between bytes (plus p 1) (name_end bytes p)) else None)) (name_ends bytes [] w.rest p 35 in_it fits w.here tt hash)
@@ -164,11 +165,11 @@ none_named bytes p in_it fits s =
     w = starts_here bytes p (38 ∷ 35 ∷ []) s
 
 -- what a reference ends with
-record Closed (bytes : List ℕ) (p next : ℕ) : Type 0 where
-  end : ℕ
-  semicolon : byte_at bytes end ≡ 59
-  next_is : next ≡ plus end 1
-  behind : p < end
+pub record Closed (bytes : List ℕ) (p next : ℕ) : Type 0 where
+  pub end : ℕ
+  pub semicolon : byte_at bytes end ≡ 59
+  pub next_is : next ≡ plus end 1
+  pub behind : p < end
 
 closed_is : (bytes : List ℕ) (start end base most : ℕ) (r : Reference) → closed_number bytes start end base most ≡ Some r → Closed bytes start r.next
 unfolding closed_number
@@ -188,7 +189,7 @@ closed_is bytes start end base most r h = by (nat_lt start end) (nat_le end (plu
     by true false z e f g k = absurd (some_none r (sym k))
     by false y z e f g k = absurd (some_none r (sym k))
 
-numeric_is : (bytes : List ℕ) (p : ℕ) (r : Reference) → p < length bytes → length bytes + 2 < 2 ^ 64 → numeric bytes p ≡ Some r → Closed bytes p r.next
+pub numeric_is : (bytes : List ℕ) (p : ℕ) (r : Reference) → p < length bytes → length bytes + 2 < 2 ^ 64 → numeric bytes p ≡ Some r → Closed bytes p r.next
 unfolding numeric
 numeric_is bytes p r in_it fits h = by ((byte_at bytes (plus p 2) == 120) || (byte_at bytes (plus p 2) == 88)) h
   where
@@ -203,7 +204,7 @@ name_late : (bytes : List ℕ) (p : ℕ) → p < length bytes → length bytes +
 unfolding name_end run_end
 name_late bytes p in_it fits = omega arith
 
-named_is : (bytes : List ℕ) (p : ℕ) (n : Named) → p < length bytes → length bytes + 2 < 2 ^ 64 → name.named bytes p ≡ Some n → Closed bytes p n.next
+pub named_is : (bytes : List ℕ) (p : ℕ) (n : Named) → p < length bytes → length bytes + 2 < 2 ^ 64 → name.named bytes p ≡ Some n → Closed bytes p n.next
 unfolding name.named name_at
 named_is bytes p n in_it fits h = by (byte_at bytes p == 38) (byte_at bytes (name_end bytes p) == 59) refl h
   where
@@ -222,16 +223,18 @@ named_is bytes p n in_it fits h = by (byte_at bytes p == 38) (byte_at bytes (nam
     by false y e k = absurd (some_none n (sym k))
 
 -- places of a reference
-record Ended (bytes : List ℕ) (p next : ℕ) : Type 0 where
-  further : p < next
-  within : next ≤ length bytes
-  clean : Clean bytes next
+pub record Ended (bytes : List ℕ) (p next : ℕ) : Type 0 where
+  pub further : p < next
+  pub within : next ≤ length bytes
+  pub clean : Clean bytes next
+  pub passes : Passes bytes p next
 
-ends_well : (bytes : List ℕ) (p next : ℕ) → length bytes + 2 < 2 ^ 64 → Closed bytes p next → Ended bytes p next
+pub ends_well : (bytes : List ℕ) (p next : ℕ) → length bytes + 2 < 2 ^ 64 → Closed bytes p next → Ended bytes p next
 ends_well bytes p next fits c = record {
   further = let b : p < c.end = c.behind in omega (arith, at);
   within = omega (arith, at, inner);
   clean = clean_after bytes c.end next at (ap (λ x. x == 32) c.semicolon);
+  passes = passes_by bytes p next c.end (omega arith) at (let b : p < c.end = c.behind in omega arith) inner (ap (λ x. x == 92) c.semicolon);
 }
   where
     inner : c.end < length bytes
@@ -261,7 +264,7 @@ ampersand_marks : is_mark 38 ≡ true
 unfolding is_mark
 ampersand_marks = refl
 
-unnamed : (bytes : List ℕ) (p : ℕ) → name.named bytes p ≡ None → name_at bytes p ≡ None
+pub unnamed : (bytes : List ℕ) (p : ℕ) → name.named bytes p ≡ None → name_at bytes p ≡ None
 unfolding name.named
 unnamed bytes p h = by (name_at bytes p) h
   where
@@ -285,19 +288,19 @@ ampersand_goes bytes ahead defs p s done a in_it fits is = by (starts_at bytes p
     same = ap (λ (ts : List ℕ). record s { texts = ts }) (sym (append-nil s.texts))
 
     numbers : (o : Option Reference) → numeric bytes p ≡ o → starts_at bytes p (codes "&#") ≡ true → Goes bytes ahead defs p s done (ampersand p (numbered o))
-    numbers None e z = byte_goes bytes ahead defs p 38 s done a in_it (omega arith) is ampersand_marks refl (numbers_so true z (none_named bytes p (omega arith) (omega arith) z) ∙ ap (referred_to s) e)
+    numbers None e z = byte_goes bytes ahead defs p 38 s done a in_it (omega arith) is ampersand_marks refl (byte_passes bytes p 38 in_it (omega arith) is refl) (numbers_so true z (none_named bytes p (omega arith) (omega arith) z) ∙ ap (referred_to s) e)
     numbers (Some r) e z =
         leaf_goes bytes ahead defs p 38 r.next s s done (leaf.Character r.character) (Text (encode_utf8 r.character)) [] a w.further w.within (omega arith) is ampersand_marks
-        (numbers_so true z (none_named bytes p (omega arith) (omega arith) z) ∙ ap (referred_to s) e) same w.clean (λ ts d. refl)
+        (numbers_so true z (none_named bytes p (omega arith) (omega arith) z) ∙ ap (referred_to s) e) same w.clean w.passes (λ ts d. refl)
       where
         w : Ended bytes p r.next
         w = ends_well bytes p r.next fits (numeric_is bytes p r in_it fits e)
 
     names : (o : Option Named) → name.named bytes p ≡ o → starts_at bytes p (codes "&#") ≡ false → Goes bytes ahead defs p s done (ampersand p o)
-    names None e z = byte_goes bytes ahead defs p 38 s done a in_it (omega arith) is ampersand_marks refl (numbers_so false z e ∙ ap (referred_to s) (none_of_four bytes p (omega arith) (omega arith) (unnamed bytes p e)))
+    names None e z = byte_goes bytes ahead defs p 38 s done a in_it (omega arith) is ampersand_marks refl (byte_passes bytes p 38 in_it (omega arith) is refl) (numbers_so false z e ∙ ap (referred_to s) (none_of_four bytes p (omega arith) (omega arith) (unnamed bytes p e)))
     names (Some n) e z =
         leaf_goes bytes ahead defs p 38 n.next s (record s { texts = s.texts ++ n.characters }) done (leaf.Text (stretch (length s.texts) (length (s.texts ++ n.characters)))) (Text n.characters) n.characters a w.further w.within (omega arith) is ampersand_marks
-        (looked_so ∙ ap (λ o. scan.named_to bytes s o) e ∙ put_so n.characters n.next s) refl w.clean
+        (looked_so ∙ ap (λ o. scan.named_to bytes s o) e ∙ put_so n.characters n.next s) refl w.clean w.passes
         (λ ts d. ap (letters d) (kept_words s.texts n.characters ts))
       where
         w : Ended bytes p n.next

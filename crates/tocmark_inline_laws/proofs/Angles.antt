@@ -28,12 +28,13 @@ use Rattle.tocmark_inline_laws.proofs.Ampersands.{kept_words}
 use Rattle.tocmark_inline_laws.proofs.Atoms.{with_more, flow_at, Shows}
 use Rattle.tocmark_inline_laws.proofs.Flow.{Flow, Beside, flow_step}
 use Rattle.tocmark_inline_laws.proofs.Passes.{step_look}
+use Rattle.tocmark_inline_laws.proofs.Phases.{Passes, passes_by}
 use Rattle.tocmark_inline_laws.proofs.Places.{set_here, plain_split, clean_after, any_byte, past_end}
 use Rattle.tocmark_inline_laws.proofs.Plains.{plains_flow}
 use Rattle.tocmark_inline_laws.proofs.Sim.{beside, Clean, Sim, Goes, goes_by}
 use Rattle.tocmark_inline_laws.proofs.Stretches.{between_none, cut, cut_length}
 use Rattle.tocmark_inline_laws.proofs.TagEnds.{Angled, uri_angled, mail_angled, html_angled, raw_so}
-use Rattle.tocmark_inline_laws.proofs.Tokens.{byte_goes, leaf_goes}
+use Rattle.tocmark_inline_laws.proofs.Tokens.{byte_passes, byte_goes, leaf_goes}
 
 -- places of what ends with a closing angle bracket
 record Ended (bytes : List ℕ) (p end : ℕ) : Type 0 where
@@ -42,6 +43,7 @@ record Ended (bytes : List ℕ) (p end : ℕ) : Type 0 where
   behind : p < at
   within : end ≤ length bytes
   clean : Clean bytes end
+  passes : Passes bytes p end
 
 ends_well : (bytes : List ℕ) (p end : ℕ) → length bytes + 2 < 2 ^ 64 → Angled bytes p end → Ended bytes p end
 ends_well bytes p end fits c = record {
@@ -50,6 +52,7 @@ ends_well bytes p end fits c = record {
   behind = c.behind;
   within = omega (arith, is, inner);
   clean = clean_after bytes c.at end is (ap (λ x. x == 32) c.bracket);
+  passes = passes_by bytes p end c.at (omega arith) is (let b : p < c.at = c.behind in omega arith) inner (ap (λ x. x == 92) c.bracket);
 }
   where
     inner : c.at < length bytes
@@ -160,9 +163,8 @@ address_goes bytes ahead defs p end k s done a in_it fits is angled looked =
       stands = address_shows (with_more (beside bytes s) text (target_of k s.texts text ∷ [])) p number end k text (drop (end - 1) bytes) cut_so (omega (arith, w.end_is, w.behind, size)) (λ ts gs. address_said k s.texts text ts s.targets gs);
       resume = omega arith;
       runs = refl;
-      brackets = a.brackets;
     })
-    w.clean (omega (arith, w.end_is, w.behind)) w.within (omega arith) is
+    w.clean w.passes refl refl (omega (arith, w.end_is, w.behind)) w.within (omega arith) is
     (step_look bytes ahead defs s 60 angle_marks (let q : s.resume ≤ p = a.resume in let r : s.place ≡ p = a.place in omega arith) ∙ ap next_place looked_so)
     a.place (omega (arith, w.end_is, w.behind))
   where
@@ -256,7 +258,7 @@ angle_goes bytes ahead defs p s done a in_it fits is knows = by (uri_end bytes p
         leaf_goes bytes ahead defs p 60 end s (record s { texts = s.texts ++ text }) done (leaf.Html (stretch (length s.texts) (length (s.texts ++ text)))) (RawHtml text) text a
         (omega (arith, w.end_is, w.behind)) w.within (omega arith) is angle_marks
         (html_so e f ∙ ap (tagged_to bytes s) g ∙ put_so bytes end s ∙ ap (λ q. put_leaf (leaf.Html (stretch (length s.texts) (length (s.texts ++ bytes_between bytes q end)))) end (record s { texts = s.texts ++ bytes_between bytes q end })) a.place)
-        refl w.clean
+        refl w.clean w.passes
         (λ ts d. ap (said_html d) (kept_words s.texts text ts))
       where
         text : List ℕ
@@ -267,4 +269,4 @@ angle_goes bytes ahead defs p s done a in_it fits is knows = by (uri_end bytes p
 
         said_html : ℕ → List ℕ → List Piece
         said_html d x = (d, Leaf (view.InlineHtml x)) ∷ []
-    by None None None e f g = byte_goes bytes ahead defs p 60 s done a in_it (omega arith) is angle_marks refl (html_so e f ∙ ap (tagged_to bytes s) g)
+    by None None None e f g = byte_goes bytes ahead defs p 60 s done a in_it (omega arith) is angle_marks refl (byte_passes bytes p 60 in_it (omega arith) is refl) (html_so e f ∙ ap (tagged_to bytes s) g)

@@ -1,5 +1,5 @@
 -- Roles that say an atom, and roles that say atoms one after the other.
-use Rattle.std.proofs.Common.{◌≡◌, ℕ, suc, ◌+◌, ◌-◌, ◌<◌, true, List, [], ◌∷◌, ◌++◌, length, replicate, ap, sym, subst, ◌∙◌, arith, append_assoc}
+use Rattle.std.proofs.Common.{◌≡◌, ℕ, suc, ◌+◌, ◌-◌, ◌<◌, Bool, true, if◌then◌else◌, List, [], ◌∷◌, ◌++◌, length, replicate, ap, sym, subst, ◌∙◌, arith, append_assoc}
 use Rattle.std.specs.List.{fold}
 use Rattle.tocmark_read_scan.specs.Basic.{byte_at}
 use Rattle.tocmark_read_spans.specs.declared.role.Leaf.{Leaf}
@@ -65,15 +65,19 @@ pub record IsRun (e : Beside) (p : ℕ) (d : Run) : Type 0 where
   pub star : is_star d.byte ≡ true
   pub filled : (i : ℕ) → i < d.count → byte_at e.bytes (p + i) ≡ d.byte
 
--- roles say what an atom is; those of a delimiter run are plain
+-- how many bytes an opening bracket has
+abbrev pub bracket_width : Bool → ℕ
+bracket_width image = if image then 2 else 1
+
+-- roles say what an atom is; those of a delimiter run and of an opening bracket are plain
 abbrev pub Stands : Beside → ℕ → List Role → Atom → Type 0
 Stands e p seg (Whole i) = Shows e p seg i
-Stands e p seg (Opening b) = Shows e p seg (as_inline (Opening b))
+Stands e p seg (Opening b) = (seg ≡ replicate (bracket_width b.is_image) role.Plain) × (b.inner ≡ p + bracket_width b.is_image) × Shows e p seg (as_inline (Opening b))
 Stands e p seg (Delimiters r) = (seg ≡ replicate r.count role.Plain) × (r.place ≡ p) × IsRun e p r
 
 stands_more : (e : Beside) (ts : List ℕ) (gs : List Target) (p : ℕ) (seg : List Role) (a : Atom) → Stands e p seg a → Stands (with_more e ts gs) p seg a
 stands_more e ts gs p seg (Whole i) h = shows_more e ts gs p seg i h
-stands_more e ts gs p seg (Opening b) h = shows_more e ts gs p seg (as_inline (Opening b)) h
+stands_more e ts gs p seg (Opening b) h = ((h.0), (h.1), shows_more e ts gs p seg (as_inline (Opening b)) (h.2))
 stands_more e ts gs p seg (Delimiters r) h = ((h.0), (h.1), record { some = h.2.some; star = h.2.star; filled = h.2.filled })
 
 -- roles from the front on say atoms, the last one first

@@ -1,5 +1,5 @@
 -- Spaces and line endings of a content.
-use Rattle.std.proofs.Common.{◌≡◌, ℕ, zero, suc, ◌+◌, ◌-◌, ◌^◌, ◌<◌, ◌≤◌, Bool, true, false, ◌==◌, ◌&&◌, ◌||◌, nat_lt, nat_le, if◌then◌else◌, List, [], ◌∷◌, ◌++◌, length, drop, replicate, refl, ap, sym, subst, ◌∙◌, arith, true≢false}
+use Rattle.std.proofs.Common.{◌≡◌, ℕ, zero, suc, ◌+◌, ◌-◌, ◌^◌, ◌<◌, ◌≤◌, Bool, true, false, ◌==◌, ◌&&◌, ◌||◌, nat_lt, nat_le, if◌then◌else◌, List, [], ◌∷◌, ◌++◌, length, drop, replicate, refl, ap, sym, subst, ◌∙◌, arith, append-nil, true≢false}
 use Rattle.std.proofs.lemmas.Bool.Decides.{nat_tests}
 use Rattle.std.proofs.lemmas.List.{length-replicate}
 use Rattle.std.specs.Prelude.{Option, Some, None, slice_get, slice_set, take_while, unwrap_or}
@@ -22,6 +22,7 @@ use Rattle.tocmark_inline_laws.proofs.Atoms.{Shows, leaf_shows, hidden_shows}
 use Rattle.tocmark_inline_laws.proofs.Passes.{step, step_look, passed_over}
 use Rattle.tocmark_inline_laws.proofs.Sim.{beside, Clean, Sim, Goes, took_sim}
 use Rattle.tocmark_inline_laws.proofs.Plains.{drop_past, drop_more, past_within, between_text, Front, front_of}
+use Rattle.tocmark_inline_laws.proofs.Phases.{passes_by}
 use Rattle.tocmark_inline_laws.proofs.Places.{set_here, set_next, plain_split, clean_after, gone_back}
 use Rattle.tocmark_inline_laws.proofs.Tokens.{added, all_of, text_goes}
 
@@ -133,8 +134,11 @@ break_goes bytes ahead defs p s done xs rest a in_it fits e h clear = record {
       (t_texts) (t_targets)
       (break_shows bytes s p xs)
       (subst (λ r. r ≤ q + 1) (sym t_resume) (let z : s.resume ≤ p = a.resume in omega arith))
-      t_runs (t_brackets ∙ a.brackets))
-      (clean_after bytes q (q + 1) (omega arith) (ap (λ c. c == 32) feed));
+      t_runs)
+      (clean_after bytes q (q + 1) (omega arith) (ap (λ c. c == 32) feed))
+      (passes_by bytes p (q + 1) q fits (omega arith) (omega arith) (omega (arith, m)) (ap (λ c. c == 92) feed))
+      t_brackets t_inactive;
+  grown = ([], t_texts ∙ sym (append-nil s.texts));
 }
   where
     q : ℕ
@@ -182,6 +186,9 @@ break_goes bytes ahead defs p s done xs rest a in_it fits e h clear = record {
 
     t_runs : t.runs ≡ s.runs
     t_runs = keep (λ (z : State). z.runs) (λ z rs. refl)
+
+    t_inactive : t.inactive ≡ s.inactive
+    t_inactive = keep (λ (z : State). z.inactive) (λ z rs. refl)
 
     t_brackets : t.brackets ≡ s.brackets
     t_brackets = keep (λ (z : State). z.brackets) (λ z rs. refl)

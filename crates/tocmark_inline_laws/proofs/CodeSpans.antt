@@ -21,6 +21,7 @@ use Rattle.tocmark_inline_laws.specs.Said.{Piece}
 use Rattle.tocmark_inline_laws.proofs.Ampersands.{kept_words}
 use Rattle.tocmark_inline_laws.proofs.Atoms.{Shows}
 use Rattle.tocmark_inline_laws.proofs.Passes.{step_look}
+use Rattle.tocmark_inline_laws.proofs.Phases.{passes_by}
 use Rattle.tocmark_inline_laws.proofs.Places.{clean_after, any_byte}
 use Rattle.tocmark_inline_laws.proofs.Plains.{plains_show}
 use Rattle.tocmark_inline_laws.proofs.Sim.{beside, Sim, Goes, goes_by}
@@ -117,6 +118,7 @@ code_goes bytes ahead defs p s done a in_it fits is knows = by (nat_lt end (leng
         ∙ ap (λ n. put_leaf (leaf.Code (stretch (length s.texts) (length (s.texts ++ push_shown [] text)))) n (record s { texts = s.texts ++ push_shown [] text })) (let k : plus end (ticks_to bytes p - p) ≡ end + (ticks_to bytes p - p) = omega (arith, there) in k))
         refl
         (clean_after bytes (end + (ticks_to bytes p - p) - 1) (end + (ticks_to bytes p - p)) (omega (arith, some)) (ap (λ c. c == 32) closing))
+        (passes_by bytes p (end + (ticks_to bytes p - p)) (end + (ticks_to bytes p - p) - 1) (omega arith) (omega (arith, some)) (omega (arith, begun, some)) (omega (arith, there, some)) (ap (λ c. c == 92) closing))
         (λ ts d. ap (said_code d) (kept_words s.texts (push_shown [] text) ts))
       where
         text : List ℕ
@@ -146,8 +148,10 @@ code_goes bytes ahead defs p s done a in_it fits is knows = by (nat_lt end (leng
         (ap (λ n. p + n) (length-replicate (ticks_to bytes p - p) role.Plain) ∙ (let k : p + (ticks_to bytes p - p) ≡ ticks_to bytes p = omega (arith, some) in k))
         refl refl
         (subst (λ n. Shows (beside bytes s) p (replicate n role.Plain) (Text (bytes_between bytes p (ticks_to bytes p)))) (cut_length bytes p (ticks_to bytes p) (omega (arith, some)) room) (plains_show (beside bytes s) (bytes_between bytes p (ticks_to bytes p)) (drop (ticks_to bytes p) bytes) p (cut bytes p (ticks_to bytes p) (omega (arith, some)) room)))
-        (omega arith) refl a.brackets)
+        (omega arith) refl)
         (clean_after bytes (ticks_to bytes p - 1) (ticks_to bytes p) (omega (arith, some)) (ap (λ c. c == 32) last_tick))
+        (passes_by bytes p (ticks_to bytes p) (ticks_to bytes p - 1) (omega arith) (omega (arith, some)) (omega (arith, some)) (omega (arith, some, room)) (ap (λ c. c == 92) last_tick))
+        refl refl
         some room (omega arith) is
         (step_look bytes ahead defs s 96 tick_marks (let q : s.resume ≤ p = a.resume in let r : s.place ≡ p = a.place in omega arith)
         ∙ ap next_place (looked_so ∙ ap (λ (z : Bool). coded_to bytes (ticks_to bytes p) (ticks_to bytes p - p) s (if z then Some end else None)) e))

@@ -7,7 +7,7 @@ use Rattle.std.specs.List.{AllByRecursion}
 use Rattle.tocmark_read_scan.specs.Basic.{plus, byte_at}
 use Rattle.tocmark_read_scan.specs.Class.{run_end}
 use Rattle.tocmark_read_scan.specs.declared.class.Class.TheVariants.{Only}
-use Rattle.tocmark_read_scan.proofs.PlainTests.{eq_of}
+use Rattle.tocmark_read_scan.proofs.PlainTests.{eq_of, turned}
 use Rattle.tocmark_read_inlines.specs.Scan.{State, Known, is_mark, run_kept, run_taken, looked, looked_mark, looked_all, next_place}
 use Rattle.tocmark_read_spans.specs.Run.{run_between, run_at}
 use Rattle.tocmark_read_spans.specs.declared.definitions.Entry.{Entry}
@@ -16,10 +16,11 @@ use Rattle.tocmark_read_spans.specs.declared.run.Run.{Run}
 use Rattle.tocmark_commonmark.specs.InlineTree.{Atom, Delimiters}
 use Rattle.tocmark_inline_laws.proofs.Breaks.{only_end}
 use Rattle.tocmark_inline_laws.proofs.Passes.{step_look}
+use Rattle.tocmark_inline_laws.proofs.Phases.{passes_by}
 use Rattle.tocmark_inline_laws.proofs.Places.{clean_after}
 use Rattle.tocmark_inline_laws.proofs.Plains.{past_within, byte_is, Front, front_of}
 use Rattle.tocmark_inline_laws.proofs.Stack.{is_star}
-use Rattle.tocmark_inline_laws.proofs.Sim.{beside, runs_of, weight, runs_with, Sim, Goes, goes_atom}
+use Rattle.tocmark_inline_laws.proofs.Sim.{runs_of, weight, runs_with, Sim, Goes, same_opens, same_few, goes_atom}
 use Rattle.tocmark_inline_laws.proofs.Stretches.{first_left}
 
 star_looked : (bytes : List ℕ) (ahead : Known) (defs : List ℕ → Option Entry) (s : State) → looked_all bytes ahead defs 42 s ≡ run_taken bytes 42 s
@@ -84,11 +85,11 @@ run_goes bytes ahead defs p b s done a in_it fits is mark space star looked =
       );
       resume = omega (arith, far);
       runs = refl;
-      brackets = a.brackets;
     })
-    a.closed
     (let l : (run_at bytes p b).length ≡ end - p = run_length bytes p b in let w : weight (runs_of done) ≤ p = a.light in omega (arith, end_is))
     (clean_after bytes (p + (length f.text - 1)) end (omega (arith, end_is, some)) (ap (λ c. c == 32) last_byte ∙ space))
+    (same_opens bytes p end s t done a (omega (arith, end_is)) (passes_by bytes p end (p + (length f.text - 1)) fits (omega (arith, end_is, some)) (omega arith) (omega (arith, m, some)) (ap (λ c. c == 92) last_byte ∙ turned is_star 92 b star refl)) refl refl)
+    (same_few bytes p s t done a refl refl)
     (omega (arith, end_is, some)) (omega (arith, end_is, m)) fits is
     (step_look bytes ahead defs s b mark (let q : s.resume ≤ p = a.resume in let r : s.place ≡ p = a.place in omega arith) ∙ ap next_place (looked ∙ taken_so bytes b s ∙ ap (λ q. record s { runs = runs_with s.runs (run_at bytes q b); resume = plus q (run_at bytes q b).count }) a.place))
     a.place (omega (arith, far))

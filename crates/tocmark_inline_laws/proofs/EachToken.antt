@@ -1,21 +1,22 @@
--- Contents of which no token is an opening bracket.
-use Rattle.std.proofs.Common.{◌≡◌, ℕ, zero, suc, ◌+◌, ◌^◌, ◌<◌, ◌≤◌, Bool, true, false, not, ◌==◌, if◌then◌else◌, List, [], length, drop, refl, ap, sym, ◌∙◌, arith, true≢false}
+-- Each token of a content is read as declared, so each content is.
+use Rattle.std.proofs.Common.{◌≡◌, ℕ, zero, suc, ◌+◌, ◌^◌, ◌<◌, ◌≤◌, Bool, true, false, ◌==◌, ◌&&◌, nat_lt, if◌then◌else◌, List, [], length, drop, codes, refl, ap, sym, subst, ◌∙◌, arith, true≢false}
+use Rattle.std.proofs.lemmas.Bool.Decides.{nat_tests}
 use Rattle.std.specs.Prelude.{Option, take_while}
-use Rattle.tocmark_read_scan.specs.Basic.{byte_at}
+use Rattle.tocmark_read_scan.specs.Basic.{byte_at, starts_at}
 use Rattle.tocmark_read_scan.specs.Class.{run_end}
 use Rattle.tocmark_read_scan.specs.declared.class.Class.TheVariants.{Only}
-use Rattle.tocmark_read_scan.proofs.PlainTests.{both_true, is_not}
+use Rattle.tocmark_read_scan.proofs.PlainTests.{eq_of}
 use Rattle.tocmark_read_tokens.specs.Autolink.{uri_end, mail_end}
-use Rattle.tocmark_read_inlines.specs.Scan.{State, Known, ahead_in, ends_of, ticks_of}
+use Rattle.tocmark_read_inlines.specs.Scan.{State, Known, ahead_in, ends_of, ticks_of, is_mark, opened, imaged, looked, looked_all}
 use Rattle.tocmark_read_spans.specs.Run.{run_at}
 use Rattle.tocmark_read_spans.specs.declared.definitions.Entry.{Entry}
-use Rattle.tocmark_commonmark.specs.InlineTree.{Atom, SoftBreak, Delimiters}
+use Rattle.tocmark_commonmark.specs.InlineTree.{Atom, SoftBreak, Delimiters, bracket_text}
 use Rattle.tocmark_commonmark.specs.Inlines.{bracket_closed}
 use Rattle.tocmark_commonmark.specs.Links.{Destination}
 use Rattle.tocmark_commonmark.specs.Tokens as kind
 use Rattle.tocmark_commonmark.specs.Tokens.{Kind, kind_of, is_other, Token, token, byte_token, token_at, backslash, ampersand, reference, code_from, opening, exclamation, angle, html_end, spaces, others}
 use Rattle.tocmark_inline_laws.specs.Said.{commonmark}
-use Rattle.tocmark_inline_laws.specs.Statement.{is_opening, and_closed, closed_at, none_opens, UnopenedContentsAreReadAsDeclared}
+use Rattle.tocmark_inline_laws.specs.Statement.{LeadAlike, ContentsAreReadAsDeclared, InlinesAreLocal}
 use Rattle.tocmark_inline_laws.proofs.Ampersands.{ampersand_goes}
 use Rattle.tocmark_inline_laws.proofs.Angles.{angle_goes}
 use Rattle.tocmark_inline_laws.proofs.CodeSpans.{code_goes}
@@ -23,55 +24,69 @@ use Rattle.tocmark_inline_laws.proofs.Breaks.{feed_goes, spaces_goes}
 use Rattle.tocmark_inline_laws.proofs.ByKind.{Each, by_kind}
 use Rattle.tocmark_inline_laws.proofs.Delimiters.{star_goes, underscore_goes}
 use Rattle.tocmark_inline_laws.proofs.Run.{Next, next_by, GoesOn, read_as_declared}
+use Rattle.tocmark_inline_laws.proofs.Sim.{Grown, Sim, Goes}
+use Rattle.tocmark_inline_laws.proofs.OpenBrackets.{bracket_goes}
+use Rattle.tocmark_inline_laws.proofs.ClosedBrackets.{closing_next}
+use Rattle.tocmark_inline_laws.proofs.Places.{two_at, past_end}
 use Rattle.tocmark_inline_laws.proofs.Stretches.{got}
-use Rattle.tocmark_inline_laws.proofs.Tokens.{backslash_goes, exclamation_goes, closing_goes, other_goes}
-use Rattle.tocmark_inline_laws.proofs.Settling.{none_enclosed}
-
--- no token from a place on is an opening bracket
-record ClosedFrom (bytes : List ℕ) (p : ℕ) : Type 0 where
-  fuel : ℕ
-  enough : length bytes ≤ p + fuel
-  closed : none_opens fuel bytes p ≡ true
-
--- this token is none, and none after it is
-record ClosedHere (bytes : List ℕ) (t : Token) (p : ℕ) : Type 0 where
-  this : is_opening t.atom ≡ false
-  later : p < t.end → ClosedFrom bytes t.end
-
--- whatever the atoms before are
-abbrev ClosedOn : List ℕ → ℕ → List Atom → Type 0
-ClosedOn bytes p done = ClosedFrom bytes p
-
-closed_step : (bytes : List ℕ) (p fuel : ℕ) → p < length bytes → none_opens (suc fuel) bytes p ≡ and_closed (λ q. none_opens fuel bytes q) (token_at bytes p (byte_at bytes p) (kind_of (byte_at bytes p)))
-unfolding none_opens
-closed_step bytes p fuel inner = ap (closed_at (λ q. none_opens fuel bytes q) bytes p) (got bytes p inner)
-
-closed_here : (bytes : List ℕ) (p : ℕ) → p < length bytes → ClosedFrom bytes p → ClosedHere bytes (token_at bytes p (byte_at bytes p) (kind_of (byte_at bytes p))) p
-closed_here bytes p inner w = by w.fuel w.enough w.closed
-  where
-    t : Token
-    t = token_at bytes p (byte_at bytes p) (kind_of (byte_at bytes p))
-
-    by : (n : ℕ) → length bytes ≤ p + n → none_opens n bytes p ≡ true → ClosedHere bytes t p
-    by zero l h = absurd (omega arith)
-    by (suc n) l h =
-        let both : (not (is_opening t.atom) ≡ true) × (none_opens n bytes t.end ≡ true) = both_true (not (is_opening t.atom)) (none_opens n bytes t.end) (sym (closed_step bytes p n inner) ∙ h) in
-        record { this = is_not (is_opening t.atom) (both.0); later = λ m. record { fuel = n; enough = omega (arith, m); closed = both.1 } }
+use Rattle.tocmark_inline_laws.proofs.Tokens.{backslash_goes, exclamation_goes, other_goes}
 
 -- what is to be shown of a byte of a kind
 abbrev Claim : List ℕ → Known → (List ℕ → Option Entry) → List Destination → ℕ → State → List Atom → ℕ → Kind → Type 0
-Claim bytes ahead defs labels p s done b k = ClosedHere bytes (token_at bytes p b k) p → kind_of b ≡ k → byte_at bytes p ≡ b → Next (ClosedOn bytes) bytes ahead defs labels p s done b k
+Claim bytes ahead defs labels p s done b k = kind_of b ≡ k → byte_at bytes p ≡ b → Next bytes ahead defs labels p s done b k
 
--- an exclamation mark that is no opening bracket is before none
-no_bracket : (bytes : List ℕ) (p : ℕ) → is_opening (exclamation bytes p).atom ≡ false → (byte_at bytes (p + 1) == 91) ≡ false
-no_bracket bytes p h = by (byte_at bytes (p + 1) == 91) h
+opening_looked : (bytes : List ℕ) (ahead : Known) (defs : List ℕ → Option Entry) (s : State) → looked_all bytes ahead defs 91 s ≡ opened false 1 s
+unfolding looked_all looked
+opening_looked bytes ahead defs s = refl
+
+opening_marks : is_mark 91 ≡ true
+unfolding is_mark
+opening_marks = refl
+
+-- 6.3: an opening bracket
+opening_goes : (bytes : List ℕ) (ahead : Known) (defs : List ℕ → Option Entry) (p : ℕ) (s : State) (done : List Atom) → Sim bytes p s done → p < length bytes → length bytes + 2 < 2 ^ 64 → byte_at bytes p ≡ 91 → Goes bytes ahead defs p s done (opening false (p + 1))
+opening_goes bytes ahead defs p s done a inner fits is = bracket_goes bytes ahead defs false p 91 s done a (omega arith) fits is opening_marks (opening_looked bytes ahead defs s) here
   where
-    by : (z : Bool) → is_opening (if z then opening true (p + 2) else byte_token 33 p).atom ≡ false → z ≡ false
-    by true k = absurd (true≢false k)
-    by false k = refl
+    here : (i : ℕ) → i < 1 → byte_at bytes (p + i) ≡ byte_at (bracket_text false) i
+    here zero l = ap (λ q. byte_at bytes q) (let q : p + 0 ≡ p = omega arith in q) ∙ is
+    here (suc i) l = absurd (omega arith)
 
-each_token : (bytes : List ℕ) (ahead : Known) (defs : List ℕ → Option Entry) (labels : List Destination) → length bytes + 2 < 2 ^ 64 → ahead.ends ≡ ends_of bytes → ahead.ticks ≡ ticks_of bytes → GoesOn (ClosedOn bytes) bytes ahead defs labels
-each_token bytes ahead defs labels wide ends ticks p s done a shut inner = by_kind (Claim bytes ahead defs labels p s done) each (byte_at bytes p) (closed_here bytes p inner shut) refl refl
+image_looked : (bytes : List ℕ) (ahead : Known) (defs : List ℕ → Option Entry) (s : State) → looked_all bytes ahead defs 33 s ≡ (if starts_at bytes s.place (codes "![") then opened true 2 s else s)
+unfolding looked_all looked imaged
+image_looked bytes ahead defs s = refl
+
+image_marks : is_mark 33 ≡ true
+unfolding is_mark
+image_marks = refl
+
+-- 6.4: an exclamation mark
+mark_goes : (bytes : List ℕ) (ahead : Known) (defs : List ℕ → Option Entry) (p : ℕ) (s : State) (done : List Atom) → Sim bytes p s done → p < length bytes → length bytes + 2 < 2 ^ 64 → byte_at bytes p ≡ 33 → Goes bytes ahead defs p s done (exclamation bytes p)
+mark_goes bytes ahead defs p s done a inner fits is = by (byte_at bytes (p + 1) == 91) refl
+  where
+    by : (z : Bool) → (byte_at bytes (p + 1) == 91) ≡ z → Goes bytes ahead defs p s done (if z then opening true (p + 2) else byte_token 33 p)
+    by true e = bracket_goes bytes ahead defs true p 33 s done a (omega (arith, room)) fits is image_marks
+        (image_looked bytes ahead defs s ∙ ap (λ q. if starts_at bytes q (codes "![") then opened true 2 s else s) a.place
+        ∙ ap (λ (z : Bool). if z then opened true 2 s else s) (two_at bytes p 33 91 inner is ∙ ap (λ (z : Bool). nat_lt (p + 1) (length bytes) && z) e ∙ ap (λ (z : Bool). z && true) room_so))
+        here
+      where
+        room : p + 1 < length bytes
+        room = near (nat_lt (p + 1) (length bytes)) refl
+          where
+            near : (z : Bool) → nat_lt (p + 1) (length bytes) ≡ z → p + 1 < length bytes
+            near true f = grind (arith, nat_tests, f)
+            near false f = absurd (true≢false (sym e ∙ ap (λ c. c == 91) (past_end bytes (p + 1) (let l : length bytes ≤ p + 1 = grind (arith, nat_tests, f) in l))))
+
+        room_so : nat_lt (p + 1) (length bytes) ≡ true
+        room_so = let l : p + 1 < length bytes = room in grind (arith, nat_tests)
+
+        here : (i : ℕ) → i < 2 → byte_at bytes (p + i) ≡ byte_at (bracket_text true) i
+        here zero l = ap (λ q. byte_at bytes q) (let q : p + 0 ≡ p = omega arith in q) ∙ is
+        here (suc zero) l = eq_of (byte_at bytes (p + 1)) 91 e
+        here (suc (suc i)) l = absurd (omega arith)
+    by false e = subst (λ (z : Bool). Goes bytes ahead defs p s done (if z then opening true (p + 2) else byte_token 33 p)) e (exclamation_goes bytes ahead defs p s done a inner (omega arith) is e)
+
+each_token : (bytes : List ℕ) (ahead : Known) (defs : List ℕ → Option Entry) (labels : List Destination) (texts : List ℕ) → length bytes + 2 < 2 ^ 64 → ahead.ends ≡ ends_of bytes → ahead.ticks ≡ ticks_of bytes → LeadAlike texts defs labels → GoesOn texts bytes ahead defs labels
+each_token bytes ahead defs labels texts wide ends ticks alike p s done a grown inner = by_kind (Claim bytes ahead defs labels p s done) each (byte_at bytes p) refl refl
   where
     fits : length bytes + 1 < 2 ^ 64
     fits = omega arith
@@ -79,27 +94,26 @@ each_token bytes ahead defs labels wide ends ticks p s done a shut inner = by_ki
     run_token : ℕ → Token
     run_token b = record { atom = Delimiters (run_at bytes p b); end = run_end bytes p (Only b) }
 
-    closes : byte_at bytes p ≡ 93 → (p < p + 1 → ClosedOn bytes (p + 1) done) → Next (ClosedOn bytes) bytes ahead defs labels p s done 93 kind.CloseBracket
-    closes e later = next_by (ClosedOn bytes) bytes ahead defs labels p s done 93 kind.CloseBracket (byte_token 93 p) (closing_goes bytes ahead defs p s done a inner fits e) later
-        (λ go. ap (bracket_closed go bytes labels p done) (none_enclosed [] done a.closed))
-
     each : Each (Claim bytes ahead defs labels p s done)
     each = record {
-      backslash = λ w k e. next_by (ClosedOn bytes) bytes ahead defs labels p s done 92 kind.Backslash (backslash bytes p) (backslash_goes bytes ahead defs p s done a inner fits e) w.later (λ go. refl);
-      ampersand = λ w k e. next_by (ClosedOn bytes) bytes ahead defs labels p s done 38 kind.Ampersand (ampersand p (reference bytes p)) (ampersand_goes bytes ahead defs p s done a inner wide e) w.later (λ go. refl);
-      backtick = λ w k e. next_by (ClosedOn bytes) bytes ahead defs labels p s done 96 kind.Backtick (code_from bytes p (run_end bytes p (Only 96))) (code_goes bytes ahead defs p s done a inner wide e ticks) w.later (λ go. refl);
-      star = λ w k e. next_by (ClosedOn bytes) bytes ahead defs labels p s done 42 kind.Star (run_token 42) (star_goes bytes ahead defs p s done a inner fits e) w.later (λ go. refl);
-      underscore = λ w k e. next_by (ClosedOn bytes) bytes ahead defs labels p s done 95 kind.Star (run_token 95) (underscore_goes bytes ahead defs p s done a inner fits e) w.later (λ go. refl);
-      opening = λ w k e. absurd (true≢false w.this);
-      exclamation = λ w k e. next_by (ClosedOn bytes) bytes ahead defs labels p s done 33 kind.Exclamation (exclamation bytes p) (exclamation_goes bytes ahead defs p s done a inner fits e (no_bracket bytes p w.this)) w.later (λ go. refl);
-      closing = λ w k e. closes e w.later;
-      angle = λ w k e. next_by (ClosedOn bytes) bytes ahead defs labels p s done 60 kind.Angle (angle bytes p (uri_end bytes p) (mail_end bytes p) (html_end bytes p)) (angle_goes bytes ahead defs p s done a inner wide e ends) w.later (λ go. refl);
-      space = λ w k e. next_by (ClosedOn bytes) bytes ahead defs labels p s done 32 kind.Space (spaces bytes p (run_end bytes p (Only 32))) (spaces_goes bytes ahead defs p s done a inner fits e) w.later (λ go. refl);
-      feed = λ w k e. next_by (ClosedOn bytes) bytes ahead defs labels p s done 10 kind.LineFeed (token SoftBreak (p + 1)) (feed_goes bytes ahead defs p s done a inner fits e) w.later (λ go. refl);
-      other = λ b plain w k e. next_by (ClosedOn bytes) bytes ahead defs labels p s done b kind.Other (others (take_while (λ c. is_other (kind_of c)) (drop p bytes)) p) (other_goes bytes ahead defs p b s done a inner fits e k) w.later (λ go. refl);
+      backslash = λ k e. next_by bytes ahead defs labels p s done 92 kind.Backslash (backslash bytes p) (backslash_goes bytes ahead defs p s done a inner fits e) (λ go. refl);
+      ampersand = λ k e. next_by bytes ahead defs labels p s done 38 kind.Ampersand (ampersand p (reference bytes p)) (ampersand_goes bytes ahead defs p s done a inner wide e) (λ go. refl);
+      backtick = λ k e. next_by bytes ahead defs labels p s done 96 kind.Backtick (code_from bytes p (run_end bytes p (Only 96))) (code_goes bytes ahead defs p s done a inner wide e ticks) (λ go. refl);
+      star = λ k e. next_by bytes ahead defs labels p s done 42 kind.Star (run_token 42) (star_goes bytes ahead defs p s done a inner fits e) (λ go. refl);
+      underscore = λ k e. next_by bytes ahead defs labels p s done 95 kind.Star (run_token 95) (underscore_goes bytes ahead defs p s done a inner fits e) (λ go. refl);
+      opening = λ k e. next_by bytes ahead defs labels p s done 91 kind.OpenBracket (opening false (p + 1)) (opening_goes bytes ahead defs p s done a inner wide e) (λ go. refl);
+      exclamation = λ k e. next_by bytes ahead defs labels p s done 33 kind.Exclamation (exclamation bytes p) (mark_goes bytes ahead defs p s done a inner wide e) (λ go. refl);
+      closing = λ k e. closing_next bytes ahead defs labels texts p s done alike grown a inner wide e;
+      angle = λ k e. next_by bytes ahead defs labels p s done 60 kind.Angle (angle bytes p (uri_end bytes p) (mail_end bytes p) (html_end bytes p)) (angle_goes bytes ahead defs p s done a inner wide e ends) (λ go. refl);
+      space = λ k e. next_by bytes ahead defs labels p s done 32 kind.Space (spaces bytes p (run_end bytes p (Only 32))) (spaces_goes bytes ahead defs p s done a inner fits e) (λ go. refl);
+      feed = λ k e. next_by bytes ahead defs labels p s done 10 kind.LineFeed (token SoftBreak (p + 1)) (feed_goes bytes ahead defs p s done a inner fits e) (λ go. refl);
+      other = λ b plain k e. next_by bytes ahead defs labels p s done b kind.Other (others (take_while (λ c. is_other (kind_of c)) (drop p bytes)) p) (other_goes bytes ahead defs p b s done a inner fits e k) (λ go. refl);
     }
 
-pub unopened_declared : UnopenedContentsAreReadAsDeclared
-unopened_declared bytes fits closed labels definitions targets texts missed alike =
-    read_as_declared (ClosedOn bytes) bytes definitions labels targets texts missed fits (record { fuel = length bytes; enough = omega arith; closed = closed })
-    (each_token bytes (ahead_in commonmark bytes) definitions labels fits refl refl)
+pub all_declared : ContentsAreReadAsDeclared
+all_declared bytes fits labels definitions targets texts missed alike =
+    read_as_declared bytes definitions labels targets texts missed fits
+    (each_token bytes (ahead_in commonmark bytes) definitions labels texts fits refl refl alike)
+
+pub all_local : InlinesAreLocal
+all_local bytes fits labels d e targets gs texts ts missed ms h k = all_declared bytes fits labels d targets texts missed h ∙ sym (all_declared bytes fits labels e gs ts ms k)

@@ -17,10 +17,14 @@ pub mod TagEnds
 pub mod Angles
 pub mod Delimiters
 pub mod EachToken
-pub mod NoSpans
-pub mod Unopened
 pub mod Stack
 pub mod SpanRoles
 pub mod Held
 pub mod Matching
 pub mod Settling
+pub mod Phases
+pub mod Resolved
+pub mod OpenBrackets
+pub mod TargetEnds
+pub mod Outcomes
+pub mod ClosedBrackets

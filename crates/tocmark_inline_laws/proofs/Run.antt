@@ -1,5 +1,5 @@
 -- The first pass over a content, token by token.
-use Rattle.std.proofs.Common.{◌≡◌, ℕ, zero, suc, ◌+◌, ◌-◌, ◌^◌, ◌<◌, ◌≤◌, Bool, true, false, nat_lt, List, [], ◌∷◌, ◌++◌, length, take, drop, replicate, reverse, refl, ap, sym, subst, ◌∙◌, arith, append-nil}
+use Rattle.std.proofs.Common.{◌≡◌, ℕ, zero, suc, ◌+◌, ◌-◌, ◌^◌, ◌<◌, ◌≤◌, Bool, true, false, nat_lt, List, [], ◌∷◌, ◌++◌, length, take, drop, replicate, reverse, refl, ap, sym, subst, ◌∙◌, arith, append_assoc, append-nil}
 use Rattle.std.proofs.lemmas.Bool.Decides.{nat_tests}
 use Rattle.std.proofs.Math.Seq.{drop-length}
 use Rattle.std.specs.Prelude.{Option, slice_get}
@@ -24,13 +24,13 @@ use Rattle.tocmark_inline_laws.proofs.Atoms.{with_more}
 use Rattle.tocmark_inline_laws.proofs.Flow.{Flow, Beside, flow_step, flow_start, written_flows}
 use Rattle.tocmark_inline_laws.proofs.Passes.{step}
 use Rattle.tocmark_inline_laws.proofs.Places.{clean_front}
-use Rattle.tocmark_inline_laws.proofs.Sim.{beside, runs_of, weight, kept_of, Sim, Goes}
+use Rattle.tocmark_inline_laws.proofs.Sim.{beside, runs_of, weight, kept_of, Grown, Sim, Goes}
 use Rattle.tocmark_inline_laws.proofs.Stretches.{got, not_got}
 use Rattle.tocmark_inline_laws.proofs.Held.{Lead}
 use Rattle.tocmark_inline_laws.proofs.Settling.{trail_leads, weight_turned, Emphasizes, lead_emphasizes}
 
--- both go on at a place with these atoms, and what holds of the places of tokens holds there
-pub record Next (P : ℕ → List Atom → Type 0) (bytes : List ℕ) (ahead : Known) (defs : List ℕ → Option Entry) (labels : List Destination) (p : ℕ) (s : State) (done : List Atom) (b : ℕ) (k : Kind) : Type 0 where
+-- both go on at a place with these atoms
+pub record Next (bytes : List ℕ) (ahead : Known) (defs : List ℕ → Option Entry) (labels : List Destination) (p : ℕ) (s : State) (done : List Atom) (b : ℕ) (k : Kind) : Type 0 where
   pub end : ℕ
   pub atoms : List Atom
   pub after : State
@@ -38,12 +38,12 @@ pub record Next (P : ℕ → List Atom → Type 0) (bytes : List ℕ) (ahead : K
   pub further : p < end
   pub within : end ≤ length bytes
   pub sim : Sim bytes end after atoms
-  pub onward : P end atoms
+  pub grown : Grown s.texts after
   pub declares : (go : ℕ → List Atom → List Atom) → scanned_at go bytes labels p done b k ≡ go end atoms
 
 -- by a token
-pub next_by : (P : ℕ → List Atom → Type 0) (bytes : List ℕ) (ahead : Known) (defs : List ℕ → Option Entry) (labels : List Destination) (p : ℕ) (s : State) (done : List Atom) (b : ℕ) (k : Kind) (t : Token) → Goes bytes ahead defs p s done t → (p < t.end → P t.end (t.atom ∷ done)) → ((go : ℕ → List Atom → List Atom) → scanned_at go bytes labels p done b k ≡ go t.end (t.atom ∷ done)) → Next P bytes ahead defs labels p s done b k
-next_by P bytes ahead defs labels p s done b k t g onward d = record {
+pub next_by : (bytes : List ℕ) (ahead : Known) (defs : List ℕ → Option Entry) (labels : List Destination) (p : ℕ) (s : State) (done : List Atom) (b : ℕ) (k : Kind) (t : Token) → Goes bytes ahead defs p s done t → ((go : ℕ → List Atom → List Atom) → scanned_at go bytes labels p done b k ≡ go t.end (t.atom ∷ done)) → Next bytes ahead defs labels p s done b k
+next_by bytes ahead defs labels p s done b k t g d = record {
   end = t.end;
   atoms = t.atom ∷ done;
   after = g.after;
@@ -51,29 +51,32 @@ next_by P bytes ahead defs labels p s done b k t g onward d = record {
   further = g.further;
   within = g.within;
   sim = g.sim;
-  onward = onward g.further;
+  grown = g.grown;
   declares = d;
 }
 
--- each byte at the place of a token is read as declared
-abbrev pub GoesOn : (ℕ → List Atom → Type 0) → List ℕ → Known → (List ℕ → Option Entry) → List Destination → Type 0
-GoesOn P bytes ahead defs labels = (p : ℕ) (s : State) (done : List Atom) → Sim bytes p s done → P p done → p < length bytes → Next P bytes ahead defs labels p s done (byte_at bytes p) (kind_of (byte_at bytes p))
+-- each byte at the place of a token is read as declared, with these texts and more
+abbrev pub GoesOn : List ℕ → List ℕ → Known → (List ℕ → Option Entry) → List Destination → Type 0
+GoesOn texts bytes ahead defs labels = (p : ℕ) (s : State) (done : List Atom) → Sim bytes p s done → Grown texts s → p < length bytes → Next bytes ahead defs labels p s done (byte_at bytes p) (kind_of (byte_at bytes p))
+
+grown_more : (texts : List ℕ) (s t : State) → Grown texts s → Grown s.texts t → Grown texts t
+grown_more texts s t h k = (h.0 ++ k.0, k.1 ∙ ap (λ ts. ts ++ k.0) (h.1) ∙ append_assoc texts (h.0) (k.0))
 
 record Reaches (bytes : List ℕ) (ahead : Known) (defs : List ℕ → Option Entry) (p : ℕ) (s : State) (atoms : List Atom) : Type 0 where
   after : State
   same : fold (step bytes ahead defs) s (drop p bytes) ≡ after
   sim : Sim bytes (length bytes) after atoms
 
-runs_on : (P : ℕ → List Atom → Type 0) (bytes : List ℕ) (ahead : Known) (defs : List ℕ → Option Entry) (labels : List Destination) → GoesOn P bytes ahead defs labels → (fuel p : ℕ) (s : State) (done : List Atom) → Sim bytes p s done → P p done → p ≤ length bytes → length bytes < p + fuel → Reaches bytes ahead defs p s (scanned fuel bytes labels p done)
+runs_on : (texts : List ℕ) (bytes : List ℕ) (ahead : Known) (defs : List ℕ → Option Entry) (labels : List Destination) → GoesOn texts bytes ahead defs labels → (fuel p : ℕ) (s : State) (done : List Atom) → Sim bytes p s done → Grown texts s → p ≤ length bytes → length bytes < p + fuel → Reaches bytes ahead defs p s (scanned fuel bytes labels p done)
 unfolding scanned
-runs_on P bytes ahead defs labels each zero p s done a h l m = absurd (omega arith)
-runs_on P bytes ahead defs labels each (suc fuel) p s done a h l m = by (runs_on P bytes ahead defs labels each fuel) (nat_lt p (length bytes)) refl
+runs_on texts bytes ahead defs labels each zero p s done a h l m = absurd (omega arith)
+runs_on texts bytes ahead defs labels each (suc fuel) p s done a h l m = by (runs_on texts bytes ahead defs labels each fuel) (nat_lt p (length bytes)) refl
   where
-    by : ((q : ℕ) (u : State) (d : List Atom) → Sim bytes q u d → P q d → q ≤ length bytes → length bytes < q + fuel → Reaches bytes ahead defs q u (scanned fuel bytes labels q d)) → (z : Bool) → nat_lt p (length bytes) ≡ z → Reaches bytes ahead defs p s (scanned_if (λ q d. scanned fuel bytes labels q d) bytes labels p done (slice_get bytes p))
+    by : ((q : ℕ) (u : State) (d : List Atom) → Sim bytes q u d → Grown texts u → q ≤ length bytes → length bytes < q + fuel → Reaches bytes ahead defs q u (scanned fuel bytes labels q d)) → (z : Bool) → nat_lt p (length bytes) ≡ z → Reaches bytes ahead defs p s (scanned_if (λ q d. scanned fuel bytes labels q d) bytes labels p done (slice_get bytes p))
     by later true e =
         let inner : p < length bytes = grind (arith, nat_tests, e) in
-        let n : Next P bytes ahead defs labels p s done (byte_at bytes p) (kind_of (byte_at bytes p)) = each p s done a h inner in
-        let rest : Reaches bytes ahead defs n.end n.after (scanned fuel bytes labels n.end n.atoms) = later n.end n.after n.atoms n.sim n.onward n.within (let f : p < n.end = n.further in omega arith) in
+        let n : Next bytes ahead defs labels p s done (byte_at bytes p) (kind_of (byte_at bytes p)) = each p s done a h inner in
+        let rest : Reaches bytes ahead defs n.end n.after (scanned fuel bytes labels n.end n.atoms) = later n.end n.after n.atoms n.sim (grown_more texts s n.after h n.grown) n.within (let f : p < n.end = n.further in omega arith) in
         subst (λ (o : Option ℕ). Reaches bytes ahead defs p s (scanned_if (λ q d. scanned fuel bytes labels q d) bytes labels p done o)) (sym (got bytes p inner))
         (subst (λ (xs : List Atom). Reaches bytes ahead defs p s xs) (sym (n.declares (λ q d. scanned fuel bytes labels q d)))
         (record { after = rest.after; same = n.same ∙ rest.same; sim = rest.sim }))
@@ -93,12 +96,16 @@ starts bytes targets texts missed = record {
   roles = ap (λ n. replicate n role.Plain) (let k : length bytes ≡ length bytes - 0 = omega arith in k);
   long = refl;
   trail = refl;
-  closed = tt;
   light = omega arith;
   runs = refl;
-  brackets = refl;
+  opens = refl;
+  few = omega arith;
   clean = clean_front bytes;
 }
+
+start_grown : (bytes : List ℕ) (targets : List Target) (texts : List ℕ) (missed : List Stretch) → Grown texts (scan_start (length bytes) targets texts missed)
+unfolding scan_start
+start_grown bytes targets texts missed = ([], sym (append-nil texts))
 
 none_taken : (rs : List Run) → take 0 rs ≡ []
 none_taken [] = refl
@@ -116,9 +123,9 @@ weight_same : (atoms : List Atom) → weight (runs_of (reverse atoms)) ≡ weigh
 weight_same atoms = ap (λ xs. weight (runs_of xs)) (sym (append-nil (reverse atoms))) ∙ weight_turned atoms [] ∙ (let k : weight (runs_of atoms) + 0 ≡ weight (runs_of atoms) = omega arith in k)
 
 -- where each token is read as declared, the whole content is
-pub read_as_declared : (P : ℕ → List Atom → Type 0) (bytes : List ℕ) (defs : List ℕ → Option Entry) (labels : List Destination) (targets : List Target) (texts : List ℕ) (missed : List Stretch) → length bytes + 2 < 2 ^ 64 → P 0 [] → GoesOn P bytes (ahead_in commonmark bytes) defs labels → said bytes defs targets texts missed ≡ declared 0 (inlines labels bytes)
+pub read_as_declared : (bytes : List ℕ) (defs : List ℕ → Option Entry) (labels : List Destination) (targets : List Target) (texts : List ℕ) (missed : List Stretch) → length bytes + 2 < 2 ^ 64 → GoesOn texts bytes (ahead_in commonmark bytes) defs labels → said bytes defs targets texts missed ≡ declared 0 (inlines labels bytes)
 unfolding scanned_in inlines
-read_as_declared P bytes defs labels targets texts missed fits front each =
+read_as_declared bytes defs labels targets texts missed fits each =
     ap (state_said bytes) (ap (settled 0) ends.same ∙ settled_all s ∙ ap (λ (rs : List Role). record s { roles = rs; runs = [] }) (ap (λ rs. emphasized rs s.runs) roles ∙ ap (emphasized (a.front ++ [])) a.runs ∙ m.are ∙ append-nil m.roles))
     ∙ written_flows (beside bytes s) m.roles (m.long ∙ long) (omega arith)
     ∙ ap (λ (e : Beside). (fold (flow_step e) flow_start m.roles).out) same
@@ -128,7 +135,7 @@ read_as_declared P bytes defs labels targets texts missed fits front each =
     atoms = scanned (length bytes + 1) bytes labels 0 []
 
     ends : Reaches bytes (ahead_in commonmark bytes) defs 0 (scan_start (length bytes) targets texts missed) atoms
-    ends = runs_on P bytes (ahead_in commonmark bytes) defs labels each (length bytes + 1) 0 (scan_start (length bytes) targets texts missed) [] (starts bytes targets texts missed) front (omega arith) (omega arith)
+    ends = runs_on texts bytes (ahead_in commonmark bytes) defs labels each (length bytes + 1) 0 (scan_start (length bytes) targets texts missed) [] (starts bytes targets texts missed) (start_grown bytes targets texts missed) (omega arith) (omega arith)
 
     s : State
     s = ends.after
@@ -146,11 +153,7 @@ read_as_declared P bytes defs labels targets texts missed fits front each =
     m = lead_emphasizes (beside bytes s) [] a.front [] (reverse atoms) (kept_of atoms) lead (let w : weight (runs_of (reverse atoms)) ≡ weight (runs_of atoms) = weight_same atoms in let l : weight (runs_of atoms) ≤ length bytes = a.light in omega (arith, w)) (omega (arith, long))
       where
         lead : Lead (beside bytes s) 0 a.front (reverse atoms) (kept_of atoms)
-        lead =
-            subst (λ (rs : List Role). Lead (beside bytes s) 0 rs (reverse atoms) (kept_of atoms)) (append-nil a.front)
-            (subst (λ (xs : List Atom). Lead (beside bytes s) 0 (a.front ++ []) xs (kept_of atoms)) (append-nil (reverse atoms))
-            (subst (λ (rs : List Run). Lead (beside bytes s) 0 (a.front ++ []) (reverse atoms ++ []) rs) (append-nil (kept_of atoms))
-            (trail_leads (beside bytes s) a.front atoms a.trail [] [] [] (refl, refl))))
+        lead = trail_leads (beside bytes s) a.front atoms a.trail
 
     same : beside bytes s ≡ with_more (beside bytes s) [] []
     same = ap (λ (ts : List ℕ). record (beside bytes s) { texts = ts }) (sym (append-nil s.texts)) ∙ ap (λ (gs : List Target). record (beside bytes s) { texts = s.texts ++ []; targets = gs }) (sym (append-nil s.targets))

@@ -1,7 +1,6 @@
 -- The delimiter runs of a trail of atoms are matched as declared.
 use Rattle.std.proofs.Common.{◌≡◌, ℕ, zero, suc, ◌+◌, ◌^◌, ◌<◌, ◌≤◌, Bool, true, false, ◌||◌, if◌then◌else◌, List, [], ◌∷◌, ◌++◌, length, replicate, reverse, refl, ap, sym, subst, ◌∙◌, arith, append_assoc, append-nil, length-append}
 use Rattle.std.proofs.lemmas.List.{length-replicate, reverse-append}
-use Rattle.std.specs.Prelude.{None}
 use Rattle.std.specs.List.{fold}
 use Rattle.tocmark_read_spans.specs.Emphasis as reader
 use Rattle.tocmark_read_spans.specs.declared.role.Role.{Role}
@@ -9,30 +8,16 @@ use Rattle.tocmark_read_spans.specs.declared.role.Role.TheVariants as role
 use Rattle.tocmark_read_spans.specs.declared.run.Run.{Run}
 use Rattle.tocmark_commonmark.specs.Emphasis.{emphasis, steps, emphasized}
 use Rattle.tocmark_commonmark.specs.InlineTree.{Atom, Whole, Delimiters, Opening, inlines_of}
-use Rattle.tocmark_commonmark.specs.Inlines.{enclosed}
 use Rattle.tocmark_inline_laws.proofs.Atoms.{Trail, Stands}
 use Rattle.tocmark_inline_laws.proofs.Flow.{Beside}
-use Rattle.tocmark_inline_laws.proofs.Sim.{runs_of, weight, NoneOpens, kept_of, runs_with}
+use Rattle.tocmark_inline_laws.proofs.Sim.{runs_of, weight, kept_of, runs_with}
 use Rattle.tocmark_inline_laws.proofs.SpanRoles.{ShowsAll}
 use Rattle.tocmark_inline_laws.proofs.Stack.{bottom_zero}
 use Rattle.tocmark_inline_laws.proofs.Held.{placed, with_kept, Lead}
 use Rattle.tocmark_inline_laws.proofs.Matching.{Settles, size, all_matched}
 
--- no bracket is open
-pub none_enclosed : (inside done : List Atom) → NoneOpens done → enclosed inside done ≡ None
-none_enclosed inside [] h = refl
-none_enclosed inside (Whole i ∷ done) h = none_enclosed (Whole i ∷ inside) done h
-none_enclosed inside (Delimiters r ∷ done) h = none_enclosed (Delimiters r ∷ inside) done h
-none_enclosed inside (Opening b ∷ done) h = absurd h
-
-turned_over : (a : Atom) (atoms done : List Atom) → reverse atoms ++ (a ∷ done) ≡ reverse (a ∷ atoms) ++ done
+pub turned_over : (a : Atom) (atoms done : List Atom) → reverse atoms ++ (a ∷ done) ≡ reverse (a ∷ atoms) ++ done
 turned_over a atoms done = sym (append_assoc (reverse atoms) (a ∷ []) done) ∙ ap (λ xs. xs ++ done) (sym (reverse-append (a ∷ []) atoms))
-
--- a trail of atoms is a lead from its front
-lead_step : (e : Beside) (front before seg back : List Role) (a : Atom) (done rest : List Atom) (runs : List Run) → front ≡ before ++ seg → Lead e 0 (before ++ (seg ++ back)) (reverse done ++ (a ∷ rest)) runs → Lead e 0 (front ++ back) (reverse (a ∷ done) ++ rest) runs
-lead_step e front before seg back a done rest runs cut h =
-    subst (λ (rs : List Role). Lead e 0 rs (reverse (a ∷ done) ++ rest) runs) (sym (append_assoc before seg back) ∙ ap (λ rs. rs ++ back) (sym cut))
-    (subst (λ (xs : List Atom). Lead e 0 (before ++ (seg ++ back)) xs runs) (turned_over a done rest) h)
 
 after_cut : (front before seg : List Role) → front ≡ before ++ seg → length front ≡ length before + length seg
 after_cut front before seg cut = ap length cut ∙ length-append before seg
@@ -44,26 +29,51 @@ kept_on kept runs r = by (r.opens || r.closes)
     by true = sym (append_assoc kept (r ∷ []) runs)
     by false = refl
 
-pub trail_leads : (e : Beside) (front : List Role) (done : List Atom) → Trail e front done → (back : List Role) (rest : List Atom) (runs : List Run) → Lead e (length front) back rest runs → Lead e 0 (front ++ back) (reverse done ++ rest) (kept_of done ++ runs)
-trail_leads e front [] h back rest runs k =
-    subst (λ (rs : List Role). Lead e 0 (rs ++ back) rest runs) (sym h) (subst (λ q. Lead e q back rest runs) (ap length h) k)
-trail_leads e front (Whole i ∷ done) h back rest runs k =
-    lead_step e front (h.0) (h.1) back (Whole i) done rest (kept_of done ++ runs) (h.2)
-    (trail_leads e (h.0) done (h.4) (h.1 ++ back) (Whole i ∷ rest) runs ((h.1), back, refl, (h.3), subst (λ q. Lead e q back rest runs) (after_cut front (h.0) (h.1) (h.2)) k))
-trail_leads e front (Opening b ∷ done) h back rest runs k =
-    lead_step e front (h.0) (h.1) back (Opening b) done rest (kept_of done ++ runs) (h.2)
-    (trail_leads e (h.0) done (h.4) (h.1 ++ back) (Opening b ∷ rest) runs ((h.1), back, refl, (h.3), subst (λ q. Lead e q back rest runs) (after_cut front (h.0) (h.1) (h.2)) k))
-trail_leads e front (Delimiters r ∷ done) h back rest runs k =
-    lead_step e front (h.0) (h.1) back (Delimiters r) done rest (runs_with (kept_of done) r ++ runs) (h.2)
-    (subst (λ (rs : List Run). Lead e 0 (h.0 ++ (h.1 ++ back)) (reverse done ++ (Delimiters r ∷ rest)) rs) (kept_on (kept_of done) runs r)
-    (trail_leads e (h.0) done (h.4) (h.1 ++ back) (Delimiters r ∷ rest) (with_kept r runs) (
-      back,
-      runs,
-      ap (λ rs. rs ++ back) (h.3.0),
-      ap (λ (q : ℕ). with_kept (record r { place = q }) runs) (h.3.1),
-      h.3.2,
-      subst (λ q. Lead e q back rest runs) (after_cut front (h.0) (h.1) (h.2) ∙ ap (λ n. length (h.0) + n) (ap length (h.3.0) ∙ length-replicate r.count role.Plain)) k,
-    )))
+-- atoms after others are a lead from where these end
+pub record Split (e : Beside) (front : List Role) (part done : List Atom) (back : List Role) (rest : List Atom) (runs : List Run) : Type 0 where
+  pub first : List Role
+  pub mid : List Role
+  pub cut : front ≡ first ++ mid
+  pub trail : Trail e first done
+  pub lead : Lead e (length first) (mid ++ back) (reverse part ++ rest) (kept_of part ++ runs)
+
+split_more : (e : Beside) (front before seg back : List Role) (a : Atom) (part done rest : List Atom) (runs : List Run) (kept : List Run) → front ≡ before ++ seg → (k : Split e before part done (seg ++ back) (a ∷ rest) runs) → kept_of part ++ runs ≡ kept_of (a ∷ part) ++ kept → Split e front (a ∷ part) done back rest kept
+split_more e front before seg back a part done rest runs kept cut k same = record {
+  first = k.first;
+  mid = k.mid ++ seg;
+  cut = cut ∙ ap (λ rs. rs ++ seg) k.cut ∙ append_assoc k.first k.mid seg;
+  trail = k.trail;
+  lead =
+      subst (λ (rs : List Role). Lead e (length k.first) rs (reverse (a ∷ part) ++ rest) (kept_of (a ∷ part) ++ kept)) (sym (append_assoc k.mid seg back))
+      (subst (λ (xs : List Atom). Lead e (length k.first) (k.mid ++ (seg ++ back)) xs (kept_of (a ∷ part) ++ kept)) (turned_over a part rest)
+      (subst (λ (rs : List Run). Lead e (length k.first) (k.mid ++ (seg ++ back)) (reverse part ++ (a ∷ rest)) rs) same k.lead));
+}
+
+pub trail_splits : (e : Beside) (front : List Role) (part done : List Atom) → Trail e front (part ++ done) → (back : List Role) (rest : List Atom) (runs : List Run) → Lead e (length front) back rest runs → Split e front part done back rest runs
+trail_splits e front [] done h back rest runs k = record { first = front; mid = []; cut = sym (append-nil front); trail = h; lead = k }
+trail_splits e front (Whole i ∷ part) done h back rest runs k =
+    split_more e front (h.0) (h.1) back (Whole i) part done rest runs runs (h.2)
+    (trail_splits e (h.0) part done (h.4) (h.1 ++ back) (Whole i ∷ rest) runs ((h.1), back, refl, (h.3), subst (λ q. Lead e q back rest runs) (after_cut front (h.0) (h.1) (h.2)) k)) refl
+trail_splits e front (Opening b ∷ part) done h back rest runs k =
+    split_more e front (h.0) (h.1) back (Opening b) part done rest runs runs (h.2)
+    (trail_splits e (h.0) part done (h.4) (h.1 ++ back) (Opening b ∷ rest) runs ((h.1), back, refl, (h.3.2), subst (λ q. Lead e q back rest runs) (after_cut front (h.0) (h.1) (h.2)) k)) refl
+trail_splits e front (Delimiters r ∷ part) done h back rest runs k =
+    split_more e front (h.0) (h.1) back (Delimiters r) part done rest (with_kept r runs) runs (h.2)
+    (trail_splits e (h.0) part done (h.4) (h.1 ++ back) (Delimiters r ∷ rest) (with_kept r runs)
+    (back, runs, ap (λ rs. rs ++ back) (h.3.0), ap (λ (q : ℕ). with_kept (record r { place = q }) runs) (h.3.1), h.3.2,
+     subst (λ q. Lead e q back rest runs) (after_cut front (h.0) (h.1) (h.2) ∙ ap (λ n. length (h.0) + n) (ap length (h.3.0) ∙ length-replicate r.count role.Plain)) k))
+    (kept_on (kept_of part) runs r)
+
+-- a trail of atoms is a lead from its front
+pub trail_leads : (e : Beside) (front : List Role) (done : List Atom) → Trail e front done → Lead e 0 front (reverse done) (kept_of done)
+trail_leads e front done h = by (trail_splits e front done [] (subst (Trail e front) (sym (append-nil done)) h) [] [] [] (refl, refl))
+  where
+    by : Split e front done [] [] [] [] → Lead e 0 front (reverse done) (kept_of done)
+    by k =
+        subst (λ (rs : List Role). Lead e 0 rs (reverse done) (kept_of done)) (append-nil k.mid ∙ sym (k.cut ∙ ap (λ rs. rs ++ k.mid) k.trail))
+        (subst (λ (xs : List Atom). Lead e 0 (k.mid ++ []) xs (kept_of done)) (append-nil (reverse done))
+        (subst (λ (rs : List Run). Lead e 0 (k.mid ++ []) (reverse done ++ []) rs) (append-nil (kept_of done))
+        (subst (λ q. Lead e q (k.mid ++ []) (reverse done ++ []) (kept_of done ++ [])) (ap length k.trail) k.lead)))
 
 -- the weight of runs is the same in both orders
 pub weight_turned : (done rest : List Atom) → weight (runs_of (reverse done ++ rest)) ≡ weight (runs_of done) + weight (runs_of rest)

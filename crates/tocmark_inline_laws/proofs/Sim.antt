@@ -10,12 +10,14 @@ use Rattle.tocmark_read_spans.specs.declared.role.Role.{Role}
 use Rattle.tocmark_read_spans.specs.declared.role.Role.TheVariants as role
 use Rattle.tocmark_read_spans.specs.declared.role.Target.{Target}
 use Rattle.tocmark_read_spans.specs.declared.run.Run.{Run}
-use Rattle.tocmark_commonmark.specs.InlineTree.{Inline, Atom, Whole, Delimiters, Opening}
+use Rattle.tocmark_read_spans.specs.declared.link.Bracket.{Bracket}
+use Rattle.tocmark_commonmark.specs.InlineTree.{Inline, Bracket as AtomBracket, Atom, Whole, Delimiters, Opening}
 use Rattle.tocmark_commonmark.specs.Tokens.{Token, token}
 use Rattle.tocmark_inline_laws.proofs.Flow.{Beside}
 use Rattle.tocmark_inline_laws.proofs.Stretches.{cut_length, first_cut, none}
-use Rattle.tocmark_inline_laws.proofs.Atoms.{with_more, Stands, Trail, trail_more}
+use Rattle.tocmark_inline_laws.proofs.Atoms.{with_more, bracket_width, Stands, Trail, trail_more}
 use Rattle.tocmark_inline_laws.proofs.Passes.{step, passed_by}
+use Rattle.tocmark_inline_laws.proofs.Phases.{bracket_from, Passes, passes_on}
 
 -- what is beside a content in a state
 abbrev pub beside : List ℕ → State → Beside
@@ -40,13 +42,6 @@ abbrev pub runs_of : List Atom → List Run
 runs_of [] = []
 runs_of (a ∷ done) = runs_after (runs_of done) a
 
--- no atom is an opening bracket
-abbrev pub NoneOpens : List Atom → Type 0
-NoneOpens [] = ⊤
-NoneOpens (Whole i ∷ done) = NoneOpens done
-NoneOpens (Delimiters r ∷ done) = NoneOpens done
-NoneOpens (Opening b ∷ done) = ⊥
-
 -- how long runs are
 abbrev pub weight : List Run → ℕ
 weight [] = 0
@@ -65,6 +60,29 @@ abbrev pub kept_of : List Atom → List Run
 kept_of [] = []
 kept_of (a ∷ done) = kept_after (kept_of done) a
 
+-- an opening bracket as the reader has it, after so many runs
+abbrev pub bracket_of : AtomBracket → Bool → ℕ → Bracket
+bracket_of b nested runs = record { start = b.inner - bracket_width b.is_image; inner = b.inner; runs = runs; image = b.is_image; nested = nested }
+
+-- the opening brackets among atoms are these of the reader, so many of which begin no link; one with another in it has no label of
+-- its own, because a bracket that isn't escaped is before the place
+abbrev pub Opens : List ℕ → ℕ → ℕ → List Atom → List Bracket → Type 0
+Opens bytes inactive p [] bs = bs ≡ []
+Opens bytes inactive p (Whole i ∷ done) bs = Opens bytes inactive p done bs
+Opens bytes inactive p (Delimiters r ∷ done) bs = Opens bytes inactive p done bs
+Opens bytes inactive p (Opening b ∷ done) bs =
+    (under : List Bracket) × (nested : Bool) × (bs ≡ under ++ bracket_of b nested (length (kept_of done)) ∷ [])
+    × (b.is_active ≡ nat_le inactive (length under)) × (nested ≡ true → bracket_from bytes false b.inner < p) × Passes bytes b.inner p
+    × Opens bytes inactive p done under
+
+-- also further on
+pub opens_further : (bytes : List ℕ) (inactive p end : ℕ) (done : List Atom) (bs : List Bracket) → p ≤ end → Passes bytes p end → Opens bytes inactive p done bs → Opens bytes inactive end done bs
+opens_further bytes inactive p end [] bs l k h = h
+opens_further bytes inactive p end (Whole i ∷ done) bs l k h = opens_further bytes inactive p end done bs l k h
+opens_further bytes inactive p end (Delimiters r ∷ done) bs l k h = opens_further bytes inactive p end done bs l k h
+opens_further bytes inactive p end (Opening b ∷ done) bs l k h =
+    ((h.0), (h.1), (h.2), (h.3), (λ e. let m : bracket_from bytes false b.inner < p = h.4 e in omega arith), passes_on bytes b.inner p end l (h.5) k, opens_further bytes inactive p end done (h.0) l k (h.6))
+
 -- at a place the roles so far say the atoms so far
 pub record Sim (bytes : List ℕ) (p : ℕ) (s : State) (done : List Atom) : Type 0 where
   pub front : List Role
@@ -73,11 +91,15 @@ pub record Sim (bytes : List ℕ) (p : ℕ) (s : State) (done : List Atom) : Typ
   pub roles : s.roles ≡ front ++ replicate (length bytes - p) role.Plain
   pub long : length front ≡ p
   pub trail : Trail (beside bytes s) front done
-  pub closed : NoneOpens done
   pub light : weight (runs_of done) ≤ p
   pub runs : s.runs ≡ kept_of done
-  pub brackets : s.brackets ≡ []
+  pub opens : Opens bytes s.inactive p done s.brackets
+  pub few : s.inactive ≤ length s.brackets
   pub clean : Clean bytes p
+
+-- texts are added
+abbrev pub Grown : List ℕ → State → Type 0
+Grown texts s = (further : List ℕ) × (s.texts ≡ texts ++ further)
 
 -- a state from which the pass goes on behind a token
 pub record Goes (bytes : List ℕ) (ahead : Known) (defs : List ℕ → Option Entry) (p : ℕ) (s : State) (done : List Atom) (t : Token) : Type 0 where
@@ -86,6 +108,7 @@ pub record Goes (bytes : List ℕ) (ahead : Known) (defs : List ℕ → Option E
   pub further : p < t.end
   pub within : t.end ≤ length bytes
   pub sim : Sim bytes t.end after (t.atom ∷ done)
+  pub grown : Grown s.texts after
 
 -- what a token made of a state: these roles, texts and targets more
 pub record TookAtom (bytes : List ℕ) (p end : ℕ) (s t : State) (front seg : List Role) (x : Atom) : Type 0 where
@@ -98,25 +121,24 @@ pub record TookAtom (bytes : List ℕ) (p end : ℕ) (s t : State) (front seg : 
   pub stands : Stands (with_more (beside bytes s) texts targets) p seg x
   pub resume : t.resume ≤ end
   pub runs : t.runs ≡ kept_after s.runs x
-  pub brackets : t.brackets ≡ []
 
 -- an inline
 abbrev pub Took : List ℕ → ℕ → ℕ → State → State → List Role → List Role → Inline → Type 0
 Took bytes p end s t front seg i = TookAtom bytes p end s t front seg (Whole i)
 
 -- the state behind a token
-pub took_atom : (bytes : List ℕ) (p end : ℕ) (s t : State) (done : List Atom) (seg : List Role) (x : Atom) (a : Sim bytes p s done) → TookAtom bytes p end s t a.front seg x → NoneOpens (x ∷ done) → weight (runs_of (x ∷ done)) ≤ end → Clean bytes end → Sim bytes end (with_place end t) (x ∷ done)
-took_atom bytes p end s t done seg x a k closed light clean = record {
+pub took_atom : (bytes : List ℕ) (p end : ℕ) (s t : State) (done : List Atom) (seg : List Role) (x : Atom) (a : Sim bytes p s done) → TookAtom bytes p end s t a.front seg x → weight (runs_of (x ∷ done)) ≤ end → Clean bytes end → Opens bytes t.inactive end (x ∷ done) t.brackets → t.inactive ≤ length t.brackets → Sim bytes end (with_place end t) (x ∷ done)
+took_atom bytes p end s t done seg x a k light clean opens few = record {
   front = a.front ++ seg;
   place = refl;
   resume = k.resume;
   roles = k.roles ∙ sym (append_assoc a.front seg (replicate (length bytes - end) role.Plain));
   long = length-append a.front seg ∙ ap (λ n. n + length seg) a.long ∙ k.long;
   trail = (a.front, seg, refl, here, before);
-  closed = closed;
   light = light;
   runs = k.runs ∙ ap (λ rs. kept_after rs x) a.runs;
-  brackets = k.brackets;
+  opens = opens;
+  few = few;
   clean = clean;
 }
   where
@@ -129,22 +151,28 @@ took_atom bytes p end s t done seg x a k closed light clean = record {
     before : Trail (beside bytes t) a.front done
     before = subst (λ (e : Beside). Trail e a.front done) same (trail_more (beside bytes s) k.texts k.targets a.front done a.trail)
 
+-- the brackets are the same
+pub same_opens : (bytes : List ℕ) (p end : ℕ) (s t : State) (done : List Atom) → Sim bytes p s done → p ≤ end → Passes bytes p end → t.brackets ≡ s.brackets → t.inactive ≡ s.inactive → Opens bytes t.inactive end done t.brackets
+same_opens bytes p end s t done a l k brackets inactive =
+    subst (λ n. Opens bytes n end done t.brackets) (sym inactive) (subst (λ (bs : List Bracket). Opens bytes s.inactive end done bs) (sym brackets) (opens_further bytes s.inactive p end done s.brackets l k a.opens))
+
+pub same_few : (bytes : List ℕ) (p : ℕ) (s t : State) (done : List Atom) → Sim bytes p s done → t.brackets ≡ s.brackets → t.inactive ≡ s.inactive → t.inactive ≤ length t.brackets
+same_few bytes p s t done a brackets inactive = subst (λ n. n ≤ length t.brackets) (sym inactive) (subst (λ (bs : List Bracket). s.inactive ≤ length bs) (sym brackets) a.few)
+
 -- an inline
-pub took_sim : (bytes : List ℕ) (p end : ℕ) (s t : State) (done : List Atom) (seg : List Role) (i : Inline) (a : Sim bytes p s done) → Took bytes p end s t a.front seg i → Clean bytes end → Sim bytes end (with_place end t) (Whole i ∷ done)
-took_sim bytes p end s t done seg i a k clean = took_atom bytes p end s t done seg (Whole i) a k a.closed (let l : p + length seg ≡ end = k.long in let m : weight (runs_of done) ≤ p = a.light in omega arith) clean
+pub took_sim : (bytes : List ℕ) (p end : ℕ) (s t : State) (done : List Atom) (seg : List Role) (i : Inline) (a : Sim bytes p s done) → Took bytes p end s t a.front seg i → Clean bytes end → Passes bytes p end → t.brackets ≡ s.brackets → t.inactive ≡ s.inactive → Sim bytes end (with_place end t) (Whole i ∷ done)
+took_sim bytes p end s t done seg i a k clean passes brackets inactive =
+    took_atom bytes p end s t done seg (Whole i) a k
+    (let l : p + length seg ≡ end = k.long in let m : weight (runs_of done) ≤ p = a.light in omega arith) clean
+    (same_opens bytes p end s t done a (let l : p + length seg ≡ end = k.long in omega arith) passes brackets inactive)
+    (same_few bytes p s t done a brackets inactive)
 
 -- a token of which the first byte is read, and the others are passed by
-pub goes_atom : (bytes : List ℕ) (ahead : Known) (defs : List ℕ → Option Entry) (p end b : ℕ) (s t : State) (done : List Atom) (seg : List Role) (x : Atom) (a : Sim bytes p s done) → TookAtom bytes p end s t a.front seg x → NoneOpens (x ∷ done) → weight (runs_of (x ∷ done)) ≤ end → Clean bytes end → p < end → end ≤ length bytes → length bytes + 1 < 2 ^ 64 → byte_at bytes p ≡ b → step bytes ahead defs s b ≡ next_place t → t.place ≡ p → end ≤ suc p + (t.resume - suc p) → Goes bytes ahead defs p s done (record { atom = x; end = end })
-goes_atom bytes ahead defs p end b s t done seg x a k closed light clean more in_it fits is looked at far = record {
-  after = with_place end t;
-  same =
-      ap (fold (step bytes ahead defs) s) (first_cut bytes p end more in_it)
-      ∙ ap (λ (u : State). fold (step bytes ahead defs) u (xs ++ drop end bytes)) (ap (step bytes ahead defs s) is ∙ looked ∙ ap (λ q. with_place q t) next)
-      ∙ by_resume (nat_le end t.resume) refl;
-  further = more;
-  within = in_it;
-  sim = took_atom bytes p end s t done seg x a k closed light clean;
-}
+pub goes_past : (bytes : List ℕ) (ahead : Known) (defs : List ℕ → Option Entry) (p end b : ℕ) (s t : State) → p < end → end ≤ length bytes → length bytes + 1 < 2 ^ 64 → byte_at bytes p ≡ b → step bytes ahead defs s b ≡ next_place t → t.place ≡ p → end ≤ suc p + (t.resume - suc p) → fold (step bytes ahead defs) s (drop p bytes) ≡ fold (step bytes ahead defs) (with_place end t) (drop end bytes)
+goes_past bytes ahead defs p end b s t more in_it fits is looked at far =
+    ap (fold (step bytes ahead defs) s) (first_cut bytes p end more in_it)
+    ∙ ap (λ (u : State). fold (step bytes ahead defs) u (xs ++ drop end bytes)) (ap (step bytes ahead defs s) is ∙ looked ∙ ap (λ q. with_place q t) next)
+    ∙ by_resume (nat_le end t.resume) refl
   where
     xs : List ℕ
     xs = bytes_between bytes (suc p) end
@@ -161,6 +189,19 @@ goes_atom bytes ahead defs p end b s t done seg x a k closed light clean more in
         let one : end ≡ suc p = (let h : t.resume < end = grind (arith, nat_tests) in omega arith) in
         ap (λ ys. fold (step bytes ahead defs) (with_place (suc p) t) (ys ++ drop end bytes)) (none xs (let h : length xs ≡ 0 = omega (arith, len, one) in h)) ∙ ap (λ q. fold (step bytes ahead defs) (with_place q t) (drop end bytes)) (sym one)
 
+pub goes_atom : (bytes : List ℕ) (ahead : Known) (defs : List ℕ → Option Entry) (p end b : ℕ) (s t : State) (done : List Atom) (seg : List Role) (x : Atom) (a : Sim bytes p s done) → TookAtom bytes p end s t a.front seg x → weight (runs_of (x ∷ done)) ≤ end → Clean bytes end → Opens bytes t.inactive end (x ∷ done) t.brackets → t.inactive ≤ length t.brackets → p < end → end ≤ length bytes → length bytes + 1 < 2 ^ 64 → byte_at bytes p ≡ b → step bytes ahead defs s b ≡ next_place t → t.place ≡ p → end ≤ suc p + (t.resume - suc p) → Goes bytes ahead defs p s done (record { atom = x; end = end })
+goes_atom bytes ahead defs p end b s t done seg x a k light clean opens few more in_it fits is looked at far = record {
+  after = with_place end t;
+  same = goes_past bytes ahead defs p end b s t more in_it fits is looked at far;
+  further = more;
+  within = in_it;
+  sim = took_atom bytes p end s t done seg x a k light clean opens few;
+  grown = (k.texts, k.more_texts);
+}
+
 -- an inline
-pub goes_by : (bytes : List ℕ) (ahead : Known) (defs : List ℕ → Option Entry) (p end b : ℕ) (s t : State) (done : List Atom) (seg : List Role) (i : Inline) (a : Sim bytes p s done) → Took bytes p end s t a.front seg i → Clean bytes end → p < end → end ≤ length bytes → length bytes + 1 < 2 ^ 64 → byte_at bytes p ≡ b → step bytes ahead defs s b ≡ next_place t → t.place ≡ p → end ≤ suc p + (t.resume - suc p) → Goes bytes ahead defs p s done (token i end)
-goes_by bytes ahead defs p end b s t done seg i a k clean more in_it fits is looked at far = goes_atom bytes ahead defs p end b s t done seg (Whole i) a k a.closed (let m : weight (runs_of done) ≤ p = a.light in omega arith) clean more in_it fits is looked at far
+pub goes_by : (bytes : List ℕ) (ahead : Known) (defs : List ℕ → Option Entry) (p end b : ℕ) (s t : State) (done : List Atom) (seg : List Role) (i : Inline) (a : Sim bytes p s done) → Took bytes p end s t a.front seg i → Clean bytes end → Passes bytes p end → t.brackets ≡ s.brackets → t.inactive ≡ s.inactive → p < end → end ≤ length bytes → length bytes + 1 < 2 ^ 64 → byte_at bytes p ≡ b → step bytes ahead defs s b ≡ next_place t → t.place ≡ p → end ≤ suc p + (t.resume - suc p) → Goes bytes ahead defs p s done (token i end)
+goes_by bytes ahead defs p end b s t done seg i a k clean passes brackets inactive more in_it fits is looked at far =
+    goes_atom bytes ahead defs p end b s t done seg (Whole i) a k (let m : weight (runs_of done) ≤ p = a.light in omega arith) clean
+    (same_opens bytes p end s t done a (omega arith) passes brackets inactive) (same_few bytes p s t done a brackets inactive)
+    more in_it fits is looked at far

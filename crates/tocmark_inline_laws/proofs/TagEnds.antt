@@ -110,17 +110,17 @@ after_angled bytes pre p from end wide late l e = by (starts_at bytes place (pre
     by false h k = absurd (some_none end k)
 
 -- a place that is no earlier
-record Climbs (q r : ℕ) : Type 0 where
-  up : q ≤ r
-  low : r < 2 ^ 64
+pub record Climbs (q r : ℕ) : Type 0 where
+  pub up : q ≤ r
+  pub low : r < 2 ^ 64
 
-climbed : (q r s : ℕ) → Climbs q r → Climbs r s → Climbs q s
+pub climbed : (q r s : ℕ) → Climbs q r → Climbs r s → Climbs q s
 climbed q r s a b = record { up = (let x : q ≤ r = a.up in let y : r ≤ s = b.up in omega arith); low = b.low }
 
-run_climbs : (bytes : List ℕ) (q : ℕ) (c : Class) → q < 2 ^ 64 → Climbs q (run_end bytes q c)
+pub run_climbs : (bytes : List ℕ) (q : ℕ) (c : Class) → q < 2 ^ 64 → Climbs q (run_end bytes q c)
 run_climbs bytes q c h = record { up = run_up bytes q c h; low = run_low bytes q c }
 
-one_climbs : (q : ℕ) → q < 2 ^ 64 → Climbs q (plus q 1)
+pub one_climbs : (q : ℕ) → q < 2 ^ 64 → Climbs q (plus q 1)
 one_climbs q h = record { up = omega arith; low = omega arith }
 
 some_climbs : (q x r : ℕ) → Climbs q x → Some x ≡ Some r → Climbs q r

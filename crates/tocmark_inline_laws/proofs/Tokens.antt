@@ -8,7 +8,7 @@ use Rattle.std.specs.Prelude.{Option, slice_get, slice_set, take_while}
 use Rattle.std.specs.List.{fold, AllByRecursion}
 use Rattle.tocmark_read_scan.specs.Basic.{plus, byte_at, starts_at}
 use Rattle.tocmark_read_scan.specs.declared.syntax.Names.TheVariants.{All}
-use Rattle.tocmark_read_scan.proofs.PlainTests.{eq_of, both_true, turned}
+use Rattle.tocmark_read_scan.proofs.PlainTests.{eq_of, both_true, differs, turned}
 use Rattle.tocmark_read_tokens.specs.Reference.{is_escape}
 use Rattle.tocmark_read_inlines.specs.Scan.{State, Known, is_mark, put_leaf, escaped, imaged, opened, closed_in, closed_last_in, looked, looked_mark, looked_all, next_place, with_place}
 use Rattle.tocmark_read_spans.specs.declared.definitions.Entry.{Entry}
@@ -23,14 +23,15 @@ use Rattle.tocmark_inline_laws.specs.Said.{leaf_said, declared_one}
 use Rattle.tocmark_inline_laws.proofs.Stretches.{first_left}
 use Rattle.tocmark_inline_laws.proofs.Atoms.{with_more, Shows, leaf_shows, hidden_shows, fresh_shows, shows_more}
 use Rattle.tocmark_inline_laws.proofs.Passes.{step, step_look, passed_over}
+use Rattle.tocmark_inline_laws.proofs.Phases.{Passes, passes_by, escape_passes, lone_passes}
 use Rattle.tocmark_inline_laws.proofs.ByKind.{Each, by_kind}
 use Rattle.tocmark_inline_laws.proofs.Sim.{beside, Clean, Sim, Goes, Took, took_sim, goes_by}
 use Rattle.tocmark_inline_laws.proofs.Plains.{drop_past, past_within, byte_is, plains_show, Front, front_of}
 use Rattle.tocmark_inline_laws.proofs.Places.{set_here, set_next, plain_split, clean_after, two_at, past_end}
 
 -- roles of a token that adds no texts and no targets
-pub added : (bytes : List ℕ) (p end : ℕ) (s t : State) (front seg : List Role) (i : Inline) → t.roles ≡ front ++ (seg ++ replicate (length bytes - end) role.Plain) → p + length seg ≡ end → t.texts ≡ s.texts → t.targets ≡ s.targets → Shows (beside bytes s) p seg i → t.resume ≤ end → t.runs ≡ s.runs → t.brackets ≡ [] → Took bytes p end s t front seg i
-added bytes p end s t front seg i roles long same_texts same_targets shows resume runs brackets = record {
+pub added : (bytes : List ℕ) (p end : ℕ) (s t : State) (front seg : List Role) (i : Inline) → t.roles ≡ front ++ (seg ++ replicate (length bytes - end) role.Plain) → p + length seg ≡ end → t.texts ≡ s.texts → t.targets ≡ s.targets → Shows (beside bytes s) p seg i → t.resume ≤ end → t.runs ≡ s.runs → Took bytes p end s t front seg i
+added bytes p end s t front seg i roles long same_texts same_targets shows resume runs = record {
   texts = [];
   targets = [];
   roles = roles;
@@ -40,8 +41,15 @@ added bytes p end s t front seg i roles long same_texts same_targets shows resum
   stands = shows_more (beside bytes s) [] [] p seg i shows;
   resume = resume;
   runs = runs;
-  brackets = brackets;
 }
+
+slash_marks : is_mark 92 ≡ true
+unfolding is_mark
+slash_marks = refl
+
+-- one byte that is no backslash
+pub byte_passes : (bytes : List ℕ) (p b : ℕ) → p < length bytes → length bytes + 1 < 2 ^ 64 → byte_at bytes p ≡ b → (b == 92) ≡ false → Passes bytes p (p + 1)
+byte_passes bytes p b in_it fits is h = passes_by bytes p (p + 1) p fits (omega arith) (omega arith) in_it (ap (λ c. c == 92) is ∙ h)
 
 -- a text of which no byte is a mark
 pub text_goes : (bytes : List ℕ) (ahead : Known) (defs : List ℕ → Option Entry) (p b : ℕ) (s : State) (done : List Atom) (xs rest : List ℕ) → Sim bytes p s done → p ≤ length bytes → length bytes + 1 < 2 ^ 64 → drop p bytes ≡ b ∷ (xs ++ rest) → AllByRecursion (λ c. is_mark c ≡ false) (b ∷ xs) → Clean bytes (p + suc (length xs)) → Goes bytes ahead defs p s done (token (Text (b ∷ xs)) (p + suc (length xs)))
@@ -61,32 +69,36 @@ text_goes bytes ahead defs p b s done xs rest a in_it fits e h clean = record {
       refl refl
       (plains_show (beside bytes s) (b ∷ xs) rest p e)
       (let q : s.resume ≤ p = a.resume in omega arith)
-      refl a.brackets)
-      clean;
+      refl)
+      clean
+      (passes_by bytes p (p + suc (length xs)) (p + length xs) fits (omega arith) (omega arith) (omega (arith, m)) (differs is_mark (byte_at bytes (p + length xs)) 92 slash_marks (byte_is (λ c. is_mark c ≡ false) bytes (b ∷ xs) rest p (length xs) e h (omega arith))))
+      refl refl;
+  grown = ([], sym (append-nil s.texts));
 }
   where
     m : p + suc (length xs) + length rest ≡ length bytes
     m = past_within bytes (b ∷ xs) rest p in_it e
 
 -- one byte that is a text although it is a mark
-pub byte_goes : (bytes : List ℕ) (ahead : Known) (defs : List ℕ → Option Entry) (p b : ℕ) (s : State) (done : List Atom) → Sim bytes p s done → p < length bytes → length bytes + 1 < 2 ^ 64 → byte_at bytes p ≡ b → is_mark b ≡ true → (b == 32) ≡ false → looked_all bytes ahead defs b s ≡ s → Goes bytes ahead defs p s done (byte_token b p)
-byte_goes bytes ahead defs p b s done a in_it fits is mark space same =
+pub byte_goes : (bytes : List ℕ) (ahead : Known) (defs : List ℕ → Option Entry) (p b : ℕ) (s : State) (done : List Atom) → Sim bytes p s done → p < length bytes → length bytes + 1 < 2 ^ 64 → byte_at bytes p ≡ b → is_mark b ≡ true → (b == 32) ≡ false → Passes bytes p (p + 1) → looked_all bytes ahead defs b s ≡ s → Goes bytes ahead defs p s done (byte_token b p)
+byte_goes bytes ahead defs p b s done a in_it fits is mark space passes same =
     goes_by bytes ahead defs p (p + 1) b s s done (role.Plain ∷ []) (Text (b ∷ [])) a
     (added bytes p (p + 1) s s a.front (role.Plain ∷ []) (Text (b ∷ []))
     (a.roles ∙ ap (λ rs. a.front ++ rs) (plain_split (length bytes) p 0 (omega arith)))
     refl refl refl
     (plains_show (beside bytes s) (b ∷ []) (drop (suc p) bytes) p (first_left bytes p in_it ∙ ap (λ c. c ∷ drop (suc p) bytes) is))
     (let q : s.resume ≤ p = a.resume in omega arith)
-    refl a.brackets)
+    refl)
     (clean_after bytes p (p + 1) (omega arith) (ap (λ c. c == 32) is ∙ space))
+    passes refl refl
     (omega arith) (omega arith) fits is
     (step_look bytes ahead defs s b mark (let q : s.resume ≤ p = a.resume in let r : s.place ≡ p = a.place in omega arith) ∙ ap next_place same)
     a.place (omega arith)
 
 -- a leaf that begins with the byte that is read
-pub leaf_goes : (bytes : List ℕ) (ahead : Known) (defs : List ℕ → Option Entry) (p b end : ℕ) (s t : State) (done : List Atom) (l : Leaf) (i : Inline) (more : List ℕ) → Sim bytes p s done → p < end → end ≤ length bytes → length bytes + 1 < 2 ^ 64 → byte_at bytes p ≡ b → is_mark b ≡ true → looked_all bytes ahead defs b s ≡ put_leaf l end t → t ≡ record s { texts = s.texts ++ more } → Clean bytes end → ((ts : List ℕ) (d : ℕ) → leaf_said (s.texts ++ more ++ ts) d l ≡ declared_one d i) → Goes bytes ahead defs p s done (token i end)
+pub leaf_goes : (bytes : List ℕ) (ahead : Known) (defs : List ℕ → Option Entry) (p b end : ℕ) (s t : State) (done : List Atom) (l : Leaf) (i : Inline) (more : List ℕ) → Sim bytes p s done → p < end → end ≤ length bytes → length bytes + 1 < 2 ^ 64 → byte_at bytes p ≡ b → is_mark b ≡ true → looked_all bytes ahead defs b s ≡ put_leaf l end t → t ≡ record s { texts = s.texts ++ more } → Clean bytes end → Passes bytes p end → ((ts : List ℕ) (d : ℕ) → leaf_said (s.texts ++ more ++ ts) d l ≡ declared_one d i) → Goes bytes ahead defs p s done (token i end)
 unfolding put_leaf
-leaf_goes bytes ahead defs p b end s t done l i more a further in_it fits is mark looked same clean says =
+leaf_goes bytes ahead defs p b end s t done l i more a further in_it fits is mark looked same clean passes says =
     goes_by bytes ahead defs p end b s u done (role.Single l end ∷ replicate (end - suc p) role.Plain) i a
     (record {
       texts = more;
@@ -98,9 +110,8 @@ leaf_goes bytes ahead defs p b end s t done l i more a further in_it fits is mar
       stands = leaf_shows (with_more (beside bytes s) more []) p end l (replicate (end - suc p) role.Plain) (let q : length (replicate (end - suc p) role.Plain) ≡ end - suc p = length-replicate (end - suc p) role.Plain in omega arith) i says;
       resume = omega arith;
       runs = refl;
-      brackets = a.brackets;
     })
-    clean further in_it fits is
+    clean passes refl refl further in_it fits is
     (step_look bytes ahead defs s b mark (let q : s.resume ≤ p = a.resume in let r : s.place ≡ p = a.place in omega arith) ∙ ap next_place (looked ∙ ap (put_leaf l end) same))
     a.place (omega arith)
   where
@@ -136,6 +147,10 @@ punctuated : (bytes : List ℕ) (p : ℕ) → is_escape bytes p ≡ true → is_
 unfolding is_escape
 punctuated bytes p h = (both_true (byte_at bytes p == 92) (is_ascii_punctuation (byte_at bytes (plus p 1))) h).1
 
+unpunctuated : (bytes : List ℕ) (p : ℕ) → byte_at bytes p ≡ 92 → is_escape bytes p ≡ false → is_ascii_punctuation (byte_at bytes (plus p 1)) ≡ false
+unfolding is_escape
+unpunctuated bytes p is h = sym (ap (λ c. (c == 92) && is_ascii_punctuation (byte_at bytes (plus p 1))) is) ∙ h
+
 no_punctuation : is_ascii_punctuation 10 ≡ false
 no_punctuation = refl
 
@@ -168,8 +183,9 @@ backslash_goes bytes ahead defs p s done a in_it fits is = by (is_escape bytes p
         set refl refl refl
         (hidden_shows (beside bytes s) p (role.Fresh ∷ []) (Text (byte_at bytes (p + 1) ∷ []))
         (fresh_shows (beside bytes s) (suc p) (byte_at bytes (p + 1)) (Text (byte_at bytes (p + 1) ∷ [])) (ap (λ m. byte_at bytes m) (let k : suc p ≡ p + 1 = omega arith in k)) (λ d. refl)))
-        (omega arith) refl a.brackets)
+        (omega arith) refl)
         (clean_after bytes (p + 1) (p + 2) (omega arith) (turned is_ascii_punctuation 32 (byte_at bytes (p + 1)) punct refl))
+        (escape_passes bytes p (omega (arith, far)) fits is punct) refl refl
         (omega arith) (omega (arith, far)) fits is
         (step_look bytes ahead defs s 92 backslash_marks (let q : s.resume ≤ p = a.resume in let r : s.place ≡ p = a.place in omega arith)
         ∙ ap next_place (looked_so ∙ ap (λ x. escaped_at p s x (ends_line bytes (p + 1))) e))
@@ -194,6 +210,7 @@ backslash_goes bytes ahead defs p s done a in_it fits is = by (is_escape bytes p
         (looked_so ∙ ap (λ x. escaped_at p s x (ends_line bytes (p + 1))) e ∙ ap (λ y. escaped_at p s false y) f ∙ ap (λ q. put_leaf leaf.HardBreak q s) two)
         (ap (λ (ts : List ℕ). record s { texts = ts }) (sym (append-nil s.texts)))
         (clean_after bytes (p + 1) (p + 2) (omega arith) (ap (λ c. c == 32) (eq_of (byte_at bytes (p + 1)) 10 (ends.1))))
+        (passes_by bytes p (p + 2) (p + 1) fits (omega arith) (omega arith) far (ap (λ c. c == 92) (eq_of (byte_at bytes (p + 1)) 10 (ends.1))))
         (λ ts d. refl)
       where
         ends : (nat_lt (p + 1) (length bytes) ≡ true) × ((byte_at bytes (p + 1) == 10) ≡ true)
@@ -202,7 +219,7 @@ backslash_goes bytes ahead defs p s done a in_it fits is = by (is_escape bytes p
         far : p + 1 < length bytes
         far = let k : nat_lt (p + 1) (length bytes) ≡ true = ends.0 in grind (arith, nat_tests)
     by false false e f =
-        byte_goes bytes ahead defs p 92 s done a in_it fits is backslash_marks refl
+        byte_goes bytes ahead defs p 92 s done a in_it fits is backslash_marks refl (lone_passes bytes p in_it fits is (ap (λ m. is_ascii_punctuation (byte_at bytes m)) (sym one) ∙ unpunctuated bytes p is e))
         (looked_so ∙ ap (λ x. escaped_at p s x (ends_line bytes (p + 1))) e ∙ ap (λ y. escaped_at p s false y) f)
 
 -- an exclamation mark before no bracket
@@ -221,22 +238,10 @@ and_no false = refl
 pub exclamation_goes : (bytes : List ℕ) (ahead : Known) (defs : List ℕ → Option Entry) (p : ℕ) (s : State) (done : List Atom) → Sim bytes p s done → p < length bytes → length bytes + 1 < 2 ^ 64 → byte_at bytes p ≡ 33 → (byte_at bytes (p + 1) == 91) ≡ false → Goes bytes ahead defs p s done (exclamation bytes p)
 exclamation_goes bytes ahead defs p s done a in_it fits is apart =
     subst (λ (z : Bool). Goes bytes ahead defs p s done (if z then kind.opening true (p + 2) else byte_token 33 p)) (sym apart)
-    (byte_goes bytes ahead defs p 33 s done a in_it fits is exclamation_marks refl
+    (byte_goes bytes ahead defs p 33 s done a in_it fits is exclamation_marks refl (byte_passes bytes p 33 in_it fits is refl)
     (exclamation_looked bytes ahead defs s
     ∙ ap (λ q. if starts_at bytes q (codes "![") then opened true 2 s else s) a.place
     ∙ ap (λ (z : Bool). if z then opened true 2 s else s) (two_at bytes p 33 91 in_it is ∙ ap (λ (z : Bool). nat_lt (p + 1) (length bytes) && z) apart ∙ and_no (nat_lt (p + 1) (length bytes)))))
-
--- a closing bracket without an opening one
-closing_looked : (bytes : List ℕ) (ahead : Known) (defs : List ℕ → Option Entry) (s : State) → s.brackets ≡ [] → looked_all bytes ahead defs 93 s ≡ s
-unfolding looked_all closed_in
-closing_looked bytes ahead defs s h = ap (λ bs. closed_last_in All false bytes defs s (slice_get bs (length bs - 1))) h
-
-closing_marks : is_mark 93 ≡ true
-unfolding is_mark
-closing_marks = refl
-
-pub closing_goes : (bytes : List ℕ) (ahead : Known) (defs : List ℕ → Option Entry) (p : ℕ) (s : State) (done : List Atom) → Sim bytes p s done → p < length bytes → length bytes + 1 < 2 ^ 64 → byte_at bytes p ≡ 93 → Goes bytes ahead defs p s done (byte_token 93 p)
-closing_goes bytes ahead defs p s done a in_it fits is = byte_goes bytes ahead defs p 93 s done a in_it fits is closing_marks refl (closing_looked bytes ahead defs s a.brackets)
 
 -- bytes that begin nothing
 abbrev IsNone : ℕ → Kind → Type 0

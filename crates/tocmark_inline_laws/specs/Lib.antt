@@ -1,3 +1,2 @@
 pub mod Said
 pub mod Statement
-pub mod Examples

@@ -28,30 +28,14 @@ IsReadAsDeclared bytes =
     (labels : List Destination) (definitions : List ℕ → Option Entry) (targets : List Target) (texts : List ℕ) (missed : List Stretch)
     → LeadAlike texts definitions labels → said bytes definitions targets texts missed ≡ declared 0 (inlines labels bytes)
 
--- an atom is an opening bracket
-abbrev pub is_opening : Atom → Bool
-is_opening (Whole i) = false
-is_opening (Delimiters r) = false
-is_opening (Opening b) = true
+-- chapter 6: contents are read as declared
+abbrev pub ContentsAreReadAsDeclared : Type 0
+ContentsAreReadAsDeclared = (bytes : List ℕ) → length bytes + 2 < 2 ^ 64 → IsReadAsDeclared bytes
 
--- this token is no opening bracket, and none after it is
-abbrev pub and_closed : (ℕ → Bool) → Token → Bool
-and_closed next t = not (is_opening t.atom) && next t.end
-
--- the end, or a token
-abbrev pub closed_at : (ℕ → Bool) → List ℕ → ℕ → Option ℕ → Bool
-closed_at next bytes place None = true
-closed_at next bytes place (Some b) = and_closed next (token_at bytes place b (kind_of b))
-
--- whether no token from a place on is an opening bracket; fuel counts down, because each token takes a byte
-unfoldable pub none_opens : ℕ → List ℕ → ℕ → Bool
-none_opens zero bytes place = true
-none_opens (suc fuel) bytes place = closed_at (λ p. none_opens fuel bytes p) bytes place (slice_get bytes place)
-
--- 2.4, 2.5, 6.1, 6.2 and 6.5 to 6.9: contents of which no token is an opening bracket are read as declared
-abbrev pub UnopenedContentsAreReadAsDeclared : Type 0
-UnopenedContentsAreReadAsDeclared = (bytes : List ℕ) → length bytes + 2 < 2 ^ 64 → none_opens (length bytes) bytes 0 ≡ true → IsReadAsDeclared bytes
-
--- the same: contents without an opening bracket are read as declared
-abbrev pub BracketlessContentsAreReadAsDeclared : Type 0
-BracketlessContentsAreReadAsDeclared = (bytes : List ℕ) → length bytes + 2 < 2 ^ 64 → list_any (λ b. b == 91) bytes ≡ false → IsReadAsDeclared bytes
+-- 3.1: a content is read the same, wherever its leaf is: with whatever entries, if these lead to the same, and whatever is beside it
+abbrev pub InlinesAreLocal : Type 0
+InlinesAreLocal =
+    (bytes : List ℕ) → length bytes + 2 < 2 ^ 64 → (labels : List Destination) (definitions others : List ℕ → Option Entry)
+    (targets other_targets : List Target) (texts other_texts : List ℕ) (missed other_missed : List Stretch)
+    → LeadAlike texts definitions labels → LeadAlike other_texts others labels
+    → said bytes definitions targets texts missed ≡ said bytes others other_targets other_texts other_missed
