@@ -10,6 +10,8 @@ use Rattle.tocmark_read_scan.proofs.PlainPieces.{piece_between}
 use Rattle.tocmark_read_scan.proofs.PlainTests.{eq_of}
 use Rattle.tocmark_read_lines.specs.Cells.{cells_at, cell_place, run_of, ink_from, first_cursor, is_blank_at, indent_of}
 use Rattle.tocmark_read_lines.specs.Lines.{ends_here, line, lines_from, lines_of}
+use Rattle.tocmark_read_lines.specs.Html.{html_ends}
+use Rattle.tocmark_read_lines.specs.declared.html.HtmlKind.{HtmlKind}
 use Rattle.tocmark_read_lines.specs.Marks.{closes_fence}
 use Rattle.tocmark_read_lines.specs.declared.beginnings.Fence.{Fence}
 use Rattle.tocmark_read_lines.specs.declared.cell.Cell.{Cell}
@@ -18,7 +20,7 @@ use Rattle.tocmark_read_lines.specs.declared.line.Line.{Line}
 use Rattle.tocmark_read_lines.proofs.Columns.{length_kept, plain_cells, place_kept}
 use Rattle.tocmark_read_page.specs.Pieces.{piece_of, is_split, code_piece, keeps_line}
 use Rattle.tocmark_read_page.specs.declared.leaf.Leaf.TheVariants as leaf
-use Rattle.tocmark_commonmark.specs.Lines.{Part, is_blank_byte, is_blank, tab_width, indent, spelled, without_columns, without_column, without_blank, cells}
+use Rattle.tocmark_commonmark.specs.Lines.{Part, line_ink, is_blank_byte, is_blank, tab_width, indent, spelled, without_columns, without_column, without_blank, cells}
 use Rattle.tocmark_commonmark.specs.Leaves.{code_line, closes}
 use Rattle.tocmark_commonmark.specs.Beginnings.{begins_with}
 use Rattle.tocmark_block_laws.specs.Leaves.{IsPlain, ends_with_feed}
@@ -26,7 +28,8 @@ use Rattle.tocmark_block_laws.proofs.Columns.{Behind, ink_on, plus_low}
 use Rattle.tocmark_block_laws.proofs.Marks.{closes_on}
 use Rattle.tocmark_block_laws.proofs.TextLines.{Plain, plain_head, no_tab, declared, Sound, stop_same, ends_same, drop_plain}
 use Rattle.tocmark_block_laws.proofs.Texts.{between_length, place_there}
-use Rattle.tocmark_block_laws.proofs.Fronts.{spaces_of, part_of, at_ink, indent_same, spaces_low, blank_same, cursor_same, behind_at, between_further}
+use Rattle.tocmark_block_laws.proofs.HtmlEnds.{ends_ink}
+use Rattle.tocmark_block_laws.proofs.Fronts.{spaces_next, spaces_none, spaces_of, part_of, at_ink, indent_same, spaces_low, blank_same, cursor_same, behind_at, between_further}
 
 -- a line that ends with a line feed
 pub record Fed (text : List ℕ) (l : Line) : Type 0 where
@@ -93,16 +96,6 @@ lines_fed text h fed = fed_from text [] [] text 0 0 0 h h refl refl refl refl fe
 
 -- the spaces in front of fewer bytes
 
-spaces_next : (b : ℕ) (bs : List ℕ) → (b == 32) ≡ true → spaces_of (b ∷ bs) ≡ suc (spaces_of bs)
-spaces_next b bs e =
-    length-prefix_len is_blank_byte (b ∷ bs) ∙ ap (λ k. cond (k || (b == 9)) (1 + prefix_len is_blank_byte bs) 0) e
-    ∙ (let q : 1 + prefix_len is_blank_byte bs ≡ suc (spaces_of bs) = omega (arith, length-prefix_len is_blank_byte bs) in q)
-
-spaces_none : (b : ℕ) (bs : List ℕ) → (b == 32) ≡ false → (b == 9) ≡ false → spaces_of (b ∷ bs) ≡ 0
-spaces_none b bs e g =
-    length-prefix_len is_blank_byte (b ∷ bs) ∙ ap (λ k. cond (k || (b == 9)) (1 + prefix_len is_blank_byte bs) 0) e
-    ∙ ap (λ k. cond (false || k) (1 + prefix_len is_blank_byte bs) 0) g
-
 pub spaces_dropped : (c : ℕ) (xs : List ℕ) → IsPlain xs → c ≤ spaces_of xs → c + spaces_of (drop c xs) ≡ spaces_of xs
 spaces_dropped zero xs h low = omega arith
 spaces_dropped (suc c) [] h low = absurd (omega (arith, low))
@@ -162,6 +155,7 @@ pub record CodeFacts (text : List ℕ) (l : Line) (columns : List Cell) (spaces 
   pub closing : (f : Fence) → closes_fence columns (at_ink spaces) f ≡ closes f (declared text l)
   pub taken : Fed text l → (c : ℕ) → c ≤ spaces → Taken text l columns c
   pub keeps : (c : ℕ) → c ≤ spaces → keeps_line columns c leaf.Indented ≡ not (is_blank (bytes_between text l.start l.end))
+  pub html : (k : HtmlKind) → html_ends k (bytes_between text l.start l.end) ≡ html_ends k (line_ink (declared text l))
   pub spelled : (k : ℕ) → code_line k (declared text l) ≡ drop (min k spaces) (bytes_between text l.start l.end)
 
 drop_more_front : (c : ℕ) (xs ys : List ℕ) → c ≤ length xs → drop c (xs ++ ys) ≡ drop c xs ++ ys
@@ -223,6 +217,7 @@ code_facts text l h fits sound =
         ends = between_further text l.start c l.end (omega (arith, low, most, wide)) in_text;
       };
       keeps = λ c low. rw (inked c low, count) kept;
+      html = λ k. ends_ink k n xs h (omega arith) short;
       spelled = λ k. columns_spelled k 0 xs h;
     }
   where

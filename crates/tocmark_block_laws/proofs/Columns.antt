@@ -79,7 +79,7 @@ pub behind_on : (n : ℕ) (w r : List Cell) (k : ℕ) → Behind n w r → is_be
 unfolding is_behind
 behind_on n w r k h = rw (length_on n w r h, byte_on n w r k h, le_on n (length r) k) refl
 
-between_later : (pre xs : List ℕ) (from to : ℕ) → bytes_between (pre ++ xs) (length pre + from) (length pre + to) ≡ bytes_between xs from to
+pub between_later : (pre xs : List ℕ) (from to : ℕ) → bytes_between (pre ++ xs) (length pre + from) (length pre + to) ≡ bytes_between xs from to
 between_later pre xs from to =
     let width : length pre + to - (length pre + from) ≡ to - from = omega arith in
     rw (length-append pre xs, le_on (length pre) from to, le_on (length pre) to (length xs), width, drop-append-add pre xs from) refl

@@ -165,3 +165,15 @@ between_in text s e a c order within low =
     by : (k : Bool) → nat_le a c ≡ k → (if k && true then take (c - a) (drop (s + a) text) else []) ≡ (if k && true then take (c - a) (drop a (bytes_between text s e)) else [])
     by true q = taken (grind (arith, q, nat_tests))
     by false q = refl
+
+-- the spaces in front of a byte more
+
+pub spaces_next : (b : ℕ) (bs : List ℕ) → (b == 32) ≡ true → spaces_of (b ∷ bs) ≡ suc (spaces_of bs)
+spaces_next b bs e =
+    length-prefix_len is_blank_byte (b ∷ bs) ∙ ap (λ k. cond (k || (b == 9)) (1 + prefix_len is_blank_byte bs) 0) e
+    ∙ (let q : 1 + prefix_len is_blank_byte bs ≡ suc (spaces_of bs) = omega (arith, length-prefix_len is_blank_byte bs) in q)
+
+pub spaces_none : (b : ℕ) (bs : List ℕ) → (b == 32) ≡ false → (b == 9) ≡ false → spaces_of (b ∷ bs) ≡ 0
+spaces_none b bs e g =
+    length-prefix_len is_blank_byte (b ∷ bs) ∙ ap (λ k. cond (k || (b == 9)) (1 + prefix_len is_blank_byte bs) 0) e
+    ∙ ap (λ k. cond (false || k) (1 + prefix_len is_blank_byte bs) 0) g

@@ -3,10 +3,12 @@ pub mod Marks
 pub mod TextLines
 pub mod Texts
 pub mod Fronts
+pub mod HtmlEnds
 pub mod Codes
 pub mod Starts
 pub mod Pages
 pub mod Told
 pub mod Ends
 pub mod ReadCodes
+pub mod ReadHtml
 pub mod Read

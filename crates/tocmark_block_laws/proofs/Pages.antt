@@ -131,7 +131,7 @@ set_last : {A : Type 0} (xs : List A) (x y : A) → slice_set (xs ++ x ∷ []) (
 set_last xs x y = ap (λ n. slice_set (xs ++ x ∷ []) n y) (last_place xs x) ∙ set_behind xs x y
 
 -- the open leaf ends
-page_finished : (lf : Leaf) (k : BlockKind) (bs : List Block) (first : ℕ) (ps qs : List Piece) (kept start end number : ℕ) → take kept ps ≡ qs
+pub page_finished : (lf : Leaf) (k : BlockKind) (bs : List Block) (first : ℕ) (ps qs : List Piece) (kept start end number : ℕ) → take kept ps ≡ qs
     → leaf_finished (leaf_page lf k bs first ps kept start end number) ≡ closed (bs ++ block k start end first (length qs) ∷ []) qs end number kept
 unfolding leaf_finished finished raised_at
 page_finished lf k bs first ps qs kept start end number h =
@@ -310,7 +310,7 @@ text_start text cells l n s t hs ht h = ap (λ u. piece_taken words' l true (tex
     same : in_paragraph text cells l (here n) s ≡ in_paragraph text cells l (here n) t
     same = ap (λ k. if k then s else begin s) hs ∙ ap (leaf_opened leaf.Paragraph kind.Paragraph words'.start l) h ∙ sym (ap (λ k. if k then t else begin t) ht)
 
-interrupts_first : (k : HtmlKind) → interrupting false k ≡ Some k
+pub interrupts_first : (k : HtmlKind) → interrupting false k ≡ Some k
 interrupts_first html.Raw = refl
 interrupts_first html.Comment = refl
 interrupts_first html.Instruction = refl
@@ -434,6 +434,16 @@ code_passes text l f k bs first ps kept start end number h =
     ∙ ap (started_at text f.columns l (tail_of f.columns)) (opens_none text f.columns l f.spaces s f.opens)
     ∙ ap (λ x. started x text f.columns l (tail_of f.columns) (here f.spaces) s) (f.starts false)
 
+-- a line passes an HTML block that ends before it
+pub html_passes : (text : List ℕ) (l : Line) (f : Facts text l) (x : HtmlKind) (k : BlockKind) (bs : List Block) (first : ℕ) (ps : List Piece) (kept start end number : ℕ) → leaf_turn text f.columns l (at_ink f.spaces) (leaf.Html x) ≡ turn.Passes
+    → line_taken text (leaf_page (leaf.Html x) k bs first ps kept start end number) l ≡ started (start_as f.spaces false f.level f.kind) text f.columns l (tail_of f.columns) (here f.spaces) (leaf_page (leaf.Html x) k bs first ps kept start end number)
+unfolding passed_in leaf_started_in metadata_in metadata_or task_in task_or quote_kind_in quote_kind_or tag_in tag_or goes_directly is_paragraph
+html_passes text l f x k bs first ps kept start end number h =
+    let s : State = leaf_page (leaf.Html x) k bs first ps kept start end number in
+    page_turns text l f (leaf.Html x) k bs first ps kept start end number turn.Passes h
+    ∙ ap (started_at text f.columns l (tail_of f.columns)) (opens_none text f.columns l f.spaces s f.opens)
+    ∙ ap (λ y. started y text f.columns l (tail_of f.columns) (here f.spaces) s) (f.starts false)
+
 -- a line goes into code, and is kept
 pub takes_kept : (text : List ℕ) (cells : List Cell) (l : Line) (c at : ℕ) (lf : Leaf) (k : BlockKind) (bs : List Block) (first : ℕ) (ps : List Piece) (kept start end number : ℕ) → code_piece cells c l ≡ piece_of 0 at l.end l.next → nat_lt at l.next ≡ true → keeps_line cells c lf ≡ true
     → code_taken text cells c l (leaf_page lf k bs first ps kept start end number)
@@ -483,3 +493,9 @@ pub fence_ends : (text : List ℕ) (l : Line) (f : Fence) (k : BlockKind) (bs : 
     → leaf_ended l (leaf_page (leaf.Fenced f) k bs first ps (length ps) start end number) ≡ closed (bs ++ block k start l.end first (length ps) ∷ []) ps l.end l.number (length ps)
 unfolding leaf_ended
 fence_ends text l f k bs first ps start end number = page_finished (leaf.Fenced f) k bs first ps ps (length ps) start l.end l.number (take-length ps)
+
+pub html_comes : (text : List ℕ) (cells : List Cell) (l : Line) (n : ℕ) (k : HtmlKind) (bs : List Block) (ps : List Piece) (end number kept : ℕ)
+    → started (start.Html k) text cells l (tail_of cells) (here n) (closed bs ps end number kept)
+    ≡ code_taken text cells 0 l (leaf_page (leaf.Html k) kind.Html bs (length ps) ps (length ps) (cell_place cells 0 l.end) l.end l.number)
+unfolding started_in html_started leaf_opened closed_to leaf_closed times list_left begun loosened had_marked list_of is_apart
+html_comes text cells l n k bs ps end number kept = refl

@@ -12,7 +12,8 @@ use Rattle.tocmark_read_lines.specs.Marks.{heading_at, fence_at, tail_of, is_rul
 use Rattle.tocmark_read_lines.specs.declared.beginnings.Fence.{Fence}
 use Rattle.tocmark_read_lines.specs.declared.beginnings.Marker.{Marker}
 use Rattle.tocmark_read_lines.specs.declared.html.HtmlKind.{HtmlKind}
-use Rattle.tocmark_read_blocks.specs.Codes.{html_ended}
+use Rattle.tocmark_read_blocks.specs.Codes.{code_taken, html_ended}
+use Rattle.tocmark_read_lines.specs.declared.html.HtmlKind.TheVariants as html
 use Rattle.tocmark_read_lines.specs.declared.beginnings.Heading.{Heading as HeadingMark}
 use Rattle.tocmark_read_lines.specs.declared.cell.Cell.{Cell}
 use Rattle.tocmark_read_lines.specs.declared.line.Line.{Line}
@@ -30,15 +31,16 @@ use Rattle.tocmark_read_blocks.specs.declared.leaf.LeafStart.TheVariants as star
 use Rattle.tocmark_commonmark.specs.Lines.{Line as DeclaredLine, Part, is_blank, indent, ink, without_last_blanks, line_bytes, line_ink, cells, lines_of as declared_lines}
 use Rattle.tocmark_commonmark.specs.Tree.{Blocks, none, more, Rule, Heading, Paragraph, Found, ended, unended, tree, defined, defined_in, Taken}
 use Rattle.tocmark_commonmark.specs.Beginnings.{Beginning, BlankLine, CodeLine, QuoteLine, HeadingLine, FenceLine, HtmlLine, RuleLine, ItemLine, TextLine, LazyLine, first_of_these, html_if, beginning_of, beginning, interrupts, begins_with, heading_text}
-use Rattle.tocmark_commonmark.specs.Leaves.{indented_code, fenced_code, definitions, text_of, underline, underlined, Turn, GoesOn, Stops, Underlines, turn_of, turn, turned, paragraph_lines, paragraph_with, paragraph_of}
+use Rattle.tocmark_commonmark.specs.Leaves.{indented_code, fenced_code, html_block, definitions, text_of, underline, underlined, Turn, GoesOn, Stops, Underlines, turn_of, turn, turned, paragraph_lines, paragraph_with, paragraph_of}
 use Rattle.tocmark_commonmark.specs.Blocks.{first_block, and_rest, blocks_from, size, blocks, blocks_of}
 use Rattle.tocmark_block_laws.specs.Trees.{told, told_before, line_text, leaf_text, tree_of, placed_in}
 use Rattle.tocmark_block_laws.specs.Leaves.{IsPlain, ends_with_feed, is_leaf, IsLeafLine, LeavesAreDeclared}
 use Rattle.tocmark_block_laws.proofs.TextLines.{declared, lines_same, Sound, lines_sound, lines_few}
 use Rattle.tocmark_block_laws.proofs.Marks.{heading_later}
 use Rattle.tocmark_block_laws.proofs.Texts.{between_none}
-use Rattle.tocmark_block_laws.proofs.Starts.{start_as, is_blank_kind, may_underline, HeadingFacts, Facts, leaf_facts}
-use Rattle.tocmark_block_laws.proofs.Pages.{here, closed, paragraph_page, rule_block, ended_block, piece_in, closed_begins, open_begins, nothing_ends, blank_passes, rule_comes, text_begins, text_goes_on, paragraph_ends, paragraph_shuts, closes_first, same_start, underline_comes, piece_if, has_words, words, heading_comes, leaf_page, takes_kept, fence_comes, indented_comes}
+use Rattle.tocmark_block_laws.proofs.ReadHtml.{HtmlOpen, html_next, html_read}
+use Rattle.tocmark_block_laws.proofs.Starts.{html_start, start_as, is_blank_kind, may_underline, HeadingFacts, Facts, leaf_facts}
+use Rattle.tocmark_block_laws.proofs.Pages.{here, closed, paragraph_page, rule_block, ended_block, piece_in, closed_begins, open_begins, nothing_ends, blank_passes, rule_comes, text_begins, text_goes_on, paragraph_ends, paragraph_shuts, closes_first, same_start, underline_comes, piece_if, has_words, words, heading_comes, leaf_page, takes_kept, fence_comes, indented_comes, interrupts_first, html_comes}
 use Rattle.tocmark_block_laws.proofs.Ends.{final, Ends, ends_cons, ends_closed, no_blocks, Goal, from_there}
 use Rattle.tocmark_block_laws.proofs.ReadCodes.{says_at, same_column, fence_read, CodeOpen, code_read}
 use Rattle.tocmark_block_laws.proofs.Codes.{Fed, Taken as LineTaken, lines_fed}
@@ -274,7 +276,14 @@ paragraph_line text fuel at again whole l ls f bs ps q qs end number found t ts 
     by (HeadingLine x) None e d leaf m g = stops (HeadingLine x) (start.Heading (heading_later f.spaces x)) e refl refl
     by (FenceLine x) (Some level) e d leaf m g = absurd (level_some f.level level (m refl) d)
     by (FenceLine x) None e d leaf m g = stops (FenceLine x) (start.Fence x) e refl refl
-    by (HtmlLine x) u e d leaf m g = absurd (true≢false (sym leaf))
+    by (HtmlLine x) (Some level) e d leaf m g = absurd (level_some f.level level (m refl) d)
+    by (HtmlLine html.Raw) None e d leaf m g = stops (HtmlLine html.Raw) (start.Html html.Raw) e refl refl
+    by (HtmlLine html.Comment) None e d leaf m g = stops (HtmlLine html.Comment) (start.Html html.Comment) e refl refl
+    by (HtmlLine html.Instruction) None e d leaf m g = stops (HtmlLine html.Instruction) (start.Html html.Instruction) e refl refl
+    by (HtmlLine html.Declaration) None e d leaf m g = stops (HtmlLine html.Declaration) (start.Html html.Declaration) e refl refl
+    by (HtmlLine html.CharacterData) None e d leaf m g = stops (HtmlLine html.CharacterData) (start.Html html.CharacterData) e refl refl
+    by (HtmlLine html.Named) None e d leaf m g = stops (HtmlLine html.Named) (start.Html html.Named) e refl refl
+    by (HtmlLine html.Alone) None e d leaf m g = goes_on (HtmlLine html.Alone) e refl g
     by RuleLine (Some level) e d leaf m g = paragraph_heads text fuel at again whole l ls f bs ps q qs end number found t ts level h o facts
     by RuleLine None e d leaf m g = stops RuleLine start.Rule e refl refl
     by (ItemLine x) u e d leaf m g = absurd (true≢false (sym leaf))
@@ -319,6 +328,10 @@ begins_code p false true e = (refl, refl)
 begins_code p false false e =
     let c : List Cell = cells (ink p) in
     absurd (near_code p (begins_with 62 (ink p)) (heading_at c 0) (fence_at c (first_cursor c)) (html_if (begins_with 60 (ink p)) (ink p)) (is_rule c (tail_of c) 0) (marker_at c 0) e)
+
+begins_html : (p : Part) (blank far : Bool) (k : HtmlKind) → beginning_of p blank far ≡ HtmlLine k → blank ≡ false
+begins_html p true far k e = absurd cc
+begins_html p false far k e = refl
 
 -- a line where nothing is open
 line_read : (text : List ℕ) (fuel at : ℕ) → Goal text fuel → (l : Line) (ls : List Line) (f : Facts text l) (bs : List ReadBlock) (ps : List Piece) (end number kept : ℕ) (found : Blocks) → Holds text bs ps found → length ps + suc (length ls) + 1 < 2 ^ 64 → length ls ≤ fuel → AllByRecursion (Facts text) ls
@@ -419,6 +432,16 @@ line_read text fuel at again l ls f bs ps end number kept found h room few facts
         t : LineTaken text l f.columns (plus 0 4)
         t = same_column text l f.columns (plus 0 4) (min 4 f.spaces) same_four (f.code.taken (f.fed fed) (min 4 f.spaces) (omega arith))
 
+    marked_up : (x : HtmlKind) → f.kind ≡ HtmlLine x → ends_with_feed text ≡ true → Ends text (final text (begun (start.Html x)) ls) found (from_there fuel at (dl ∷ rest) (html_block at x (dl ∷ rest)))
+    marked_up x e fed =
+        subst (λ (s : State). Ends text (final text s ls) found (from_there fuel at (dl ∷ rest) (html_block at x (dl ∷ rest))))
+        (sym (html_comes text f.columns l f.spaces x bs ps end number kept
+        ∙ ap (λ xs. code_taken text f.columns 0 l (leaf_page (leaf.Html x) kind.Html bs (length ps) xs (length xs) (cell_place f.columns 0 l.end) l.end l.number)) (sym (append-nil ps))))
+        (html_next text fuel at again x [] l ls bs ps [] (cell_place f.columns 0 l.end) l.end l.number found h
+        (record { past = tt; says = refl; room = omega (arith, room) }) few f facts fed
+        (λ q. begins_html (part_of (bytes_between text l.start l.end)) (is_blank (bytes_between text l.start l.end)) (nat_le 4 (indent (part_of (bytes_between text l.start l.end)))) x (f.begins ∙ e))
+        (λ p more. html_read text fuel at again x (dl ∷ []) ls bs ps (p ∷ []) (cell_place f.columns 0 l.end) l.end l.number found h more few facts fed))
+
     by : (k : Beginning) → f.kind ≡ k → is_leaf (ends_with_feed text) k ≡ true → Ends text (final text (begun (start_as f.spaces false f.level k)) ls) found (from_there fuel at (dl ∷ rest) (first_block inner at dl rest k))
     by BlankLine e leaf =
         subst (λ (s : State). Ends text (final text s ls) found (blocks_from fuel (at + 1) rest)) (sym (blank_passes text f.columns l f.spaces bs ps end number kept))
@@ -427,7 +450,8 @@ line_read text fuel at again l ls f bs ps end number kept found h room few facts
     by QuoteLine e leaf = absurd (true≢false (sym leaf))
     by (HeadingLine x) e leaf = headed x e
     by (FenceLine x) e leaf = fenced x e leaf
-    by (HtmlLine x) e leaf = absurd (true≢false (sym leaf))
+    by (HtmlLine x) e leaf =
+        subst (λ (o : Option HtmlKind). Ends text (final text (begun (html_start o)) ls) found (from_there fuel at (dl ∷ rest) (html_block at x (dl ∷ rest)))) (sym (interrupts_first x)) (marked_up x e leaf)
     by RuleLine e leaf =
         subst (λ (s : State). Ends text (final text s ls) found (ended Rule at at ∷ blocks_from fuel (at + 1) rest)) (sym (rule_comes text f.columns l f.spaces bs ps end number kept))
         (ends_cons text (final text (closed (bs ++ b ∷ []) ps l.end l.number (length ps)) ls) found (ended Rule at at) (blocks_from fuel (at + 1) rest) (λ y. refl) refl

@@ -62,10 +62,10 @@ while_stops : {A : Type 0} (p : A → Bool) (y : A) (ys : List A) → p y ≡ fa
 while_stops p y ys e = take_while-cons p y ys ∙ ap (λ k. cond k (y ∷ take_while p ys) []) e
 
 -- the front that passes is the whole list, or ends before one that doesn't
-while_whole : {A : Type 0} (p : A → Bool) (xs : List A) → Pass p xs → take_while p (xs ++ []) ≡ xs
+pub while_whole : {A : Type 0} (p : A → Bool) (xs : List A) → Pass p xs → take_while p (xs ++ []) ≡ xs
 while_whole p xs h = while_append p xs [] h ∙ append-nil xs
 
-while_front : {A : Type 0} (p : A → Bool) (xs : List A) (y : A) (ys : List A) → Pass p xs → p y ≡ false → take_while p (xs ++ y ∷ ys) ≡ xs
+pub while_front : {A : Type 0} (p : A → Bool) (xs : List A) (y : A) (ys : List A) → Pass p xs → p y ≡ false → take_while p (xs ++ y ∷ ys) ≡ xs
 while_front p xs y ys h e = while_append p xs (y ∷ ys) h ∙ ap (λ zs. xs ++ zs) (while_stops p y ys e) ∙ append-nil xs
 
 drop_past : {A : Type 0} (x : A) (xs ys : List A) → drop (length xs + 1) (x ∷ (xs ++ ys)) ≡ ys

@@ -5,7 +5,7 @@ use Rattle.tocmark_read_scan.specs.declared.syntax.TheConstants.{CORE}
 use Rattle.tocmark_read_blocks.specs.Blocks.{BlocksView, blocks_in}
 use Rattle.tocmark_commonmark.specs.Lines.{Line, line_ink, lines_of}
 use Rattle.tocmark_commonmark.specs.Tree.{Blocks, defined}
-use Rattle.tocmark_commonmark.specs.Beginnings.{Beginning, BlankLine, CodeLine, HeadingLine, FenceLine, RuleLine, TextLine, beginning, begins_with}
+use Rattle.tocmark_commonmark.specs.Beginnings.{Beginning, BlankLine, CodeLine, HeadingLine, FenceLine, HtmlLine, RuleLine, TextLine, beginning, begins_with}
 use Rattle.tocmark_commonmark.specs.Blocks.{blocks_of}
 use Rattle.tocmark_block_laws.specs.Trees.{told, read_tree}
 
@@ -30,12 +30,13 @@ IsPlain text = list_any is_special text ≡ false
 abbrev pub ends_with_feed : List ℕ → Bool
 ends_with_feed text = begins_with 10 (reverse text)
 
--- a line that begins no quote, no item and no HTML; code only if the text ends with a line feed
+-- a line that begins no quote and no item; code and HTML only if the text ends with a line feed
 abbrev pub is_leaf : Bool → Beginning → Bool
 is_leaf fed BlankLine = true
 is_leaf fed CodeLine = fed
 is_leaf fed (HeadingLine h) = true
 is_leaf fed (FenceLine f) = fed
+is_leaf fed (HtmlLine k) = fed
 is_leaf fed RuleLine = true
 is_leaf fed TextLine = true
 is_leaf fed b = false

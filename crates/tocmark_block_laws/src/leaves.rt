@@ -2,8 +2,9 @@
 
 ghost use Rattle.tocmark_block_laws.specs.Leaves.{LeavesAreDeclared};
 
-/// The blocks of a text whose lines are blank, thematic breaks or paragraphs' are those that CommonMark declares (4.1, 4.3, 4.8
-/// and 4.9).
+/// The blocks of a text of leaf blocks are those that CommonMark declares (chapter 4, without definitions of links). No line of
+/// the text begins a quote or an item, or begins with `[`. It has no tab, no carriage return and no U+0000. If a line begins code
+/// or HTML, the text ends with a line feed.
 pub fn leaves_are_declared()
     ensures { LeavesAreDeclared }
 {}
