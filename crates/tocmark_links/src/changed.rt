@@ -1,0 +1,417 @@
+//! Texts with new destinations, new words of a heading, or new contents.
+//!
+//! Each new text is the old one with other bytes in some places. The reader then compares both texts: whatever isn't meant to
+//! change says the same in both, or else there is no new text but a fault.
+
+use crate::anchors::{Anchor, AnchorKind};
+use crate::page::{LinkKind, Page, READER};
+use crate::slug::Slugs;
+use std::alloc::{AllocError, AllocFailed, Global};
+use thiserror::Error;
+use tocmark_event::event::{CowStr, Event, ParserOptions, Tag, TagEnd};
+use tocmark_event::reader::{Reader, Reading};
+use tocmark_read_scan::basic::byte_at;
+use tocmark_read_tokens::reference::unescaped;
+use tocmark_reader::Names;
+
+/// Why a text isn't changed.
+#[derive(Debug, Drop, Error)]
+pub enum Fault {
+    /// Memory ran out.
+    #[error("out of memory")]
+    OutOfMemory,
+    /// What stands in this line can't be changed without changing what the text says elsewhere, or its place isn't found.
+    #[error("line {line}: changing this would change what else the page says")]
+    Misread {
+        /// The line, from 1 on.
+        line: usize,
+    },
+    /// The new words of a heading are empty, or have several lines.
+    #[error("a heading's words stand in one line")]
+    NoWords,
+    /// There is no `<!-- toc -->` with a `<!-- tocstop -->` after it.
+    #[error("there is no <!-- toc --> with a <!-- tocstop --> after it")]
+    NoContents,
+}
+
+impl From<AllocError> for Fault {
+    fn from(_error: AllocError) -> Fault {
+        Fault::OutOfMemory
+    }
+}
+
+impl<T: Drop> From<AllocFailed<T>> for Fault {
+    fn from(_error: AllocFailed<T>) -> Fault {
+        Fault::OutOfMemory
+    }
+}
+
+/// New bytes for a place of a text.
+#[derive(Drop)]
+struct Edit {
+    start: usize,
+    end: usize,
+    new: String,
+}
+
+/// A text with other bytes in these places, which lie one after the other. `None`: they don't.
+fn spliced(alloc: Global, text: &str, edits: &[Edit]) -> Result<Option<String>, AllocError> {
+    let mut new = String::new(alloc);
+    let mut at = 0;
+    for edit in edits {
+        let Some(kept) = text.get(at..edit.start) else {
+            return Ok(None);
+        };
+        new.push_str(kept)?;
+        new.push_str(edit.new.as_str())?;
+        at = edit.end;
+    }
+    let Some(kept) = text.get(at..) else {
+        return Ok(None);
+    };
+    new.push_str(kept)?;
+    Ok(Some(new))
+}
+
+/// A destination with a backslash before each mark.
+fn with_backslashes(alloc: Global, destination: &str) -> Result<String, AllocError> {
+    let mut text = String::new(alloc);
+    for c in destination.chars() {
+        if matches!(c, '\\' | '&' | '<' | '>' | '(' | ')') {
+            text.push('\\')?;
+        }
+        text.push(c)?;
+    }
+    Ok(text)
+}
+
+/// Whether a destination can stand without `<` and `>`.
+fn is_bare(destination: &str) -> bool {
+    !destination.is_empty()
+        && destination
+            .bytes()
+            .all(|b| b > b' ' && !matches!(b, b'<' | b'(' | b')' | 0x7f))
+}
+
+/// A destination as Markdown spells it, with `<` and `>` if it needs them.
+fn spelled(alloc: Global, destination: &str, has_brackets: bool) -> Result<String, AllocError> {
+    let read = unescaped(alloc, Names::All, destination.as_bytes())?;
+    let has_marks = has_brackets && (destination.contains('<') || destination.contains('>'));
+    let is_same = read.as_slice() == destination.as_bytes() && !has_marks;
+    let text = if is_same {
+        String::from_str(alloc, destination)?
+    } else {
+        with_backslashes(alloc, destination)?
+    };
+    if has_brackets || !is_bare(destination) {
+        return format!(in alloc; "<{text}>");
+    }
+    Ok(text)
+}
+
+/// A destination as a value of HTML.
+fn spelled_in_html(alloc: Global, destination: &str) -> Result<String, AllocError> {
+    let text = destination.replace(alloc, "&", "&amp;")?;
+    text.as_str().replace(alloc, "\"", "&quot;")
+}
+
+/// The bytes that a link's new destination needs, in its place.
+fn edit_of(
+    alloc: Global,
+    text: &str,
+    page: &Page,
+    change: &(usize, String),
+) -> Result<Edit, Fault> {
+    let (number, destination) = change;
+    let Some(link) = page.links.get(*number) else {
+        return Err(Fault::Misread { line: 1 });
+    };
+    let Some((start, end)) = link.place else {
+        return Err(Fault::Misread { line: link.line });
+    };
+    let new = if link.kind == LinkKind::Html {
+        spelled_in_html(alloc, destination.as_str())?
+    } else {
+        let has_brackets = byte_at(text.as_bytes(), start) == b'<' && end > start;
+        spelled(alloc, destination.as_str(), has_brackets)?
+    };
+    Ok(Edit { start, end, new })
+}
+
+/// Takes away where a link leads, and all HTML: what remains is what new destinations don't change.
+fn blank(event: &mut Event<'static>) {
+    match event {
+        Event::Start(Tag::Link { dest_url, .. }) => *dest_url = CowStr::Borrowed(""),
+        Event::Start(Tag::Image { dest_url, .. }) => *dest_url = CowStr::Borrowed(""),
+        Event::Html(html) => *html = CowStr::Borrowed(""),
+        Event::InlineHtml(html) => *html = CowStr::Borrowed(""),
+        _ => {}
+    }
+}
+
+/// What the reader finds in a text, without destinations and HTML.
+fn blanked(alloc: Global, text: &str, flags: ParserOptions) -> Result<Reading, AllocError> {
+    let mut found = READER.read(alloc, text, flags)?;
+    for (event, _) in &mut found.events {
+        blank(event);
+    }
+    Ok(found)
+}
+
+/// The byte where two readings first differ; `None` if they have the same events.
+fn first_difference(one: &Reading, other: &Reading) -> Option<usize> {
+    for ((event, range), (other_event, _)) in one.events.iter().zip(&other.events) {
+        if *event != *other_event {
+            return Some(range.0);
+        }
+    }
+    if one.events.len() != other.events.len() {
+        return Some(0);
+    }
+    None
+}
+
+/// The line of a byte, from 1 on.
+fn line_of(text: &str, at: usize) -> usize {
+    let front = text.as_bytes().get(..at).unwrap_or(&[]);
+    front
+        .iter()
+        .filter(|byte| **byte == b'\n')
+        .count()
+        .saturating_add(1)
+}
+
+/// The line of a link of the old page that doesn't lead where it is to lead in the new one.
+fn first_astray(
+    alloc: Global,
+    old: &Page,
+    new: &Page,
+    changes: &[(usize, String)],
+) -> Result<Option<usize>, AllocError> {
+    let mut wanted = Vec::with_capacity(alloc, old.links.len())?;
+    for link in &old.links {
+        wanted.push(link.destination.as_str())?;
+    }
+    for (number, destination) in changes {
+        if let Some(place) = wanted.get_mut(*number) {
+            *place = destination.as_str();
+        }
+    }
+    for (number, link) in old.links.iter().enumerate() {
+        let is_led = match (new.links.get(number), wanted.get(number)) {
+            (Some(found), Some(wanted)) => {
+                found.kind == link.kind && found.destination.as_str() == *wanted
+            }
+            _ => false,
+        };
+        if !is_led {
+            return Ok(Some(link.line));
+        }
+    }
+    Ok(None)
+}
+
+/// The text in which some links of its page lead elsewhere: each change names a link of `page.links` by its index.
+///
+/// `page` is the page of this text under these flags. The reader finds the same events in the new text, but for destinations
+/// and HTML, and each link leads where it is to lead. Only bytes of these links' destinations differ. Definitions are changed in
+/// their place, and so all links by their label lead elsewhere, too.
+///
+/// It fails if memory runs out, or if there is no such text: then the fault names the line.
+pub fn with_destinations(
+    alloc: Global,
+    text: &str,
+    flags: ParserOptions,
+    page: &Page,
+    changes: &[(usize, String)],
+) -> Result<String, Fault> {
+    let mut edits = Vec::with_capacity(alloc, changes.len())?;
+    for change in changes {
+        edits.push(edit_of(alloc, text, page, change)?)?;
+    }
+    edits.sort_by_key(|edit| edit.start)?;
+    let first = edits.first().map_or(0, |edit| edit.start);
+    let Some(new) = spliced(alloc, text, &edits)? else {
+        return Err(Fault::Misread {
+            line: line_of(text, first),
+        });
+    };
+    let before = blanked(alloc, text, flags)?;
+    let after = blanked(alloc, new.as_str(), flags)?;
+    if let Some(at) = first_difference(&before, &after) {
+        return Err(Fault::Misread {
+            line: line_of(text, at),
+        });
+    }
+    let found = Page::read(alloc, new.as_str(), flags, Slugs::GitHub)?;
+    if let Some(line) = first_astray(alloc, page, &found, changes)? {
+        return Err(Fault::Misread { line });
+    }
+    Ok(new)
+}
+
+/// Takes out the events within a heading: the one of this number, from 0 on.
+fn without_heading(
+    alloc: Global,
+    found: Reading,
+    number: usize,
+) -> Result<Vec<Event<'static>>, AllocError> {
+    let mut rest = Vec::with_capacity(alloc, found.events.len())?;
+    let mut headings = 0usize;
+    let mut is_within = false;
+    for (event, _) in found.events {
+        if let Event::End(TagEnd::Heading(_)) = event {
+            is_within = false;
+        }
+        let begins = matches!(event, Event::Start(Tag::Heading { .. }));
+        if !is_within {
+            rest.push(event)?;
+        }
+        if begins {
+            is_within = headings == number;
+            headings = headings.saturating_add(1);
+        }
+    }
+    Ok(rest)
+}
+
+/// The number of the heading whose words begin at a byte.
+fn heading_number(found: &Reading, at: usize) -> usize {
+    let mut number = 0usize;
+    for (event, range) in &found.events {
+        if matches!(event, Event::Start(Tag::Heading { .. })) && range.1 <= at {
+            number = number.saturating_add(1);
+        }
+    }
+    number
+}
+
+/// The text in which a heading has other words; `heading` is its anchor in the text's page.
+///
+/// The words are Markdown in one line. The reader finds the same events before and after the heading. An anchor that is written
+/// after the words stays. It fails if memory runs out, if the words are empty or have several lines, or if there is no such
+/// text: then the fault names the line.
+pub fn with_heading(
+    alloc: Global,
+    text: &str,
+    flags: ParserOptions,
+    heading: &Anchor,
+    words: &str,
+) -> Result<String, Fault> {
+    let words = words.trim();
+    if words.is_empty() || words.contains('\n') || words.contains('\r') {
+        return Err(Fault::NoWords);
+    }
+    let line = heading.line;
+    let Some((start, end)) = heading.place else {
+        return Err(Fault::Misread { line });
+    };
+    let mut edits = Vec::new(alloc);
+    edits.push(Edit {
+        start,
+        end,
+        new: String::from_str(alloc, words)?,
+    })?;
+    let Some(new) = spliced(alloc, text, &edits)? else {
+        return Err(Fault::Misread { line });
+    };
+    let before = READER.read(alloc, text, flags)?;
+    let after = READER.read(alloc, new.as_str(), flags)?;
+    let number = heading_number(&before, start);
+    let kept = without_heading(alloc, before, number)?;
+    let found = without_heading(alloc, after, number)?;
+    if kept.as_slice() != found.as_slice() {
+        return Err(Fault::Misread { line });
+    }
+    Ok(new)
+}
+
+/// The bytes between `<!-- toc -->` and `<!-- tocstop -->`.
+fn contents_place(found: &Reading) -> Option<(usize, usize)> {
+    let mut start = None;
+    for (event, range) in &found.events {
+        if let Event::Html(html) = event {
+            let words = html.as_ref().trim();
+            if words == "<!-- toc -->" && start.is_none() {
+                start = Some(range.1);
+            }
+            if words == "<!-- tocstop -->"
+                && let Some(start) = start
+            {
+                return Some((start, range.0));
+            }
+        }
+    }
+    None
+}
+
+/// Words with a backslash before each mark.
+fn escaped(alloc: Global, words: &str) -> Result<String, AllocError> {
+    let mut text = String::new(alloc);
+    for c in words.chars() {
+        if matches!(
+            c,
+            '\\' | '`' | '*' | '_' | '[' | ']' | '<' | '&' | '~' | '$' | '!' | '^' | '|'
+        ) {
+            text.push('\\')?;
+        }
+        text.push(c)?;
+    }
+    Ok(text)
+}
+
+/// A list of headings, each under the one before it that has fewer `#`.
+fn contents(alloc: Global, page: &Page, after: usize) -> Result<String, AllocError> {
+    let mut list = String::new(alloc);
+    let mut levels: Vec<usize> = Vec::new(alloc);
+    for anchor in &page.anchors {
+        let is_listed = match anchor.place {
+            Some((start, _)) => anchor.kind != AnchorKind::Html && start >= after,
+            None => false,
+        };
+        if is_listed {
+            while let Some(level) = levels.pop() {
+                if level < anchor.level {
+                    levels.push(level)?;
+                    break;
+                }
+            }
+            for _ in &levels {
+                list.push_str("  ")?;
+            }
+            levels.push(anchor.level)?;
+            let words = escaped(alloc, anchor.words.as_str())?;
+            let destination = format!(in alloc; "#{}", anchor.name)?;
+            let destination = spelled(alloc, destination.as_str(), false)?;
+            list.push_str(format!(in alloc; "- [{words}]({destination})\n")?.as_str())?;
+        }
+    }
+    Ok(list)
+}
+
+/// The text with a list of links to the headings after it, between a line `<!-- toc -->` and a line `<!-- tocstop -->`.
+///
+/// The events before and after these lines stay. It fails if memory runs out, or if there are no such lines.
+pub fn with_contents(
+    alloc: Global,
+    text: &str,
+    flags: ParserOptions,
+    slugs: Slugs,
+) -> Result<String, Fault> {
+    let before = READER.read(alloc, text, flags)?;
+    let Some((start, end)) = contents_place(&before) else {
+        return Err(Fault::NoContents);
+    };
+    let page = Page::read(alloc, text, flags, slugs)?;
+    let list = contents(alloc, &page, end)?;
+    let mut edits = Vec::new(alloc);
+    edits.push(Edit {
+        start,
+        end,
+        new: format!(in alloc; "\n{list}\n")?,
+    })?;
+    let Some(new) = spliced(alloc, text, &edits)? else {
+        return Err(Fault::NoContents);
+    };
+    Ok(new)
+}

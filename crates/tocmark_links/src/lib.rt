@@ -1,0 +1,27 @@
+//! Links of Markdown files: where they lead, and how they change so that they still lead there.
+//!
+//! The crate reads no file: paths and texts are values. A path is relative to the root of a tree of files, its parts are joined
+//! by `/`, and none of them is empty, `.` or `..`. The empty path is the root.
+//!
+//! `page` finds the links and anchors of a text. `tree` is the index of all files, and says where a link leads. `moved` says
+//! which destination a link needs after a move. `changed` puts new destinations, words or contents into a text, and compares
+//! what the reader finds before and after. `paths`, `destination` and `slug` are the rules below them; `html` finds the
+//! attributes of HTML, `anchors` numbers headings.
+#![tactic(auto)]
+
+pub mod anchors;
+pub mod changed;
+pub mod destination;
+mod html;
+pub mod moved;
+pub mod page;
+pub mod paths;
+pub mod slug;
+pub mod tree;
+
+pub use anchors::{Anchor, AnchorKind};
+pub use changed::{Fault, with_contents, with_destinations, with_heading};
+pub use moved::{Moves, relocated};
+pub use page::{Link, LinkKind, Page};
+pub use slug::Slugs;
+pub use tree::{Led, Tree};

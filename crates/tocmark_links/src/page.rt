@@ -1,0 +1,524 @@
+//! What one Markdown text has: its links and its anchors.
+
+use crate::anchors::{Anchor, AnchorKind, Numbering};
+use crate::html::{Value, values};
+use crate::slug::Slugs;
+use std::alloc::{AllocError, Global};
+use tocmark_event::event::{Event, HeadingLevel, LinkType, ParserOptions, Tag, TagEnd};
+use tocmark_event::reader::Reading;
+use tocmark_read_scan::basic::{byte_at, bytes_between, starts_at};
+use tocmark_read_scan::class::{Class, run_end};
+use tocmark_read_tokens::reference::unescaped;
+use tocmark_read_tokens::word::destination;
+use tocmark_reader::{ExtendedReader, Names, ReferenceDefinition};
+
+/// The reader of all pages.
+pub(crate) const READER: ExtendedReader = ExtendedReader { names: Names::All };
+
+/// What a link is in its text.
+#[derive(Clone, Copy, Debug, PartialEq, Eq)]
+pub enum LinkKind {
+    /// `[text](destination)`
+    Inline,
+    /// `![text](destination)`
+    Image,
+    /// `[label]: destination`
+    Definition,
+    /// `href` or `src` of HTML.
+    Html,
+}
+
+/// A link of a page. Autolinks, such as `<https://example.org>`, are none.
+#[derive(Debug, Drop)]
+pub struct Link {
+    pub kind: LinkKind,
+    /// Where it leads, without escapes and character references.
+    pub destination: String,
+    /// The bytes of its destination in the text, with `<` and `>` if it has them; `None`, if that place isn't found, as for a
+    /// destination on another line of a quote than its link's text.
+    pub place: Option<(usize, usize)>,
+    /// The line of the text where it begins, from 1 on.
+    pub line: usize,
+    /// The character of that line where it begins, from 1 on.
+    pub column: usize,
+}
+
+/// The links of a text, and its anchors, in their order.
+#[derive(Debug, Drop)]
+pub struct Page {
+    pub links: Vec<Link>,
+    pub anchors: Vec<Anchor>,
+}
+
+/// A link that is open.
+#[derive(Drop)]
+struct OpenLink {
+    kind: LinkKind,
+    destination: String,
+    is_inline: bool,
+    start: usize,
+}
+
+/// A link without its line.
+#[derive(Drop)]
+struct FoundLink {
+    kind: LinkKind,
+    destination: String,
+    place: Option<(usize, usize)>,
+    start: usize,
+}
+
+/// The heading that is open.
+#[derive(Drop)]
+struct OpenHeading {
+    level: usize,
+    id: Option<String>,
+    words: String,
+    /// The first byte of its words, and the one after the last.
+    place: Option<(usize, usize)>,
+}
+
+/// Collects links and anchors from events.
+#[derive(Drop)]
+struct Collecting<'t> {
+    alloc: Global,
+    text: &'t str,
+    links: Vec<FoundLink>,
+    anchors: Vec<Anchor>,
+    numbering: Numbering,
+    open_links: Vec<OpenLink>,
+    open_images: usize,
+    heading: Option<OpenHeading>,
+    /// Where the last event ends.
+    end: usize,
+}
+
+/// How many `#` a heading of this level has.
+fn number_of(level: HeadingLevel) -> usize {
+    match level {
+        HeadingLevel::H1 => 1,
+        HeadingLevel::H2 => 2,
+        HeadingLevel::H3 => 3,
+        HeadingLevel::H4 => 4,
+        HeadingLevel::H5 => 5,
+        HeadingLevel::H6 => 6,
+    }
+}
+
+/// The place of the destination of an inline link, whose text ends at a byte: after the next `](`.
+fn destination_place(bytes: &[u8], from: usize, end: usize) -> Option<(usize, usize)> {
+    for at in from..end {
+        if starts_at(bytes, at, b"](") {
+            let start = run_end(bytes, at.saturating_add(2), Class::White);
+            let word = destination(bytes, start)?;
+            return Some((start, word.next));
+        }
+    }
+    None
+}
+
+/// The bytes of a destination without `<` and `>`.
+pub(crate) fn without_brackets(bytes: &[u8], place: (usize, usize)) -> (usize, usize) {
+    let (start, end) = place;
+    if byte_at(bytes, start) == b'<' && end > start {
+        (start.saturating_add(1), end.saturating_sub(1))
+    } else {
+        place
+    }
+}
+
+/// A place whose bytes stand for a destination; otherwise none.
+fn checked_place(
+    alloc: Global,
+    bytes: &[u8],
+    place: Option<(usize, usize)>,
+    destination: &str,
+) -> Result<Option<(usize, usize)>, AllocError> {
+    let Some(place) = place else {
+        return Ok(None);
+    };
+    let (start, end) = without_brackets(bytes, place);
+    let found = unescaped(alloc, Names::All, bytes_between(bytes, start, end))?;
+    if found.as_slice() == destination.as_bytes() {
+        Ok(Some(place))
+    } else {
+        Ok(None)
+    }
+}
+
+/// The words of a heading before `{#id}` or `{: #id}`, and that id.
+fn named(words: &str) -> Option<(&str, &str)> {
+    let front = words.trim_end().strip_suffix('}')?;
+    let (words, braces) = front.rsplit_once('{')?;
+    if braces.contains('}') {
+        return None;
+    }
+    let braces = braces.strip_prefix(':').unwrap_or(braces);
+    for word in braces.split_whitespace() {
+        if let Some(id) = word.strip_prefix('#')
+            && !id.is_empty()
+        {
+            return Some((words, id));
+        }
+    }
+    None
+}
+
+impl<'t> Collecting<'t> {
+    fn new(alloc: Global, text: &'t str, slugs: Slugs) -> Collecting<'t> {
+        Collecting {
+            alloc,
+            text,
+            links: Vec::new(alloc),
+            anchors: Vec::new(alloc),
+            numbering: Numbering::new(alloc, slugs),
+            open_links: Vec::new(alloc),
+            open_images: 0,
+            heading: None,
+            end: 0,
+        }
+    }
+
+    fn add_definitions(&mut self, definitions: &[ReferenceDefinition]) -> Result<(), AllocError> {
+        for definition in definitions {
+            self.links.push(FoundLink {
+                kind: LinkKind::Definition,
+                destination: definition.destination.clone()?,
+                place: Some(definition.place.destination),
+                start: definition.place.whole.0,
+            })?;
+        }
+        Ok(())
+    }
+
+    /// Takes the HTML between two bytes.
+    fn add_html(&mut self, start: usize, end: usize) -> Result<(), AllocError> {
+        let found = values(self.alloc, self.text.as_bytes(), start, end)?;
+        for value in &found {
+            self.add_value(*value)?;
+        }
+        Ok(())
+    }
+
+    fn add_value(&mut self, value: Value) -> Result<(), AllocError> {
+        let place = (value.start, value.end);
+        let written = self.text.get(value.start..value.end).unwrap_or("");
+        let text = written.replace(self.alloc, "&quot;", "\"")?;
+        let text = text.as_str().replace(self.alloc, "&amp;", "&")?;
+        if value.leads {
+            self.links.push(FoundLink {
+                kind: LinkKind::Html,
+                destination: text,
+                place: Some(place),
+                start: value.start,
+            })?;
+        } else {
+            self.anchors.push(Anchor {
+                kind: AnchorKind::Html,
+                name: text,
+                words: String::new(self.alloc),
+                level: 0,
+                place: None,
+                line: value.start,
+            })?;
+        }
+        Ok(())
+    }
+
+    fn open_link(
+        &mut self,
+        kind: LinkKind,
+        link_type: LinkType,
+        destination: &str,
+        start: usize,
+    ) -> Result<(), AllocError> {
+        let destination = String::from_str(self.alloc, destination)?;
+        self.open_links.push(OpenLink {
+            kind,
+            destination,
+            is_inline: link_type == LinkType::Inline,
+            start,
+        })?;
+        Ok(())
+    }
+
+    fn close_link(&mut self, end: usize) -> Result<(), AllocError> {
+        let Some(link) = self.open_links.pop() else {
+            return Ok(());
+        };
+        let OpenLink {
+            kind,
+            destination,
+            is_inline,
+            start,
+        } = link;
+        if is_inline {
+            let bytes = self.text.as_bytes();
+            let place = destination_place(bytes, self.end.max(start), end);
+            let place = checked_place(self.alloc, bytes, place, destination.as_str())?;
+            self.links.push(FoundLink {
+                kind,
+                destination,
+                place,
+                start,
+            })?;
+        }
+        Ok(())
+    }
+
+    fn open_heading(&mut self, level: HeadingLevel, id: Option<&str>) -> Result<(), AllocError> {
+        let id = match id {
+            None => None,
+            Some(id) => Some(String::from_str(self.alloc, id)?),
+        };
+        self.heading = Some(OpenHeading {
+            level: number_of(level),
+            id,
+            words: String::new(self.alloc),
+            place: None,
+        });
+        Ok(())
+    }
+
+    fn close_heading(&mut self, start: usize) -> Result<(), AllocError> {
+        let Some(heading) = self.heading.take() else {
+            return Ok(());
+        };
+        let OpenHeading {
+            level,
+            id,
+            words,
+            mut place,
+        } = heading;
+        let mut plain = words.as_str();
+        let mut own = None;
+        if let Some(id) = &id {
+            own = Some(id.as_str());
+        } else if let Some((before, id)) = named(words.as_str()) {
+            plain = before;
+            own = Some(id);
+            place = self.before_brace(place);
+        }
+        let words = String::from_str(self.alloc, plain.trim())?;
+        let (kind, name) = match own {
+            None => (AnchorKind::Heading, self.numbering.next(words.as_str())?),
+            Some(id) => {
+                self.numbering.take(id)?;
+                (AnchorKind::Named, String::from_str(self.alloc, id)?)
+            }
+        };
+        self.anchors.push(Anchor {
+            kind,
+            name,
+            words,
+            level,
+            place,
+            line: start,
+        })?;
+        Ok(())
+    }
+
+    /// A place without what begins with its last brace.
+    fn before_brace(&self, place: Option<(usize, usize)>) -> Option<(usize, usize)> {
+        let (start, end) = place?;
+        let (front, _) = self.text.get(start..end)?.rsplit_once('{')?;
+        Some((start, start.saturating_add(front.trim_end().len())))
+    }
+
+    /// Adds words to the heading that is open.
+    fn add_words(&mut self, words: &str) -> Result<(), AllocError> {
+        if self.open_images == 0
+            && let Some(heading) = &mut self.heading
+        {
+            heading.words.push_str(words)?;
+        }
+        Ok(())
+    }
+
+    /// Notes that an event in the open heading has these bytes.
+    fn widen(&mut self, start: usize, end: usize) {
+        if let Some(heading) = &mut self.heading {
+            heading.place = match heading.place {
+                None => Some((start, end)),
+                Some((first, last)) => Some((first, last.max(end))),
+            };
+        }
+    }
+
+    fn start(&mut self, tag: &Tag<'_>, range: (usize, usize)) -> Result<(), AllocError> {
+        let (start, end) = range;
+        match tag {
+            Tag::Heading { level, id, .. } => {
+                let id = match id {
+                    None => None,
+                    Some(id) => Some(id.as_ref()),
+                };
+                self.open_heading(*level, id)?;
+            }
+            Tag::Link {
+                link_type,
+                dest_url,
+                ..
+            } => {
+                self.widen(start, end);
+                self.open_link(LinkKind::Inline, *link_type, dest_url.as_ref(), start)?;
+                self.end = start.saturating_add(1);
+            }
+            Tag::Image {
+                link_type,
+                dest_url,
+                ..
+            } => {
+                self.widen(start, end);
+                self.open_images = self.open_images.saturating_add(1);
+                self.open_link(LinkKind::Image, *link_type, dest_url.as_ref(), start)?;
+                self.end = start.saturating_add(2);
+            }
+            Tag::HtmlBlock => self.add_html(start, end)?,
+            _ => self.widen(start, end),
+        }
+        Ok(())
+    }
+
+    fn end(&mut self, tag: TagEnd, range: (usize, usize)) -> Result<(), AllocError> {
+        match tag {
+            TagEnd::Heading(_) => self.close_heading(range.0)?,
+            TagEnd::Link => self.close_link(range.1)?,
+            TagEnd::Image => {
+                self.close_link(range.1)?;
+                self.open_images = self.open_images.saturating_sub(1);
+            }
+            _ => {}
+        }
+        self.end = range.1;
+        Ok(())
+    }
+
+    fn leaf(&mut self, event: &Event<'_>, range: (usize, usize)) -> Result<(), AllocError> {
+        self.widen(range.0, range.1);
+        match event {
+            Event::Text(text) | Event::Code(text) | Event::InlineMath(text) => {
+                self.add_words(text.as_ref())?;
+            }
+            Event::SoftBreak | Event::HardBreak => self.add_words(" ")?,
+            Event::InlineHtml(_) => self.add_html(range.0, range.1)?,
+            _ => {}
+        }
+        self.end = range.1;
+        Ok(())
+    }
+
+    fn event(&mut self, event: &Event<'_>, range: (usize, usize)) -> Result<(), AllocError> {
+        match event {
+            Event::Start(tag) => self.start(tag, range),
+            Event::End(tag) => self.end(*tag, range),
+            _ => self.leaf(event, range),
+        }
+    }
+
+    fn events(&mut self, part: &Reading) -> Result<(), AllocError> {
+        for (event, range) in &part.events {
+            self.event(event, *range)?;
+        }
+        Ok(())
+    }
+}
+
+/// A place in a text, that goes forward.
+#[derive(Drop)]
+struct Cursor<'t> {
+    text: &'t str,
+    at: usize,
+    line: usize,
+    column: usize,
+}
+
+impl Cursor<'_> {
+    /// Goes to a byte, unless it lies before this place.
+    fn go(&mut self, to: usize) {
+        for c in self.text.get(self.at..to).unwrap_or("").chars() {
+            if c == '\n' {
+                self.line = self.line.saturating_add(1);
+                self.column = 1;
+            } else {
+                self.column = self.column.saturating_add(1);
+            }
+        }
+        self.at = self.at.max(to);
+    }
+}
+
+/// A cursor at the front of a text.
+fn at_front(text: &str) -> Cursor<'_> {
+    Cursor {
+        text,
+        at: 0,
+        line: 1,
+        column: 1,
+    }
+}
+
+/// Links with their lines, in the order of the text.
+fn with_lines(
+    alloc: Global,
+    text: &str,
+    mut found: Vec<FoundLink>,
+) -> Result<Vec<Link>, AllocError> {
+    found.sort_by_key(|link| link.start)?;
+    let mut cursor = at_front(text);
+    let mut links = Vec::with_capacity(alloc, found.len())?;
+    for link in found {
+        let FoundLink {
+            kind,
+            destination,
+            place,
+            start,
+        } = link;
+        cursor.go(start);
+        links.push(Link {
+            kind,
+            destination,
+            place,
+            line: cursor.line,
+            column: cursor.column,
+        })?;
+    }
+    Ok(links)
+}
+
+impl Page {
+    /// The links and anchors of a text, read under these flags, with the anchors that a site makes.
+    ///
+    /// Links are inline links and images, definitions of links, used or not, and `href` and `src` of HTML. Anchors are those of
+    /// headings, `{#id}` and `{: #id}` after their words, and `id` and `name` of HTML. It fails if memory runs out.
+    ///
+    /// ```
+    /// let page = Page::read(alloc, "# One\n\n[two](b.md#two)\n", flags, Slugs::GitHub)?;
+    /// assert_eq!(rt; page.links[0].destination.as_str(), "b.md#two");
+    /// ```
+    pub fn read(
+        alloc: Global,
+        text: &str,
+        flags: ParserOptions,
+        slugs: Slugs,
+    ) -> Result<Page, AllocError> {
+        let mut collecting = Collecting::new(alloc, text, slugs);
+        let (mut blocks, definitions) = READER.blocks_and_definitions(alloc, text, flags)?;
+        while let Some(part) = blocks.next_events()? {
+            collecting.events(&part)?;
+        }
+        collecting.add_definitions(&definitions)?;
+        let Collecting {
+            links,
+            mut anchors,
+            ..
+        } = collecting;
+        let links = with_lines(alloc, text, links)?;
+        let mut cursor = at_front(text);
+        for anchor in &mut anchors {
+            cursor.go(anchor.line);
+            anchor.line = cursor.line;
+        }
+        Ok(Page { links, anchors })
+    }
+}
