@@ -1,0 +1,4 @@
+pub mod Changed
+pub mod Destinations
+pub mod Paths
+pub mod Slug

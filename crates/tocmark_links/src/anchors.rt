@@ -5,7 +5,7 @@ use std::alloc::{AllocError, Global};
 use std::collections::HashMap;
 
 /// What an anchor comes from.
-#[derive(Clone, Copy, Debug, PartialEq, Eq)]
+#[derive(Clone, Copy, PartialEq, Eq)]
 pub enum AnchorKind {
     /// The words of a heading.
     Heading,
@@ -16,7 +16,7 @@ pub enum AnchorKind {
 }
 
 /// A place that links lead to.
-#[derive(Debug, Drop)]
+#[derive(Drop)]
 pub struct Anchor {
     pub kind: AnchorKind,
     /// What stands after `#` in a link.

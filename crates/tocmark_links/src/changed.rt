@@ -3,16 +3,24 @@
 //! Each new text is the old one with other bytes in some places. The reader then compares both texts: whatever isn't meant to
 //! change says the same in both, or else there is no new text but a fault.
 
+ghost use Rattle.std.specs.Prelude.{◌≡◌, IfNone, IfOk, map, string_bytes};
+ghost use Rattle.tocmark_compare.specs.Given.{given_events};
+ghost use Rattle.tocmark_event.specs.Text.{text_of};
+ghost use Rattle.tocmark_event.specs.View.{event_view, tag_view};
+ghost use Rattle.tocmark_links.specs.Changed.{blank, blank_tag, blanked, SayTheSame};
+
 use crate::anchors::{Anchor, AnchorKind};
 use crate::page::{LinkKind, Page, READER};
 use crate::slug::Slugs;
 use std::alloc::{AllocError, AllocFailed, Global};
 use thiserror::Error;
+use tocmark_compare::event::same_event;
+use tocmark_compare::same::are_same;
 use tocmark_event::event::{CowStr, Event, ParserOptions, Tag, TagEnd};
 use tocmark_event::reader::{Reader, Reading};
 use tocmark_read_scan::basic::byte_at;
 use tocmark_read_tokens::reference::unescaped;
-use tocmark_reader::Names;
+use tocmark_reader::{ExtendedReader, Names};
 
 /// Why a text isn't changed.
 #[derive(Debug, Drop, Error)]
@@ -138,37 +146,75 @@ fn edit_of(
     Ok(Edit { start, end, new })
 }
 
+/// Takes away where a link or an image leads.
+fn blank_tag(tag: &mut Tag<'static>)
+    ensures { tag_view text_of tag.new ≡ blank_tag (tag_view text_of tag.old) }
+{
+    match tag {
+        Tag::Link { dest_url, .. } => *dest_url = CowStr::Borrowed(""),
+        Tag::Image { dest_url, .. } => *dest_url = CowStr::Borrowed(""),
+        _ => {}
+    }
+}
+
 /// Takes away where a link leads, and all HTML: what remains is what new destinations don't change.
-fn blank(event: &mut Event<'static>) {
+fn blank(event: &mut Event<'static>)
+    ensures { event_view text_of event.new ≡ blank (event_view text_of event.old) }
+{
     match event {
-        Event::Start(Tag::Link { dest_url, .. }) => *dest_url = CowStr::Borrowed(""),
-        Event::Start(Tag::Image { dest_url, .. }) => *dest_url = CowStr::Borrowed(""),
+        Event::Start(tag) => blank_tag(tag),
         Event::Html(html) => *html = CowStr::Borrowed(""),
         Event::InlineHtml(html) => *html = CowStr::Borrowed(""),
         _ => {}
     }
 }
 
-/// What the reader finds in a text, without destinations and HTML.
-fn blanked(alloc: Global, text: &str, flags: ParserOptions) -> Result<Reading, AllocError> {
-    let mut found = READER.read(alloc, text, flags)?;
-    for (event, _) in &mut found.events {
+fn blank_all(events: &mut [Found])
+    ensures { given_events events.new ≡ map blank (given_events events.old) }
+{
+    for (event, _range) in events.iter_mut() {
         blank(event);
     }
+}
+
+/// What the reader finds in a text, without destinations and HTML.
+fn blanked(alloc: Global, text: &str, flags: ParserOptions) -> Result<Reading, AllocError>
+    ensures { IfOk result (λ found. given_events found.events.items ≡ blanked flags text.now) }
+{
+    let reader = ExtendedReader { names: Names::All };
+    let mut found = reader.read(alloc, text, flags)?;
+    blank_all(&mut found.events);
     Ok(found)
 }
 
-/// The byte where two readings first differ; `None` if they have the same events.
-fn first_difference(one: &Reading, other: &Reading) -> Option<usize> {
-    for ((event, range), (other_event, _)) in one.events.iter().zip(&other.events) {
-        if *event != *other_event {
-            return Some(range.0);
+/// Whether two texts say the same, whatever their links lead to and their HTML says; if not, from which byte of the first one on.
+fn keeps_all_else(
+    alloc: Global,
+    flags: ParserOptions,
+    text: &str,
+    new: &str,
+) -> Result<Option<usize>, AllocError>
+    ensures { IfOk result (λ at. IfNone at (SayTheSame flags text.now new.now)) }
+{
+    let before = blanked(alloc, text, flags)?;
+    let after = blanked(alloc, new, flags)?;
+    if are_same(alloc, &before.events, &after.events)? {
+        return Ok(None);
+    }
+    Ok(Some(first_difference(&before.events, &after.events)))
+}
+
+/// An event and its bytes.
+type Found = (Event<'static>, (usize, usize));
+
+/// The byte of the first text where two readings first differ; the front, if one only goes on.
+fn first_difference(one: &[Found], other: &[Found]) -> usize {
+    for ((event, range), (other_event, _)) in one.iter().zip(other) {
+        if !same_event(event, other_event) {
+            return range.0;
         }
     }
-    if one.events.len() != other.events.len() {
-        return Some(0);
-    }
-    None
+    0
 }
 
 /// The line of a byte, from 1 on.
@@ -224,21 +270,18 @@ pub fn with_destinations(
     flags: ParserOptions,
     page: &Page,
     changes: &[(usize, String)],
-) -> Result<String, Fault> {
+) -> Result<String, Fault>
+    ensures { IfOk result (λ new. SayTheSame flags text.now (string_bytes new)) }
+{
     let mut edits = Vec::with_capacity(alloc, changes.len())?;
     for change in changes {
         edits.push(edit_of(alloc, text, page, change)?)?;
     }
     edits.sort_by_key(|edit| edit.start)?;
-    let first = edits.first().map_or(0, |edit| edit.start);
     let Some(new) = spliced(alloc, text, &edits)? else {
-        return Err(Fault::Misread {
-            line: line_of(text, first),
-        });
+        return Err(Fault::Misread { line: 1 });
     };
-    let before = blanked(alloc, text, flags)?;
-    let after = blanked(alloc, new.as_str(), flags)?;
-    if let Some(at) = first_difference(&before, &after) {
+    if let Some(at) = keeps_all_else(alloc, flags, text, new.as_str())? {
         return Err(Fault::Misread {
             line: line_of(text, at),
         });
@@ -251,21 +294,17 @@ pub fn with_destinations(
 }
 
 /// Takes out the events within a heading: the one of this number, from 0 on.
-fn without_heading(
-    alloc: Global,
-    found: Reading,
-    number: usize,
-) -> Result<Vec<Event<'static>>, AllocError> {
+fn without_heading(alloc: Global, found: Reading, number: usize) -> Result<Vec<Found>, AllocError> {
     let mut rest = Vec::with_capacity(alloc, found.events.len())?;
     let mut headings = 0usize;
     let mut is_within = false;
-    for (event, _) in found.events {
-        if let Event::End(TagEnd::Heading(_)) = event {
+    for (event, range) in found.events {
+        if let Event::End(TagEnd::Heading(_)) = &event {
             is_within = false;
         }
-        let begins = matches!(event, Event::Start(Tag::Heading { .. }));
+        let begins = matches!(&event, Event::Start(Tag::Heading { .. }));
         if !is_within {
-            rest.push(event)?;
+            rest.push((event, range))?;
         }
         if begins {
             is_within = headings == number;
@@ -320,10 +359,10 @@ pub fn with_heading(
     let number = heading_number(&before, start);
     let kept = without_heading(alloc, before, number)?;
     let found = without_heading(alloc, after, number)?;
-    if kept.as_slice() != found.as_slice() {
-        return Err(Fault::Misread { line });
+    if are_same(alloc, &kept, &found)? {
+        return Ok(new);
     }
-    Ok(new)
+    Err(Fault::Misread { line })
 }
 
 /// The bytes between `<!-- toc -->` and `<!-- tocstop -->`.
@@ -343,6 +382,22 @@ fn contents_place(found: &Reading) -> Option<(usize, usize)> {
         }
     }
     None
+}
+
+/// Takes out the events between two bytes.
+fn without_range(
+    alloc: Global,
+    found: Reading,
+    start: usize,
+    end: usize,
+) -> Result<Vec<Found>, AllocError> {
+    let mut rest = Vec::with_capacity(alloc, found.events.len())?;
+    for (event, range) in found.events {
+        if range.1 <= start || range.0 >= end {
+            rest.push((event, range))?;
+        }
+    }
+    Ok(rest)
 }
 
 /// Words with a backslash before each mark.
@@ -404,6 +459,7 @@ pub fn with_contents(
     };
     let page = Page::read(alloc, text, flags, slugs)?;
     let list = contents(alloc, &page, end)?;
+    let length = list.len().saturating_add(2);
     let mut edits = Vec::new(alloc);
     edits.push(Edit {
         start,
@@ -413,5 +469,13 @@ pub fn with_contents(
     let Some(new) = spliced(alloc, text, &edits)? else {
         return Err(Fault::NoContents);
     };
-    Ok(new)
+    let after = READER.read(alloc, new.as_str(), flags)?;
+    let kept = without_range(alloc, before, start, end)?;
+    let found = without_range(alloc, after, start, start.saturating_add(length))?;
+    if are_same(alloc, &kept, &found)? {
+        return Ok(new);
+    }
+    Err(Fault::Misread {
+        line: line_of(text, start),
+    })
 }

@@ -1,10 +1,13 @@
 //! The parts of a destination: path, query and anchor.
 
+ghost use Rattle.std.specs.Prelude.{◌≡◌, IfOk, string_bytes};
+ghost use Rattle.tocmark_links.specs.Destinations.{decoded};
+
 use percent_encoding::{AsciiSet, NON_ALPHANUMERIC, percent_decode, utf8_percent_encode};
 use std::alloc::{AllocError, Global};
 
 /// A destination in parts, each as it is written.
-#[derive(Clone, Copy, Debug)]
+#[derive(Clone, Copy)]
 pub struct Destination<'d> {
     /// Up to the first `?` or `#`; empty for the page itself.
     pub path: &'d str,
@@ -47,14 +50,13 @@ pub fn is_local(destination: &str) -> bool {
     !destination.is_empty() && !destination.starts_with("//") && !has_scheme(destination)
 }
 
-/// A text without percent signs for bytes; as it is, if that makes no UTF-8.
-pub fn decoded(alloc: Global, text: &str) -> Result<String, AllocError> {
+/// A text with the bytes that percent signs stand for; U+FFFD for each sequence of them that is no UTF-8.
+pub fn decoded(alloc: Global, text: &str) -> Result<String, AllocError>
+    ensures { IfOk result (λ plain. string_bytes plain ≡ decoded text.now) }
+{
     let mut bytes = Vec::new(alloc);
     percent_decode(text.as_bytes()).append_to(&mut bytes)?;
-    match String::from_utf8(bytes) {
-        Ok(decoded) => Ok(decoded),
-        Err(_) => String::from_str(alloc, text),
-    }
+    String::from_utf8_lossy(alloc, &bytes)
 }
 
 /// The bytes that a path is written with a percent sign for.

@@ -6,7 +6,7 @@ use tocmark_read_scan::class::{Class, run_end};
 use tocmark_read_tokens::html::open_tag;
 
 /// The value of an attribute in a text.
-#[derive(Clone, Copy, Debug)]
+#[derive(Clone, Copy)]
 pub struct Value {
     /// Whether it leads somewhere (`href`, `src`), or names a place (`id`, `name`).
     pub leads: bool,

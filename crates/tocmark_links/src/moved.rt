@@ -1,12 +1,15 @@
 //! Which destination a link needs after a file or a folder has moved.
 
+ghost use Rattle.std.specs.Prelude.{IfOk, IfSome, IsTrue, string_bytes};
+ghost use Rattle.tocmark_links.specs.Destinations.{LeadsTo};
+
 use crate::destination::{decoded, encoded, is_local, parts};
 use crate::paths::{folder_and_name, relative, resolved};
-use crate::tree::{Form, Led, Tree};
+use crate::tree::{Form, Tree};
 use std::alloc::{AllocError, Global};
 
 /// A move of a file, or of a folder with all that is in it.
-#[derive(Debug, Drop)]
+#[derive(Drop)]
 pub struct Moves {
     pub old: String,
     pub new: String,
@@ -81,6 +84,58 @@ fn spelled(alloc: Global, old: &str, folder: &str, target: &str) -> Result<Strin
     Ok(path)
 }
 
+/// The file or folder that a link of a page leads to, whatever its anchor, and how the link names it; `None` if there is none.
+fn target_of(
+    alloc: Global,
+    tree: &Tree,
+    from: &str,
+    path: &str,
+) -> Result<Option<(String, Form)>, AllocError> {
+    let written = decoded(alloc, path)?;
+    match resolved(alloc, folder_and_name(from).0, written.as_str())? {
+        None => Ok(None),
+        Some(place) => tree.named(place.as_str()),
+    }
+}
+
+/// Whether a path leads from a folder to a place.
+fn leads_to(alloc: Global, folder: &str, path: &str, place: &str) -> Result<bool, AllocError>
+    ensures { IfOk result (λ leads. IsTrue leads → LeadsTo folder.now path.now place.now) }
+{
+    let written = decoded(alloc, path)?;
+    match resolved(alloc, folder, written.as_str())? {
+        None => Ok(false),
+        Some(found) => Ok(found.as_str() == place),
+    }
+}
+
+/// The path that a page in a folder needs to lead to a place, in place of its old path; `None` if that leads there.
+///
+/// It is spelled as the old one: relative or from the root, with `./` in front, a slash at the end, and percent signs, if the
+/// old one has them. If that doesn't lead there, it is the path from the root with percent signs, or none.
+pub fn path_to(
+    alloc: Global,
+    old: &str,
+    folder: &str,
+    place: &str,
+) -> Result<Option<String>, AllocError>
+    ensures { IfOk result (λ path. IfSome path (λ path.
+        LeadsTo folder.now (string_bytes path) place.now)) }
+{
+    if leads_to(alloc, folder, old, place)? {
+        return Ok(None);
+    }
+    let path = spelled(alloc, old, folder, place)?;
+    if leads_to(alloc, folder, path.as_str(), place)? {
+        return Ok(Some(path));
+    }
+    let path = encoded(alloc, format!(in alloc; "/{place}")?.as_str())?;
+    if leads_to(alloc, folder, path.as_str(), place)? {
+        return Ok(Some(path));
+    }
+    Ok(None)
+}
+
 /// The destination that a link of a page needs after a move; `None` if it stays as it is.
 ///
 /// `tree` is the tree before the move, and `from` the page's path before it. A link that led to a file or folder leads to its
@@ -95,36 +150,19 @@ pub fn relocated(
     destination: &str,
 ) -> Result<Option<String>, AllocError> {
     let old = parts(destination);
-    let (path, form) = match tree.led_to(from, destination)? {
-        Led::To { path, form, .. } => (path, form),
-        Led::NoAnchor { path, .. } => {
-            let written = decoded(alloc, old.path)?;
-            let folder = folder_and_name(from).0;
-            let Some(place) = resolved(alloc, folder, written.as_str())? else {
-                return Ok(None);
-            };
-            match tree.named(place.as_str())? {
-                None => (path, Form::Exact),
-                Some(found) => found,
-            }
-        }
-        _ => return Ok(None),
-    };
-    if old.path.is_empty() {
+    if old.path.is_empty() || !is_local(destination) {
         return Ok(None);
     }
+    let Some((path, form)) = target_of(alloc, tree, from, old.path)? else {
+        return Ok(None);
+    };
     let home = moves.place_of(alloc, from)?;
-    let folder = folder_and_name(home.as_str()).0;
     let there = moves.place_of(alloc, path.as_str())?;
     let target = in_form(alloc, there.as_str(), form)?;
-    let written = decoded(alloc, old.path)?;
-    let kept = resolved(alloc, folder, written.as_str())?;
-    if let Some(kept) = &kept
-        && kept.as_str() == target.as_str()
-    {
+    let folder = folder_and_name(home.as_str()).0;
+    let Some(path) = path_to(alloc, old.path, folder, target.as_str())? else {
         return Ok(None);
-    }
-    let path = spelled(alloc, old.path, folder, target.as_str())?;
+    };
     let query = old.query;
     let anchor = old.anchor;
     Ok(Some(format!(in alloc; "{path}{query}{anchor}")?))

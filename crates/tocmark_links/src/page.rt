@@ -16,7 +16,7 @@ use tocmark_reader::{ExtendedReader, Names, ReferenceDefinition};
 pub(crate) const READER: ExtendedReader = ExtendedReader { names: Names::All };
 
 /// What a link is in its text.
-#[derive(Clone, Copy, Debug, PartialEq, Eq)]
+#[derive(Clone, Copy, PartialEq, Eq)]
 pub enum LinkKind {
     /// `[text](destination)`
     Inline,
@@ -29,7 +29,7 @@ pub enum LinkKind {
 }
 
 /// A link of a page. Autolinks, such as `<https://example.org>`, are none.
-#[derive(Debug, Drop)]
+#[derive(Drop)]
 pub struct Link {
     pub kind: LinkKind,
     /// Where it leads, without escapes and character references.
@@ -44,7 +44,7 @@ pub struct Link {
 }
 
 /// The links of a text, and its anchors, in their order.
-#[derive(Debug, Drop)]
+#[derive(Drop)]
 pub struct Page {
     pub links: Vec<Link>,
     pub anchors: Vec<Anchor>,
@@ -288,27 +288,43 @@ impl<'t> Collecting<'t> {
             level,
             id,
             words,
-            mut place,
+            place,
         } = heading;
-        let mut plain = words.as_str();
-        let mut own = None;
-        if let Some(id) = &id {
-            own = Some(id.as_str());
-        } else if let Some((before, id)) = named(words.as_str()) {
-            plain = before;
-            own = Some(id);
-            place = self.before_brace(place);
+        if let Some(id) = id {
+            let words = String::from_str(self.alloc, words.as_str().trim())?;
+            return self.add_named(id, words, level, place, start);
         }
-        let words = String::from_str(self.alloc, plain.trim())?;
-        let (kind, name) = match own {
-            None => (AnchorKind::Heading, self.numbering.next(words.as_str())?),
-            Some(id) => {
-                self.numbering.take(id)?;
-                (AnchorKind::Named, String::from_str(self.alloc, id)?)
-            }
-        };
+        if let Some((before, id)) = named(words.as_str()) {
+            let place = self.before_brace(place);
+            let words = String::from_str(self.alloc, before.trim())?;
+            let id = String::from_str(self.alloc, id)?;
+            return self.add_named(id, words, level, place, start);
+        }
+        let words = String::from_str(self.alloc, words.as_str().trim())?;
+        let name = self.numbering.next(words.as_str())?;
         self.anchors.push(Anchor {
-            kind,
+            kind: AnchorKind::Heading,
+            name,
+            words,
+            level,
+            place,
+            line: start,
+        })?;
+        Ok(())
+    }
+
+    /// Adds the anchor that a heading names itself.
+    fn add_named(
+        &mut self,
+        name: String,
+        words: String,
+        level: usize,
+        place: Option<(usize, usize)>,
+        start: usize,
+    ) -> Result<(), AllocError> {
+        self.numbering.take(name.as_str())?;
+        self.anchors.push(Anchor {
+            kind: AnchorKind::Named,
             name,
             words,
             level,

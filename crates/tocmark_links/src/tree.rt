@@ -8,7 +8,7 @@ use std::alloc::{AllocError, Global};
 use strsim::levenshtein;
 
 /// How a path names the place that it leads to.
-#[derive(Clone, Copy, Debug, PartialEq, Eq)]
+#[derive(Clone, Copy)]
 pub enum Form {
     /// By its path.
     Exact,
@@ -23,7 +23,7 @@ pub enum Form {
 }
 
 /// Where a link leads.
-#[derive(Debug, Drop)]
+#[derive(Drop)]
 pub enum Led {
     /// To another site, or nowhere at all because it is empty.
     External,
@@ -53,7 +53,7 @@ pub enum Led {
 }
 
 /// What stands at a path.
-#[derive(Debug, Drop)]
+#[derive(Drop)]
 enum Entry {
     Folder,
     /// A file that isn't Markdown, or wasn't read.
@@ -63,7 +63,7 @@ enum Entry {
 }
 
 /// The files and folders of a tree, with the anchors of its pages.
-#[derive(Debug, Drop)]
+#[derive(Drop)]
 pub struct Tree {
     alloc: Global,
     entries: IndexMap<String, Entry>,

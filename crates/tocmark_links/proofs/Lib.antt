@@ -1,0 +1,4 @@
+pub mod Back
+pub mod Fronts
+pub mod Letters
+pub mod Parts

@@ -1,0 +1,74 @@
+-- Parts of paths: what stands between slashes, and how loops over parts go on.
+use Rattle.std.proofs.Common.{◌≡◌, refl, sym, ◌∙◌, ap, ℕ, suc, ◌<◌, ◌+◌, ◌≢◌, ◌==◌, Bool, true, false, List, [], ◌∷◌, ◌++◌, length, get_or, map, drop, arith, Option, None, Some, rules, if◌then◌else◌, append_assoc, drop-drop, Bor}
+use Rattle.std.specs.List.{fold}
+use Rattle.std.specs.Str.{bytes_eq}
+use Rattle.std.proofs.lemmas.List.{map-append, drop_more}
+use Rattle.tocmark_links.specs.Paths.{parts_of, begun, gone, is_next, common}
+
+-- out of the root leads nowhere back
+pub gone-none : (parts : List (List ℕ)) → fold gone None parts ≡ None
+gone-none [] = refl
+gone-none (part ∷ parts) = gone-none parts
+
+-- no byte is a slash
+abbrev pub Lacks : List ℕ → Type 0
+Lacks [] = Unit {0}
+Lacks (b ∷ bytes) = ((b == 47) ≡ false) × Lacks bytes
+
+pub lacks : (bytes : List ℕ) → ((i : ℕ) → i < length bytes → get_or bytes i 0 ≢ 47) → Lacks bytes
+lacks [] h = tt
+lacks (b ∷ bytes) h = (grind (arith, h 0 (omega arith)), lacks bytes (λ i within. h (suc i) (omega arith)))
+
+pub parts-slash : (part rest : List ℕ) → Lacks part → parts_of (part ++ (47 ∷ rest)) ≡ part ∷ parts_of rest
+parts-slash [] rest h = refl
+parts-slash (b ∷ part) rest h = rw (h.0, parts-slash part rest h.1) refl
+
+pub parts-whole : (part : List ℕ) → Lacks part → parts_of part ≡ part ∷ []
+parts-whole [] h = refl
+parts-whole (b ∷ part) h = rw (h.0, parts-whole part h.1) refl
+
+-- the next part before a slash
+pub parts-step : (all : List (Bor (List ℕ))) (part next : Bor (List ℕ)) (rest whole : List ℕ) → rest ≡ part.now ++ (47 ∷ next.now) → Lacks part.now → map (λ p. p.now) all ++ parts_of rest ≡ parts_of whole → map (λ p. p.now) (all ++ (part ∷ [])) ++ parts_of next.now ≡ parts_of whole
+parts-step all part next rest whole e l h =
+    ap (λ xs. xs ++ parts_of next.now) (map-append (λ p. p.now) all (part ∷ []))
+    ∙ append_assoc (map (λ p. p.now) all) (part.now ∷ []) (parts_of next.now)
+    ∙ ap (λ xs. map (λ p. p.now) all ++ xs) (sym (ap parts_of e ∙ parts-slash part.now next.now l))
+    ∙ h
+
+-- the last part
+pub parts-end : (all : List (Bor (List ℕ))) (rest : Bor (List ℕ)) (whole : List ℕ) → Lacks rest.now → map (λ p. p.now) all ++ parts_of rest.now ≡ parts_of whole → map (λ p. p.now) (all ++ (rest ∷ [])) ≡ parts_of whole
+parts-end all rest whole l h =
+    map-append (λ p. p.now) all (rest ∷ [])
+    ∙ ap (λ xs. map (λ p. p.now) all ++ xs) (sym (parts-whole rest.now l))
+    ∙ h
+
+-- a part that leads out of the root
+pub gone_out : (x y : List (List ℕ)) (parts : List (Bor (List ℕ))) (i : ℕ) (d : Bor (List ℕ)) → fold gone (Some x) (map (λ p. p.now) (drop i parts)) ≡ fold gone (Some y) (map (λ p. p.now) parts) → i < length parts → gone (Some x) ((get_or parts i d).now) ≡ None → fold gone (Some y) (map (λ p. p.now) parts) ≡ None
+gone_out x y parts i d h within out =
+    sym h
+    ∙ ap (λ ps. fold gone (Some x) (map (λ p. p.now) ps)) (drop_more parts i d within)
+    ∙ ap (λ o. fold gone o (map (λ p. p.now) (drop (i + 1) parts))) out
+    ∙ gone-none (map (λ p. p.now) (drop (i + 1) parts))
+
+-- the first of some parts
+pub is_next_first : (part : List ℕ) (parts others : List (Bor (List ℕ))) (first : Bor (List ℕ)) → parts ≡ first ∷ others → is_next part (map (λ p. p.now) parts) ≡ bytes_eq first.now part
+is_next_first part parts others first e = ap (λ ps. is_next part (map (λ p. p.now) ps)) e
+
+-- one more part in common
+pub common_more : (one : List (Bor (List ℕ))) (others : List (List ℕ)) (i whole : ℕ) (d : Bor (List ℕ)) → i < length one → i + common (map (λ p. p.now) (drop i one)) (drop i others) ≡ whole → is_next ((get_or one i d).now) (drop i others) ≡ true → i + 1 + common (map (λ p. p.now) (drop (i + 1) one)) (drop (i + 1) others) ≡ whole
+common_more one others i whole d within h next =
+    let e : common (map (λ p. p.now) (drop i one)) (drop i others) ≡ suc (common (map (λ p. p.now) (drop (i + 1) one)) (drop 1 (drop i others))) =
+    ap (λ ps. common (map (λ p. p.now) ps) (drop i others)) (drop_more one i d within)
+    ∙ ap (λ b. if b then suc (common (map (λ p. p.now) (drop (i + 1) one)) (drop 1 (drop i others))) else 0) next in
+    let f : drop 1 (drop i others) ≡ drop (i + 1) others = drop-drop 1 i others in
+    let g : common (map (λ p. p.now) (drop (i + 1) one)) (drop 1 (drop i others)) ≡ common (map (λ p. p.now) (drop (i + 1) one)) (drop (i + 1) others) =
+    ap (common (map (λ p. p.now) (drop (i + 1) one))) f in
+    omega (arith, h, e, g)
+
+-- a part that isn't in common
+pub common_less : (one : List (Bor (List ℕ))) (others : List (List ℕ)) (i whole : ℕ) (d : Bor (List ℕ)) → i < length one → i + common (map (λ p. p.now) (drop i one)) (drop i others) ≡ whole → is_next ((get_or one i d).now) (drop i others) ≡ false → i ≡ whole
+common_less one others i whole d within h next =
+    let e : common (map (λ p. p.now) (drop i one)) (drop i others) ≡ 0 =
+    ap (λ ps. common (map (λ p. p.now) ps) (drop i others)) (drop_more one i d within)
+    ∙ ap (λ b. if b then suc (common (map (λ p. p.now) (drop (i + 1) one)) (drop 1 (drop i others))) else 0) next in
+    omega (arith, h, e)

@@ -1,0 +1,27 @@
+use Rattle.std.proofs.Common.{◌∙◌, ap, refl, ◌++◌, chars, encode_utf8_all, string_bytes, rules}
+use Rattle.std.specs.List.{flat_map}
+use Rattle.std.specs.Str.Iter.{chars_rest}
+use Rattle.std.proofs.lemmas.Str.{IsUtf8-past_char}
+use Rattle.tocmark_links.specs.Slug.{letters_of, lettered}
+use Rattle.tocmark_links.proofs.Letters.{more, none}
+use Rattle.tocmark_links.proofs.slug.lettered.Goals as goal
+
+pub loop-c-init : goal.loop-c-init
+loop-c-init c =
+    let rest = ap chars_rest c.into_iter-c-iterator.ensures.into_iter_gives ∙ c.chars-c-items.ensures.rest in
+    record {
+      is_text = search rules;
+      same = first_of (rw (c.new-kept.ensures.bytes, rest) refl, search rules, grind rules);
+    }
+
+pub loop-c-preserved : goal.loop-c-preserved
+loop-c-preserved c =
+    let held = c.loop-c.invariant in
+    let parts = c.in-Some.ensures.steps.0 in
+    record {
+      is_text = IsUtf8-past_char _ _ c.in-Some.c held.is_text parts;
+      same = more (letters_of c.args.slugs) _ _ _ _ _ c.in-Some.c c.in_ok-push_letters.ensures held.is_text parts held.same;
+    }
+
+pub returns : goal.returns
+returns c = none (letters_of c.args.slugs) _ _ _ c.in-None.ensures.steps.0.0 c.loop-c.invariant.same
