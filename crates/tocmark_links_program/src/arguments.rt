@@ -1,0 +1,182 @@
+//! What a call asks for.
+
+use crate::fault::Fault;
+use crate::report::Form;
+use clap::{Arg, ArgAction, ArgMatches, Command};
+use std::alloc::{AllocError, Global};
+use tocmark_command::options::{CommandOption, Takes, with_options};
+use tocmark_command::syntax::{extended, syntax_named, with_syntax};
+use tocmark_event::event::ParserOptions;
+use tocmark_links::slug::Slugs;
+
+/// How files are read, and what is done with what is found.
+#[derive(Clone, Copy)]
+pub struct Terms {
+    pub flags: ParserOptions,
+    pub slugs: Slugs,
+    pub form: Form,
+    /// Nothing is changed.
+    pub is_dry: bool,
+    /// The changes are shown as a diff.
+    pub shows: bool,
+}
+
+/// What is done.
+#[derive(Clone, Copy)]
+pub enum Work<'w> {
+    /// The links of these files, and of those below these folders, are checked.
+    Check(&'w [&'w str]),
+    /// A file or folder gets another path.
+    Move(&'w str, &'w str),
+    /// A heading gets other words.
+    Rename(&'w str, &'w str),
+    /// The tables of contents of these files are filled.
+    Contents(&'w [&'w str]),
+}
+
+/// The command's name.
+pub const NAME: &str = "tocmark-links";
+
+/// What `--help` says of the words.
+const WORDS: &str = "check [PATH..]: find links that lead nowhere
+move OLD NEW: move a file or folder, and correct links
+rename FILE#ANCHOR WORDS: give a heading other words
+contents FILE..: fill tables of contents";
+
+/// The last lines of `--help`.
+const LAST: &str = "Status 1: a link is broken, or a file could not be read; 2: nothing was done.";
+
+/// The options of this program alone.
+static OPTIONS: [CommandOption<'static>; 6] = [
+    CommandOption {
+        name: "slugs",
+        letter: None,
+        takes: Takes::Value("RULE"),
+        help: "How headings get their anchors: github (default),\nmdbook or python",
+    },
+    CommandOption {
+        name: "exclude",
+        letter: None,
+        takes: Takes::Values("GLOB"),
+        help: "Don't read what matches; repeatable",
+    },
+    CommandOption {
+        name: "dry-run",
+        letter: Some('n'),
+        takes: Takes::Nothing,
+        help: "Change nothing; list what would change",
+    },
+    CommandOption {
+        name: "diff",
+        letter: None,
+        takes: Takes::Nothing,
+        help: "Change nothing; show the changes as a unified diff",
+    },
+    CommandOption {
+        name: "json",
+        letter: None,
+        takes: Takes::Nothing,
+        help: "Write what is found or changed as a JSON array",
+    },
+    CommandOption {
+        name: "github",
+        letter: None,
+        takes: Takes::Nothing,
+        help: "Write what is found or changed as annotations of\nGitHub",
+    },
+];
+
+/// The rules for anchors, by their names.
+const RULES: [(&str, Slugs); 3] = [
+    ("github", Slugs::GitHub),
+    ("mdbook", Slugs::MdBook),
+    ("python", Slugs::Python),
+];
+
+/// The command line, with this help of `--syntax`.
+///
+/// It fails if memory runs out.
+pub fn command<'a>(alloc: Global, syntax_help: &'a str) -> Result<Command<'a>, AllocError> {
+    let words = Arg::new(alloc, "word")
+        .value_name("COMMAND")
+        .action(ArgAction::Append)
+        .num_args(0..)
+        .help(WORDS);
+    let command = Command::new(alloc, NAME)
+        .bin_name(NAME)?
+        .version("0.1.0")
+        .about("Check the links of Markdown files, and keep them right when files move")
+        .after_help(LAST)
+        .arg(words)?;
+    let command = with_options(alloc, command, &OPTIONS)?;
+    with_syntax(alloc, command, syntax_help)
+}
+
+/// The flags of the syntax and the extensions that are named.
+fn flags_of(matches: &ArgMatches<'_>) -> Result<ParserOptions, Fault> {
+    let syntax = matches.get_str("syntax").unwrap_or("gfm");
+    let Some(mut flags) = syntax_named(syntax) else {
+        return Err(Fault::Usage("--syntax wants commonmark, gfm or all"));
+    };
+    for name in matches.get_strs("extension").unwrap_or(&[]) {
+        let Some(more) = extended(flags, name) else {
+            return Err(Fault::Usage(
+                "--extension wants a name that --help lists, or no- before one",
+            ));
+        };
+        flags = more;
+    }
+    Ok(flags)
+}
+
+/// The rule for anchors that is named.
+fn slugs_of(matches: &ArgMatches<'_>) -> Result<Slugs, Fault> {
+    let word = matches.get_str("slugs").unwrap_or("github");
+    for (name, slugs) in &RULES {
+        if *name == word {
+            return Ok(*slugs);
+        }
+    }
+    Err(Fault::Usage("--slugs wants github, mdbook or python"))
+}
+
+/// How files are read, by a command line.
+pub fn terms_of(matches: &ArgMatches<'_>) -> Result<Terms, Fault> {
+    let form = match (matches.get_flag("json"), matches.get_flag("github")) {
+        (false, false) => Form::Lines,
+        (true, false) => Form::Json,
+        (false, true) => Form::Annotations,
+        (true, true) => return Err(Fault::Usage("only one of --json and --github can be passed")),
+    };
+    let shows = matches.get_flag("diff");
+    Ok(Terms {
+        flags: flags_of(matches)?,
+        slugs: slugs_of(matches)?,
+        form,
+        is_dry: shows || matches.get_flag("dry-run"),
+        shows,
+    })
+}
+
+/// What is done, by the words of a command line.
+pub fn work_of<'w>(words: &'w [&'w str]) -> Result<Work<'w>, Fault> {
+    let Some((command, rest)) = words.split_first() else {
+        return Err(Fault::Usage("a command is wanted: check, move, rename or contents"));
+    };
+    let paths = [
+        ("check", Work::Check(rest)),
+        ("contents", Work::Contents(rest)),
+    ];
+    for (name, work) in &paths {
+        if *name == *command && (*name == "check" || !rest.is_empty()) {
+            return Ok(*work);
+        }
+    }
+    match rest {
+        [old, new] if *command == "move" => Ok(Work::Move(old, new)),
+        [place, words] if *command == "rename" => Ok(Work::Rename(place, words)),
+        _ => Err(Fault::Usage(
+            "wanted: check [PATH..], move OLD NEW, rename FILE#ANCHOR WORDS or contents FILE..",
+        )),
+    }
+}

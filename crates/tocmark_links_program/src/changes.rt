@@ -1,0 +1,163 @@
+//! The new destinations of links, and the texts that have them.
+
+use crate::fault::{Fault, fault_of};
+use crate::plan::Edit;
+use crate::report::{Kind, Note, Report};
+use crate::site::{Site, SitePage};
+use std::alloc::{AllocError, Global};
+use std::collections::HashMap;
+use tocmark_links::changed::with_destinations;
+use tocmark_links::destination::{encoded, parts};
+use tocmark_links::moved::{Moves, relocated};
+use tocmark_links::page::Page;
+use tocmark_links::tree::{Led, Tree};
+
+/// Why destinations change.
+#[derive(Drop)]
+pub enum Reason {
+    /// A path is moved.
+    Moved(Moves),
+    /// Anchors of the page at this path get other names.
+    Renamed(String, HashMap<String, String>),
+}
+
+/// The destination that leads to another anchor of its file.
+fn with_anchor(alloc: Global, destination: &str, anchor: &str) -> Result<String, AllocError> {
+    let old = parts(destination);
+    let (path, query) = (old.path, old.query);
+    let mut new = String::from_str(alloc, path)?;
+    new.push_str(query)?;
+    new.push('#')?;
+    if old.anchor.contains('%') {
+        new.push_str(encoded(alloc, anchor)?.as_str())?;
+    } else {
+        new.push_str(anchor)?;
+    }
+    Ok(new)
+}
+
+impl Reason {
+    /// The new destination of a link of the page at a path. `None`: it stays.
+    fn destination(
+        &self,
+        alloc: Global,
+        tree: &Tree,
+        from: &str,
+        old: &str,
+    ) -> Result<Option<String>, AllocError> {
+        let (file, names) = match self {
+            Reason::Moved(moves) => return relocated(alloc, tree, moves, from, old),
+            Reason::Renamed(file, names) => (file, names),
+        };
+        let led = tree.led_to(from, old)?;
+        let Led::To { path, anchor, .. } = &led else {
+            return Ok(None);
+        };
+        if path.as_str() != file.as_str() {
+            return Ok(None);
+        }
+        match names.get(anchor.as_str()) {
+            Some(new) => Ok(Some(with_anchor(alloc, old, new.as_str())?)),
+            None => Ok(None),
+        }
+    }
+
+    /// The new destinations of a page's links, each with the link's index.
+    fn destinations(
+        &self,
+        alloc: Global,
+        tree: &Tree,
+        from: &str,
+        page: &Page,
+    ) -> Result<Vec<(usize, String)>, AllocError> {
+        let mut changes = Vec::new(alloc);
+        for (index, link) in page.links.iter().enumerate() {
+            let new = self.destination(alloc, tree, from, link.destination.as_str())?;
+            if let Some(new) = new {
+                changes.push((index, new))?;
+            }
+        }
+        Ok(changes)
+    }
+}
+
+impl Site {
+    /// A text of the page at a path with new destinations, which are reported. `None`: no link of it changes.
+    pub fn corrected(
+        &self,
+        alloc: Global,
+        path: &str,
+        text: &str,
+        reason: &Reason,
+        report: &mut Report,
+    ) -> Result<Option<String>, Fault> {
+        let page = self.page_of(alloc, text)?;
+        let changes = reason.destinations(alloc, &self.tree, path, &page)?;
+        if changes.is_empty() {
+            return Ok(None);
+        }
+        let shown = self.root.shown(alloc, path)?;
+        for (index, new) in &changes {
+            if let Some(link) = page.links.get(*index) {
+                report.add(
+                    alloc,
+                    Note {
+                        kind: Kind::Link,
+                        file: shown.as_str(),
+                        line: link.line,
+                        column: link.column,
+                        old: link.destination.as_str(),
+                        new: Some(new.as_str()),
+                    },
+                )?;
+            }
+        }
+        match with_destinations(alloc, text, self.terms.flags, &page, &changes) {
+            Ok(new) => Ok(Some(new)),
+            Err(fault) => Err(fault_of(shown, fault)),
+        }
+    }
+
+    /// The edit of a page some of whose links change. `None`: none does.
+    fn edit_of(
+        &self,
+        rt: &HostRuntime,
+        page: &SitePage,
+        reason: &Reason,
+        report: &mut Report,
+    ) -> Result<Option<Edit>, Fault> {
+        let path = page.path.as_str();
+        let changes = reason.destinations(rt.alloc(), &self.tree, path, &page.page)?;
+        if changes.is_empty() {
+            return Ok(None);
+        }
+        let old = self.text(rt, path)?;
+        match self.corrected(rt.alloc(), path, old.as_str(), reason, report)? {
+            Some(new) => Ok(Some(Edit {
+                path: String::from_str(rt.alloc(), path)?,
+                old,
+                new,
+            })),
+            None => Ok(None),
+        }
+    }
+
+    /// The edits of all pages whose links change, but for the page at one path.
+    pub fn edits(
+        &self,
+        rt: &HostRuntime,
+        reason: &Reason,
+        without: &str,
+        report: &mut Report,
+    ) -> Result<Vec<Edit>, Fault> {
+        let mut edits = Vec::new(rt.alloc());
+        for page in &self.pages {
+            if page.path.as_str() != without
+                && let Some(edit) = self.edit_of(rt, page, reason, report)?
+            {
+                edits.push(edit)?;
+            }
+        }
+        Ok(edits)
+    }
+}

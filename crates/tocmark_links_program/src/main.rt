@@ -1,0 +1,226 @@
+//! `tocmark-links`: checks the links of Markdown files, and keeps them right when files move or headings get other words.
+#![tactic(auto)]
+
+mod arguments;
+mod changes;
+mod check;
+mod fault;
+mod headings;
+mod mentions;
+mod moving;
+mod outcome;
+mod plan;
+mod report;
+mod root;
+mod site;
+mod walk;
+
+use crate::arguments::{Terms, Work, command, terms_of, work_of};
+use crate::fault::Fault;
+use crate::outcome::status_of;
+use crate::plan::Plan;
+use crate::report::Report;
+use crate::root::Root;
+use crate::site::{LINKS, Site};
+use clap::ArgMatches;
+use std::process::ExitCode;
+use tocmark_command::program::words_of;
+use tocmark_command::streams::write_out;
+use tocmark_command::syntax::syntax_help;
+use tocmark_files::diff::{Look, unified_diff};
+use tocmark_files::quoted::Quoted;
+use tocmark_files::rules::Rules;
+
+/// The first line of what `--help` says of `--syntax`.
+const SYNTAX: &str = "Kind of Markdown: commonmark, gfm (default) or all";
+
+/// What is said of a path that isn't in the tree.
+const MISSING: &str = "no such file or folder is in the tree";
+
+/// The rules of `--exclude`.
+fn exclude_of(rt: &HostRuntime, root: &Root, matches: &ArgMatches<'_>) -> Result<Rules, Fault> {
+    let mut rules = Rules::new(rt.alloc(), root.base(rt.alloc())?.as_str())?;
+    for glob in matches.get_strs("exclude").unwrap_or(&[]) {
+        if rules.add_glob(rt.alloc(), "exclude", glob)?.is_some() {
+            return Err(Fault::Usage("--exclude wants a glob for paths below the folder"));
+        }
+    }
+    Ok(rules)
+}
+
+/// A tree that is read.
+fn site_of(
+    rt: &HostRuntime,
+    path: &str,
+    terms: Terms,
+    matches: &ArgMatches<'_>,
+) -> Result<Site, Fault> {
+    let root = Root::of(rt, path)?;
+    let exclude = exclude_of(rt, &root, matches)?;
+    let mut site = Site::new(rt.alloc(), root, terms);
+    site.read(rt, exclude)?;
+    Ok(site)
+}
+
+/// Writes to standard output.
+fn print(rt: &HostRuntime, text: &str) -> Result<(), Fault> {
+    write_out(&mut rt.stdout(), text).map_err(Fault::Output)
+}
+
+/// Checks the links of what words name, and returns the status.
+fn check_paths(rt: &HostRuntime, site: Site, words: &[&str]) -> Result<u8, Fault> {
+    let mut site = site;
+    let mut asked = Vec::new(rt.alloc());
+    for word in words {
+        let path = site.root.inner(rt, word)?;
+        if !site.tree.has(path.as_str()) {
+            return Err(Fault::path(rt.alloc(), word, MISSING));
+        }
+        asked.push(path)?;
+    }
+    let mut report = Report::new(rt.alloc(), site.terms.form)?;
+    site.check(rt, &asked, &mut report)?;
+    print(rt, report.end()?.as_str())?;
+    Ok(status_of(&site.outcomes))
+}
+
+/// The unified diff of what is written.
+fn diff_of(rt: &HostRuntime, site: &Site, plan: &Plan) -> Result<String, Fault> {
+    let mut diff = String::new(rt.alloc());
+    for edit in &plan.edits {
+        let name = site.root.shown(rt.alloc(), edit.path.as_str())?;
+        let look = Look {
+            name: name.as_str(),
+            is_colored: false,
+        };
+        let part = unified_diff(rt.alloc(), edit.old.as_str(), edit.new.as_str(), look)?;
+        diff.push_str(part.as_str())?;
+    }
+    Ok(diff)
+}
+
+/// Says how to stage a move, if Git has the tree.
+fn show_staging(rt: &HostRuntime, site: &Site, plan: &Plan) -> Result<(), Fault> {
+    let Some((old, new)) = &plan.way else {
+        return Ok(());
+    };
+    if site.root.is_git && !site.terms.is_dry {
+        let old = site.root.shown(rt.alloc(), old.as_str())?;
+        let new = site.root.shown(rt.alloc(), new.as_str())?;
+        let (old, new) = (Quoted(old.as_str()), Quoted(new.as_str()));
+        let line = format!(in rt.alloc();
+            "nothing is staged; to do that: git add --update && git add -- '{new}' (moved from '{old}')"
+        )?;
+        LINKS.complain(&mut rt.stderr(), &line.as_str());
+    }
+    Ok(())
+}
+
+/// Writes what is planned, unless nothing is to be changed; reports it, and returns the status.
+fn finish(
+    rt: &HostRuntime,
+    site: &Site,
+    plan: &Plan,
+    report: Report,
+    text: &str,
+) -> Result<u8, Fault> {
+    let (count, files) = (report.count, plan.edits.len());
+    if let Some((old, _)) = &plan.way {
+        site.warn_of_mentions(rt, old.as_str())?;
+    }
+    if !site.terms.is_dry {
+        plan.carry_out(rt, &site.root, text)?;
+    }
+    let output = if site.terms.shows {
+        diff_of(rt, site, plan)?
+    } else {
+        report.end()?
+    };
+    print(rt, output.as_str())?;
+    let what = if site.terms.is_dry {
+        "would change"
+    } else {
+        "changed"
+    };
+    let line = format!(in rt.alloc(); "{what}: {count} in {files} files")?;
+    LINKS.complain(&mut rt.stderr(), &line.as_str());
+    show_staging(rt, site, plan)?;
+    Ok(status_of(&site.outcomes))
+}
+
+/// Does what a call asks for, and returns the status.
+fn perform(
+    rt: &HostRuntime,
+    terms: Terms,
+    words: &[&str],
+    matches: &ArgMatches<'_>,
+) -> Result<u8, Fault> {
+    let work = work_of(words)?;
+    let mut report = Report::new(rt.alloc(), terms.form)?;
+    let (site, plan) = match work {
+        Work::Check(paths) => {
+            let first = paths.first().copied().unwrap_or(".");
+            return check_paths(rt, site_of(rt, first, terms, matches)?, paths);
+        }
+        Work::Move(old, new) => {
+            let site = site_of(rt, old, terms, matches)?;
+            let plan = site.move_plan(rt, old, new, &mut report)?;
+            (site, plan)
+        }
+        Work::Rename(place, words) => {
+            let (file, _) = place.rsplit_once('#').unwrap_or((place, ""));
+            let site = site_of(rt, file, terms, matches)?;
+            let plan = site.rename_plan(rt, place, words, &mut report)?;
+            (site, plan)
+        }
+        Work::Contents(paths) => {
+            let root = Root::of(rt, paths.first().copied().unwrap_or("."))?;
+            let site = Site::new(rt.alloc(), root, terms);
+            let plan = site.contents_plan(rt, paths, &mut report)?;
+            (site, plan)
+        }
+    };
+    let mut text = String::from_str(rt.alloc(), arguments::NAME)?;
+    for word in words {
+        let word = Quoted(word);
+        text = format!(in rt.alloc(); "{text} {word}")?;
+    }
+    text.push('\n')?;
+    finish(rt, &site, &plan, report, text.as_str())
+}
+
+/// Says what is wrong, and returns status 2.
+fn fail(rt: &HostRuntime, fault: &Fault) -> ExitCode {
+    if !fault.is_broken_pipe() {
+        LINKS.complain(&mut rt.stderr(), fault);
+    }
+    ExitCode::from(2)
+}
+
+/// Does what right arguments ask for.
+fn start(rt: &HostRuntime, matches: &ArgMatches<'_>) -> Result<u8, Fault> {
+    let terms = terms_of(matches)?;
+    perform(rt, terms, matches.get_strs("word").unwrap_or(&[]), matches)
+}
+
+fn main(rt: HostRuntime) -> ExitCode {
+    let Ok(words) = words_of(&rt) else {
+        return LINKS.refuse(&mut rt.stderr(), "the arguments cannot be read");
+    };
+    let Ok(syntax) = syntax_help(rt.alloc(), SYNTAX) else {
+        return fail(&rt, &Fault::OutOfMemory);
+    };
+    let Ok(command) = command(rt.alloc(), syntax.as_str()) else {
+        return fail(&rt, &Fault::OutOfMemory);
+    };
+    match command.try_get_matches_from(words.as_slice()) {
+        Ok(matches) => match start(&rt, &matches) {
+            Ok(status) => ExitCode::from(status),
+            Err(fault) => fail(&rt, &fault),
+        },
+        Err(error) => match LINKS.show(&rt, &error) {
+            Ok(status) => status,
+            Err(error) => fail(&rt, &Fault::Output(error)),
+        },
+    }
+}

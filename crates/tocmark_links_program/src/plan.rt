@@ -1,0 +1,205 @@
+//! What a call writes: all of it, or nothing.
+//!
+//! All new texts are there before the first one is written. Files get their new texts one after the other, each as a whole; a
+//! path is moved last. After an error the old texts are put back. Meanwhile a file in the root says what is being done, so that
+//! a call that is killed leaves a trace, and no second call writes.
+
+use crate::fault::Fault;
+use crate::root::{Root, joined};
+use std::fs::OpenOptions;
+use std::io::Write;
+use std::{fs, io};
+use tocmark_files::place::OpenFolder;
+use tocmark_files::quoted::in_quotes;
+use tocmark_files::replace::{ReplaceError, Replacement};
+use tocmark_links::paths::folder_and_name;
+
+/// The name of the file that says what is being done.
+pub const MARK: &str = ".tocmark-links.running";
+
+/// A file that gets a new text.
+#[derive(Drop)]
+pub struct Edit {
+    /// Its path in the tree, before anything is moved.
+    pub path: String,
+    pub old: String,
+    pub new: String,
+}
+
+/// What is written.
+#[derive(Drop)]
+pub struct Plan {
+    pub edits: Vec<Edit>,
+    /// A path in the tree that is moved, and the one that it gets.
+    pub way: Option<(String, String)>,
+}
+
+/// Makes a folder and those above it, if they aren't there, and adds them to a list. A link is no folder.
+fn make_folder(
+    rt: &HostRuntime,
+    root: &Root,
+    folder: &str,
+    made: &mut Vec<String>,
+) -> io::Result<()> {
+    let mut path = String::new(rt.alloc());
+    for name in folder.split('/') {
+        path = joined(rt.alloc(), path.as_str(), name)?;
+        let full = root.full(rt.alloc(), path.as_str())?;
+        match fs::symlink_metadata(rt, full.as_str()) {
+            Ok(found) if found.is_dir() => {}
+            Ok(_) => return Err(io::Error::from(io::ErrorKind::NotADirectory)),
+            Err(_) => {
+                fs::create_dir(rt, full.as_str())?;
+                made.push(full)?;
+            }
+        }
+    }
+    Ok(())
+}
+
+/// Renames a path, if nothing has the new one. Both folders are there.
+fn rename(rt: &HostRuntime, root: &Root, old: &str, new: &str) -> io::Result<()> {
+    let (old_folder, old_name) = folder_and_name(old);
+    let (new_folder, new_name) = folder_and_name(new);
+    let from = OpenFolder::open(rt, root.full(rt.alloc(), old_folder)?.as_str())?;
+    let to = OpenFolder::open(rt, root.full(rt.alloc(), new_folder)?.as_str())?;
+    match to.find(rt, new_name) {
+        Ok(_) => return Err(io::Error::from(io::ErrorKind::AlreadyExists)),
+        Err(error) if error.kind() == io::ErrorKind::NotFound => {}
+        Err(error) => return Err(error),
+    }
+    let (from, to) = (from.path_of(rt, old_name)?, to.path_of(rt, new_name)?);
+    fs::rename(rt, from.as_str(), to.as_str())
+}
+
+/// Moves a path to one at which nothing is. After an error no folder stays that it made.
+fn move_path(rt: &HostRuntime, root: &Root, old: &str, new: &str) -> io::Result<()> {
+    let mut made = Vec::new(rt.alloc());
+    let (folder, _name) = folder_and_name(new);
+    let mut done = make_folder(rt, root, folder, &mut made);
+    if done.is_ok() {
+        done = rename(rt, root, old, new);
+    }
+    if done.is_err() {
+        for folder in made.iter().rev() {
+            let _ = fs::remove_dir(rt, folder.as_str());
+        }
+    }
+    done
+}
+
+/// Writes the file that says what is being done. It must not be there.
+fn write_mark(rt: &HostRuntime, path: &str, text: &str) -> io::Result<()> {
+    let mut options = OpenOptions::new();
+    options.write(true).create_new(true);
+    let mut file = options.open(rt, path)?;
+    let mut done = file.write_all(text.as_bytes());
+    if done.is_ok() {
+        done = file.sync_all();
+    }
+    if done.is_err() {
+        let _ = fs::remove_file(rt, path);
+    }
+    done
+}
+
+/// Says what is being done in a file of the root, which has this path. It fails if that is there.
+fn begin(rt: &HostRuntime, path: &str, text: &str) -> Result<(), Fault> {
+    match write_mark(rt, path, text) {
+        Ok(()) => Ok(()),
+        Err(error) if error.kind() == io::ErrorKind::AlreadyExists => {
+            let said = fs::read_to_string(rt, path);
+            let text = match &said {
+                Ok(said) => said.as_str().trim_end(),
+                Err(_) => "it cannot be read",
+            };
+            let text = String::from_str(rt.alloc(), text)?;
+            Err(Fault::Running(in_quotes(rt.alloc(), path)?, text))
+        }
+        Err(error) => {
+            let path = in_quotes(rt.alloc(), path)?;
+            Err(Fault::NotReplaced(path, ReplaceError::Write(error)))
+        }
+    }
+}
+
+impl Edit {
+    /// Gives the file its new text.
+    fn put(&self, rt: &HostRuntime, root: &Root) -> Result<(), ReplaceError> {
+        let path = root
+            .full(rt.alloc(), self.path.as_str())
+            .map_err(no_memory)?;
+        let replacement = Replacement {
+            old: self.old.as_str(),
+            new: self.new.as_str(),
+            syncs: true,
+        };
+        replacement.put(rt, path.as_str())
+    }
+
+    /// Gives the file its old text again.
+    fn take_back(&self, rt: &HostRuntime, root: &Root) -> Result<(), ReplaceError> {
+        let path = root
+            .full(rt.alloc(), self.path.as_str())
+            .map_err(no_memory)?;
+        let replacement = Replacement {
+            old: self.new.as_str(),
+            new: self.old.as_str(),
+            syncs: true,
+        };
+        replacement.put(rt, path.as_str())
+    }
+}
+
+/// The error of a call that runs out of memory.
+fn no_memory(_fault: std::alloc::AllocError) -> ReplaceError {
+    ReplaceError::Write(io::Error::from(io::ErrorKind::OutOfMemory))
+}
+
+impl Plan {
+    /// Puts back the old texts of the first files, the last of these first, because this path could not be changed. Returns that
+    /// fault, or which file keeps its new text.
+    fn take_back(&self, rt: &HostRuntime, root: &Root, count: usize, fault: Fault) -> Fault {
+        let done = self.edits.get(..count).unwrap_or(&[]);
+        for edit in done.iter().rev() {
+            if edit.take_back(rt, root).is_err() {
+                let path = in_quotes(rt.alloc(), edit.path.as_str());
+                return match (path, fault) {
+                    (Ok(left), Fault::NotReplaced(path, _)) => Fault::Left(path, left),
+                    (Ok(left), Fault::NotMoved(path, _)) => Fault::Left(path, left),
+                    (_, fault) => fault,
+                };
+            }
+        }
+        fault
+    }
+
+    /// Gives all files their new texts, and moves what is to be moved.
+    fn write(&self, rt: &HostRuntime, root: &Root) -> Result<(), Fault> {
+        for (count, edit) in self.edits.iter().enumerate() {
+            if let Err(error) = edit.put(rt, root) {
+                let path = in_quotes(rt.alloc(), edit.path.as_str())?;
+                let fault = Fault::NotReplaced(path, error);
+                return Err(self.take_back(rt, root, count, fault));
+            }
+        }
+        let Some((old, new)) = &self.way else {
+            return Ok(());
+        };
+        if let Err(error) = move_path(rt, root, old.as_str(), new.as_str()) {
+            let path = in_quotes(rt.alloc(), old.as_str())?;
+            let fault = Fault::NotMoved(path, error);
+            return Err(self.take_back(rt, root, self.edits.len(), fault));
+        }
+        Ok(())
+    }
+
+    /// Writes all of it, or nothing. The text says what is being done, in case that the call is killed.
+    pub fn carry_out(&self, rt: &HostRuntime, root: &Root, text: &str) -> Result<(), Fault> {
+        let mark = root.full(rt.alloc(), MARK)?;
+        begin(rt, mark.as_str(), text)?;
+        let done = self.write(rt, root);
+        let _ = fs::remove_file(rt, mark.as_str());
+        done
+    }
+}

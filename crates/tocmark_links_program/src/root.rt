@@ -1,0 +1,146 @@
+//! The root of a tree, and paths in it. A path in the tree has its parts from the root on, joined by `/`; the root's is empty.
+
+use crate::fault::Fault;
+use std::alloc::{AllocError, Global};
+use std::path::Path;
+use std::{fs, io};
+use tocmark_links::paths::{folder_and_name, relative, resolved};
+
+/// What is wrong with a path that isn't in the tree.
+const ELSEWHERE: &str =
+    "is not in the same tree as the rest; a tree is a Git repository or else the folder that is named";
+
+/// The root of a tree.
+#[derive(Drop)]
+pub struct Root {
+    /// Its path, without links.
+    path: String,
+    /// The path in the tree of the current folder. `None`: that is outside.
+    current: Option<String>,
+    /// Whether it is the top of a Git repository.
+    pub is_git: bool,
+}
+
+/// The path of a name in a folder of a tree.
+pub fn joined(alloc: Global, folder: &str, name: &str) -> Result<String, AllocError> {
+    let mut path = String::from_str(alloc, folder)?;
+    if !folder.is_empty() && !name.is_empty() && !folder.ends_with('/') {
+        path.push('/')?;
+    }
+    path.push_str(name)?;
+    Ok(path)
+}
+
+/// The rest of a path from a folder on. `None`: it isn't in the folder.
+pub fn within<'p>(path: &'p str, folder: &str) -> Option<&'p str> {
+    if path == folder {
+        return Some("");
+    }
+    let folder = folder.strip_suffix('/').unwrap_or(folder);
+    path.strip_prefix(folder)?.strip_prefix('/')
+}
+
+/// A path from the file system's root on, without links in it, but for its last name. What isn't there can't be a link.
+fn whole_path(rt: &HostRuntime, path: &str) -> io::Result<String> {
+    let is_plain = fs::symlink_metadata(rt, path).is_ok_and(|found| !found.is_symlink());
+    if is_plain {
+        return Ok(Path::new(path).canonicalize(rt)?.into_string());
+    }
+    let whole = std::path::absolute(rt, path)?.into_string();
+    let (folder, name) = folder_and_name(whole.as_str());
+    match Path::new(folder).canonicalize(rt) {
+        Ok(folder) => Ok(joined(rt.alloc(), folder.as_str(), name)?),
+        Err(_) => Ok(whole),
+    }
+}
+
+/// The folder at a path or that a file at it is in, from the file system's root on.
+fn folder_at(rt: &HostRuntime, path: &str) -> io::Result<String> {
+    let whole = whole_path(rt, path)?;
+    if fs::metadata(rt, whole.as_str())?.is_dir() {
+        return Ok(whole);
+    }
+    let (folder, _name) = folder_and_name(whole.as_str());
+    Ok(String::from_str(rt.alloc(), folder)?)
+}
+
+/// The top of the Git repository that a folder is in.
+fn top_of(rt: &HostRuntime, folder: &str) -> Result<Option<String>, AllocError> {
+    for above in Path::new(folder).ancestors() {
+        let mark = joined(rt.alloc(), above.as_str(), ".git")?;
+        if fs::symlink_metadata(rt, mark.as_str()).is_ok() {
+            return Ok(Some(String::from_str(rt.alloc(), above.as_str())?));
+        }
+    }
+    Ok(None)
+}
+
+impl Root {
+    /// The root of the tree that the file or folder at a path is in: the top of its Git repository; else the folder itself, or
+    /// for a file the current folder if that has it, or its own.
+    pub fn of(rt: &HostRuntime, path: &str) -> Result<Root, Fault> {
+        let folder = match folder_at(rt, path) {
+            Ok(folder) => folder,
+            Err(error) => return Err(Fault::unreadable(rt.alloc(), path, error)),
+        };
+        let current = match folder_at(rt, ".") {
+            Ok(current) => current,
+            Err(error) => return Err(Fault::unreadable(rt.alloc(), ".", error)),
+        };
+        let top = top_of(rt, folder.as_str())?;
+        let is_git = top.is_some();
+        let is_file = fs::metadata(rt, path).is_ok_and(|found| found.is_file());
+        let path = match top {
+            Some(top) => top,
+            None if is_file && within(folder.as_str(), current.as_str()).is_some() => {
+                String::from_str(rt.alloc(), current.as_str())?
+            }
+            None => folder,
+        };
+        let current = match within(current.as_str(), path.as_str()) {
+            Some(inner) => Some(String::from_str(rt.alloc(), inner)?),
+            None => None,
+        };
+        Ok(Root {
+            path,
+            current,
+            is_git,
+        })
+    }
+
+    /// The path by which the host finds what has a path in the tree.
+    pub fn full(&self, alloc: Global, path: &str) -> Result<String, AllocError> {
+        joined(alloc, self.path.as_str(), path)
+    }
+
+    /// The full path of the current folder, or of the root if that folder is outside.
+    pub fn base(&self, alloc: Global) -> Result<String, AllocError> {
+        match &self.current {
+            Some(current) => self.full(alloc, current.as_str()),
+            None => self.full(alloc, ""),
+        }
+    }
+
+    /// The path that a message shows: from the current folder on, if that is in the tree.
+    pub fn shown(&self, alloc: Global, path: &str) -> Result<String, AllocError> {
+        match &self.current {
+            Some(current) => relative(alloc, current.as_str(), path),
+            None => self.full(alloc, path),
+        }
+    }
+
+    /// The path in the tree of what a word of the command line names. It need not be there.
+    pub fn inner(&self, rt: &HostRuntime, word: &str) -> Result<String, Fault> {
+        let whole = match whole_path(rt, word) {
+            Ok(whole) => whole,
+            Err(error) => return Err(Fault::unreadable(rt.alloc(), word, error)),
+        };
+        let Some(inner) = within(whole.as_str(), self.path.as_str()) else {
+            return Err(Fault::path(rt.alloc(), word, ELSEWHERE));
+        };
+        match resolved(rt.alloc(), "", inner)? {
+            Some(path) => Ok(path),
+            None => Err(Fault::path(rt.alloc(), word, ELSEWHERE)),
+        }
+    }
+}

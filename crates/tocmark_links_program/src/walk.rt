@@ -1,0 +1,200 @@
+//! The files and folders of a tree. Links are never followed.
+
+use crate::fault::Fault;
+use crate::root::{Root, joined};
+use std::alloc::{AllocError, Global};
+use std::fs::DirEntry;
+use std::{fs, io};
+use tocmark_files::rules::{Entry, Rules};
+use tocmark_files::trust::Caller;
+
+/// What the names of Markdown files end with.
+const ENDINGS: [&str; 4] = [".md", ".markdown", ".mdown", ".mkd"];
+
+/// Folders that are never looked into.
+const PASSED_BY: [&str; 4] = [".git", ".hg", ".svn", "node_modules"];
+
+/// What a tree has, by paths in it.
+#[derive(Drop)]
+pub struct Files {
+    /// The Markdown files that are read.
+    pub pages: Vec<String>,
+    /// All others, those that are ignored or excluded, and folders that aren't looked into.
+    pub others: Vec<String>,
+    /// Why folders could not be read.
+    pub faults: Vec<Fault>,
+}
+
+/// The rules of a `.gitignore` file, and which rules hold above it.
+#[derive(Drop)]
+struct Level {
+    rules: Rules,
+    above: Option<usize>,
+}
+
+/// A folder that is still to be looked into, and what holds above it.
+#[derive(Drop)]
+struct Folder {
+    path: String,
+    level: Option<usize>,
+}
+
+/// What is found so far.
+#[derive(Drop)]
+struct Walk {
+    caller: Caller,
+    exclude: Rules,
+    levels: Vec<Level>,
+    todo: Vec<Folder>,
+    files: Files,
+}
+
+/// Whether a file's name is one of Markdown.
+pub fn is_markdown(name: &str) -> bool {
+    for ending in &ENDINGS {
+        if name.ends_with(*ending) {
+            return true;
+        }
+    }
+    false
+}
+
+/// Whether a folder with this name is never looked into.
+fn is_passed_by(name: &str) -> bool {
+    for known in &PASSED_BY {
+        if *known == name {
+            return true;
+        }
+    }
+    false
+}
+
+impl Walk {
+    /// Reads the `.gitignore` file of a folder at this full path, and returns what holds in it. One that belongs to somebody
+    /// else, or can't be read, has no rules.
+    fn enter(
+        &mut self,
+        rt: &HostRuntime,
+        full: &str,
+        above: Option<usize>,
+    ) -> Result<Option<usize>, AllocError> {
+        let path = joined(rt.alloc(), full, ".gitignore")?;
+        let Ok(Some(bytes)) = self.caller.read(rt, path.as_str(), false) else {
+            return Ok(above);
+        };
+        let text = String::from_utf8_lossy(rt.alloc(), &bytes)?;
+        let mut rules = Rules::new(rt.alloc(), full)?;
+        let _ = rules.add_lines(rt.alloc(), text.as_str())?;
+        self.levels.push(Level { rules, above })?;
+        Ok(Some(self.levels.len().saturating_sub(1)))
+    }
+
+    /// Whether an entry of a folder is excluded, or ignored by what holds there.
+    fn leaves_out(
+        &self,
+        alloc: Global,
+        level: Option<usize>,
+        entry: Entry<'_>,
+    ) -> Result<bool, AllocError> {
+        if self.exclude.mean(alloc, entry)? {
+            return Ok(true);
+        }
+        let mut next = level;
+        for _ in 0..self.levels.len() {
+            let Some(at) = next else {
+                break;
+            };
+            let Some(Level { rules, above }) = self.levels.get(at) else {
+                break;
+            };
+            if let Some(verdict) = rules.verdict(alloc, entry)? {
+                return Ok(verdict);
+            }
+            next = *above;
+        }
+        Ok(false)
+    }
+
+    /// Adds an entry of a folder.
+    fn add(
+        &mut self,
+        rt: &HostRuntime,
+        root: &Root,
+        folder: &Folder,
+        entry: &DirEntry,
+    ) -> io::Result<()> {
+        let name = entry.file_name();
+        let found = entry.metadata()?;
+        let path = joined(rt.alloc(), folder.path.as_str(), name)?;
+        let full = root.full(rt.alloc(), path.as_str())?;
+        let rules_entry = Entry {
+            path: full.as_str(),
+            is_folder: found.is_dir(),
+        };
+        let is_left_out = self.leaves_out(rt.alloc(), folder.level, rules_entry)?;
+        if !found.is_dir() {
+            let is_page = found.is_file() && is_markdown(name) && !is_left_out;
+            let list = if is_page {
+                &mut self.files.pages
+            } else {
+                &mut self.files.others
+            };
+            list.push(path)?;
+            return Ok(());
+        }
+        if is_left_out || is_passed_by(name) {
+            self.files.others.push(path)?;
+        } else {
+            self.todo.push(Folder {
+                path,
+                level: folder.level,
+            })?;
+        }
+        Ok(())
+    }
+
+    /// Adds what a folder has.
+    fn look_into(&mut self, rt: &HostRuntime, root: &Root, folder: Folder) -> io::Result<()> {
+        let Folder { path, level } = folder;
+        let full = root.full(rt.alloc(), path.as_str())?;
+        let level = self.enter(rt, full.as_str(), level)?;
+        let folder = Folder { path, level };
+        for entry in fs::read_dir(rt, full.as_str())? {
+            self.add(rt, root, &folder, &entry?)?;
+        }
+        Ok(())
+    }
+}
+
+/// What a tree has, in the order of the paths' bytes. What is excluded or ignored counts as being there, but isn't read.
+pub fn files_of(rt: &HostRuntime, root: &Root, exclude: Rules) -> Result<Files, Fault> {
+    let mut walk = Walk {
+        caller: Caller::new(rt),
+        exclude,
+        levels: Vec::new(rt.alloc()),
+        todo: Vec::new(rt.alloc()),
+        files: Files {
+            pages: Vec::new(rt.alloc()),
+            others: Vec::new(rt.alloc()),
+            faults: Vec::new(rt.alloc()),
+        },
+    };
+    walk.todo.push(Folder {
+        path: String::new(rt.alloc()),
+        level: None,
+    })?;
+    for _ in 0..u64::MAX {
+        let Some(folder) = walk.todo.pop() else {
+            break;
+        };
+        let full = root.full(rt.alloc(), folder.path.as_str())?;
+        if let Err(error) = walk.look_into(rt, root, folder) {
+            let fault = Fault::unreadable(rt.alloc(), full.as_str(), error);
+            walk.files.faults.push(fault)?;
+        }
+    }
+    let Walk { mut files, .. } = walk;
+    files.pages.sort()?;
+    files.others.sort()?;
+    Ok(files)
+}
