@@ -28,6 +28,7 @@ TOP = os.path.join(HERE, "..", "..")
 COMMANDS = {
     "tocmark-format": "tocmark_format_program",
     "tocmark-compare": "tocmark_compare_program",
+    "tocmark-links": "tocmark_links_program",
     "tocmark-events": "tocmark_events_program",
     "tocmark-filter": None,
     "tocmark-guard": None,

@@ -76,8 +76,8 @@ fn top_of(rt: &HostRuntime, folder: &str) -> Result<Option<String>, AllocError> 
 }
 
 impl Root {
-    /// The root of the tree that the file or folder at a path is in: the top of its Git repository; else the folder itself, or
-    /// for a file the current folder if that has it, or its own.
+    /// The root of the tree that the file or folder at a path is in: the top of its Git repository; else the current folder, if
+    /// that has it; else the folder itself, or that of the file.
     pub fn of(rt: &HostRuntime, path: &str) -> Result<Root, Fault> {
         let folder = match folder_at(rt, path) {
             Ok(folder) => folder,
@@ -89,10 +89,9 @@ impl Root {
         };
         let top = top_of(rt, folder.as_str())?;
         let is_git = top.is_some();
-        let is_file = fs::metadata(rt, path).is_ok_and(|found| found.is_file());
         let path = match top {
             Some(top) => top,
-            None if is_file && within(folder.as_str(), current.as_str()).is_some() => {
+            None if within(folder.as_str(), current.as_str()).is_some() => {
                 String::from_str(rt.alloc(), current.as_str())?
             }
             None => folder,
