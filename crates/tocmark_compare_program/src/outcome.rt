@@ -1,7 +1,8 @@
 //! What became of pairs of files, and the status of a call.
 
-ghost use Rattle.std.specs.Prelude.{◌≡◌, ◌↔◌, IfOk, IsTrue, []};
+ghost use Rattle.std.specs.Prelude.{◌≡◌, ◌↔◌, ◌×◌, IfOk, IsTrue, []};
 ghost use Rattle.std.specs.List.{list_any};
+ghost use Rattle.tocmark_differences.specs.Said.{HaveSameLetters, SayTheSame};
 ghost use Rattle.tocmark_compare_program.specs.Measures.{AreTheSame};
 ghost use Rattle.tocmark_compare_program.specs.Outcomes.{differs, has_failed, status};
 ghost use Rattle.tocmark_compare_program.specs.declared.outcome.Outcome.TheVariants.{Same};
@@ -62,6 +63,26 @@ fn outcome_of(found: &[Difference]) -> Outcome
     }
 }
 
+/// What two texts say differently; if that is nothing, how their letters differ. It fails if memory runs out.
+fn differences_and_letters<R: PartReader>(
+    alloc: Global,
+    reader: &R,
+    terms: Terms,
+    old: &str,
+    new: &str,
+) -> Result<Vec<Difference>, AllocError>
+    ensures { IfOk result (λ all. (all.items ≡ [])
+        ↔ (SayTheSame terms.allowed terms.flags (R.reading reader.now) (R.definitions reader.now)
+        old.now new.now × HaveSameLetters old.now new.now)) }
+{
+    let found = compared(alloc, reader, terms.flags, terms.allowed, old, new)?;
+    if found.is_empty() {
+        compared_letters(alloc, old, new)
+    } else {
+        Ok(found)
+    }
+}
+
 /// What differs between two texts. It fails if memory runs out.
 fn differences<R: PartReader>(
     alloc: Global,
@@ -73,13 +94,10 @@ fn differences<R: PartReader>(
     ensures { IfOk result (λ all. (all.items ≡ []) ↔ AreTheSame terms
         (R.reading reader.now) (R.definitions reader.now) old.now new.now) }
 {
-    if let Measure::Letters = terms.measure {
-        return compared_letters(alloc, old, new);
-    }
-    let found = compared(alloc, reader, terms.flags, terms.allowed, old, new)?;
     match terms.measure {
-        Measure::EventsAndLetters if found.is_empty() => compared_letters(alloc, old, new),
-        _ => Ok(found),
+        Measure::Events => compared(alloc, reader, terms.flags, terms.allowed, old, new),
+        Measure::EventsAndLetters => differences_and_letters(alloc, reader, terms, old, new),
+        Measure::Letters => compared_letters(alloc, old, new),
     }
 }
 

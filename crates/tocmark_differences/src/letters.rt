@@ -7,44 +7,49 @@ use crate::compare::after_mark;
 use crate::difference::{Difference, Kind};
 use crate::marks::line_starts;
 use std::alloc::{AllocError, Global};
-use std::str::CharIndices;
 use tocmark_judge::letters::have_same_letters;
 
 /// How many characters before the first differing letter are shown, and how many from it on.
 const SHOWN: (usize, usize) = (20, 40);
 
-/// Whether a character counts as a letter: an ASCII letter, or any character past ASCII.
-fn is_letter(c: char) -> bool {
-    c.is_ascii_alphabetic() || !c.is_ascii()
+/// Whether a byte is an ASCII letter or belongs to a character past ASCII.
+fn is_letter(byte: u8) -> bool {
+    byte.is_ascii_alphabetic() || !byte.is_ascii()
 }
 
-/// The next letter, with its place in bytes.
-fn next_letter(rest: &mut CharIndices<'_>) -> Option<(usize, char)> {
-    for (at, c) in rest {
-        if is_letter(c) {
-            return Some((at, c));
+/// The place of the first letter from this place on; the end, if there is none.
+fn letter_from(text: &[u8], from: usize) -> usize {
+    for at in from..text.len() {
+        match text.get(at) {
+            Some(byte) if is_letter(*byte) => return at,
+            _ => {}
         }
     }
-    None
+    text.len()
 }
 
-/// Where the letters of two texts first differ, in bytes: at a letter, or at the end of the text that has no more letters.
-fn parting(old: &str, new: &str) -> (usize, usize) {
-    let mut rest = new.char_indices();
-    for (at, c) in old.char_indices() {
-        if !is_letter(c) {
-            continue;
+/// Where the letters of two texts first differ: at a letter, or at the end of the text that has no more letters.
+fn parting(old: &[u8], new: &[u8]) -> (usize, usize) {
+    let (mut was, mut is) = (letter_from(old, 0), letter_from(new, 0));
+    for _ in 0..old.len() {
+        if was >= old.len() || old.get(was).copied() != new.get(is).copied() {
+            break;
         }
-        match next_letter(&mut rest) {
-            Some((_, other)) if other == c => {}
-            Some((there, _)) => return (at, there),
-            None => return (at, new.len()),
+        was = letter_from(old, was.saturating_add(1));
+        is = letter_from(new, is.saturating_add(1));
+    }
+    (was, is)
+}
+
+/// Where the character begins that has this byte.
+fn character_start(text: &str, at: usize) -> usize {
+    for back in 0..4usize {
+        let start = at.saturating_sub(back);
+        if text.is_char_boundary(start) {
+            return start;
         }
     }
-    match next_letter(&mut rest) {
-        Some((there, _)) => (old.len(), there),
-        None => (old.len(), new.len()),
-    }
+    at
 }
 
 /// The word at this place in a text, as far as it is near. There is none at the end.
@@ -77,7 +82,8 @@ fn line_of(alloc: Global, text: &str, at: usize) -> Result<usize, AllocError> {
 
 /// The first difference between the letters of two texts that have not the same ones.
 fn first_difference(alloc: Global, old: &str, new: &str) -> Result<Difference, AllocError> {
-    let (was, is) = parting(old, new);
+    let (was, is) = parting(old.as_bytes(), new.as_bytes());
+    let (was, is) = (character_start(old, was), character_start(new, is));
     let (old_line, new_line) = (line_of(alloc, old, was)?, line_of(alloc, new, is)?);
     Ok(Difference {
         kind: Kind::Letters,
