@@ -1,18 +1,17 @@
 -- A closing bracket: the link or the image that it ends, or text.
-use Rattle.std.proofs.Common.{◌≡◌, ℕ, zero, suc, ◌+◌, ◌-◌, ◌^◌, ◌<◌, ◌≤◌, min, Bool, true, false, not, ◌==◌, ◌||◌, nat_le, if◌then◌else◌, inl, inr, List, [], ◌∷◌, ◌++◌, length, map, take, drop, replicate, reverse, refl, ap, sym, subst, ◌∙◌, arith, append_assoc, append-nil, length-append}
-use Rattle.std.proofs.lemmas.Bool.Decides.{nat_tests}
-use Rattle.std.proofs.lemmas.List.{length-replicate, replicate-append-replicate, reverse-reverse}
+use Rattle.std.proofs.Common.{◌≡◌, ℕ, suc, ◌+◌, ◌-◌, ◌^◌, ◌<◌, ◌≤◌, min, Bool, true, false, not, ◌==◌, ◌||◌, nat_le, if◌then◌else◌, inl, inr, List, [], ◌∷◌, ◌++◌, length, take, drop, replicate, reverse, refl, ap, sym, subst, ◌∙◌, arith, append_assoc, append-nil, length-append}
+use Rattle.std.proofs.lemmas.List.{length-replicate, reverse-reverse}
 use Rattle.std.proofs.lemmas.List.Sums.{fold-append}
 use Rattle.std.proofs.Math.Seq.{take-append_seam}
-use Rattle.std.specs.Prelude.{Option, Some, None, slice_get, slice_set, unwrap_or}
+use Rattle.std.specs.Prelude.{Option, Some, slice_get, slice_set, unwrap_or}
 use Rattle.std.specs.List.{fold}
 use Rattle.tocmark_event.specs.View as view
 use Rattle.tocmark_event.specs.View.{TagView, Start}
 use Rattle.tocmark_event.specs.declared.event.LinkType.{LinkType}
 use Rattle.tocmark_event.specs.declared.event.LinkType.TheVariants as link
-use Rattle.tocmark_read_scan.specs.Basic.{plus, byte_at}
+use Rattle.tocmark_read_scan.specs.Basic.{byte_at}
 use Rattle.tocmark_read_scan.specs.declared.syntax.Names.TheVariants.{All}
-use Rattle.tocmark_read_inlines.specs.Scan.{State, Known, is_mark, stretch, settled, targeted, spanned, deactivated, linked, closed_in, closed_last_in, closed_popped_in, closed_active_in, popped, looked_all, next_place, with_place}
+use Rattle.tocmark_read_inlines.specs.Scan.{State, Known, is_mark, settled, targeted, spanned, linked, closed_in, closed_last_in, closed_popped_in, closed_active_in, popped, looked_all, next_place, with_place}
 use Rattle.tocmark_read_spans.specs.Emphasis as reader
 use Rattle.tocmark_read_spans.specs.declared.definitions.Entry.{Entry}
 use Rattle.tocmark_read_spans.specs.declared.link.Bracket.{Bracket}
@@ -23,7 +22,7 @@ use Rattle.tocmark_read_spans.specs.declared.role.Span.TheVariants as span
 use Rattle.tocmark_read_spans.specs.declared.role.Target.{Target}
 use Rattle.tocmark_read_spans.specs.declared.run.Run.{Run}
 use Rattle.tocmark_commonmark.specs.Emphasis.{emphasized}
-use Rattle.tocmark_commonmark.specs.InlineTree.{Inline, Inlines, Text, Bracket as AtomBracket, Atom, Whole, Delimiters, Opening, as_inline}
+use Rattle.tocmark_commonmark.specs.InlineTree.{Inline, Inlines, Text, Bracket as AtomBracket, Atom, Whole, Opening, as_inline}
 use Rattle.tocmark_commonmark.specs.Inlines as declared
 use Rattle.tocmark_commonmark.specs.Inlines.{Enclosed, enclosed, inactive, before_link, link_or, bracket_closed}
 use Rattle.tocmark_commonmark.specs.Links as target
@@ -35,10 +34,10 @@ use Rattle.tocmark_inline_laws.specs.Said as said
 use Rattle.tocmark_inline_laws.specs.Statement.{LeadAlike}
 use Rattle.tocmark_inline_laws.proofs.Atoms.{with_more, flow_at, bracket_width, Shows, skips, Trail, trail_more}
 use Rattle.tocmark_inline_laws.proofs.Flow.{Flow, Beside, flow_step}
-use Rattle.tocmark_inline_laws.proofs.OpenBrackets.{NoneOpens, Enclosing, Enclosings, enclosing, none_open, opens_before, opens_after, kept_parts, weight_parts, trail_text, kept_inactive, runs_inactive, trail_inactive, opens_inactive, opens_fewer, min_same}
+use Rattle.tocmark_inline_laws.proofs.OpenBrackets.{NoneOpens, Enclosings, enclosing, none_open, opens_before, opens_after, kept_parts, weight_parts, trail_text, kept_inactive, runs_inactive, trail_inactive, opens_inactive, opens_fewer, min_same}
 use Rattle.tocmark_inline_laws.proofs.Outcomes.{Links, Fails, Outcome, outcome}
-use Rattle.tocmark_inline_laws.proofs.Passes.{step, step_look}
-use Rattle.tocmark_inline_laws.proofs.Phases.{bracket_from, Passes}
+use Rattle.tocmark_inline_laws.proofs.Passes.{step_look}
+use Rattle.tocmark_inline_laws.proofs.Phases.{bracket_from}
 use Rattle.tocmark_inline_laws.proofs.Places.{set_here, set_next, plain_split, clean_after}
 use Rattle.tocmark_inline_laws.proofs.Plains.{plains_show}
 use Rattle.tocmark_inline_laws.proofs.Run.{Next, next_by}
@@ -48,8 +47,7 @@ use Rattle.tocmark_inline_laws.proofs.Sim.{beside, runs_of, weight, kept_of, bra
 use Rattle.tocmark_inline_laws.proofs.SpanRoles.{ShowsAll}
 use Rattle.tocmark_inline_laws.proofs.Stack.{get_here}
 use Rattle.tocmark_inline_laws.proofs.Stretches.{first_left}
-use Rattle.tocmark_inline_laws.proofs.TargetEnds.{Ended}
-use Rattle.tocmark_inline_laws.proofs.Tokens.{added, byte_passes, byte_goes}
+use Rattle.tocmark_inline_laws.proofs.Tokens.{byte_passes, byte_goes}
 
 -- the tag of a link or an image
 abbrev tag_of : Bool → target.Target → TagView
@@ -165,13 +163,21 @@ linked_so x t end s = by x.image
   where
     by : (z : Bool) → (if not z then record s {
       roles = slice_set (slice_set (slice_set (reader.emphasized s.roles (drop x.runs s.runs)) (x.inner - 1) role.Hidden) x.start (role.Open (if x.image then span.Image (length s.targets) else span.Link (length s.targets)) end)) s.place (role.Close end);
-      runs = take x.runs s.runs; targets = s.targets ++ t ∷ []; resume = end; inactive = length s.brackets;
+      runs = take x.runs s.runs;
+      targets = s.targets ++ t ∷ [];
+      resume = end;
+      inactive = length s.brackets;
     } else record s {
       roles = slice_set (slice_set (slice_set (reader.emphasized s.roles (drop x.runs s.runs)) (x.inner - 1) role.Hidden) x.start (role.Open (if x.image then span.Image (length s.targets) else span.Link (length s.targets)) end)) s.place (role.Close end);
-      runs = take x.runs s.runs; targets = s.targets ++ t ∷ []; resume = end;
+      runs = take x.runs s.runs;
+      targets = s.targets ++ t ∷ [];
+      resume = end;
     }) ≡ record s {
       roles = slice_set (slice_set (slice_set (reader.emphasized s.roles (drop x.runs s.runs)) (x.inner - 1) role.Hidden) x.start (role.Open (span_at x.image (length s.targets)) end)) s.place (role.Close end);
-      runs = take x.runs s.runs; targets = s.targets ++ t ∷ []; resume = end; inactive = if z then s.inactive else length s.brackets;
+      runs = take x.runs s.runs;
+      targets = s.targets ++ t ∷ [];
+      resume = end;
+      inactive = if z then s.inactive else length s.brackets;
     }
     by true = refl
     by false = refl
@@ -455,7 +461,7 @@ links bytes ahead defs labels p s done part before b o plain inner fits is found
         roles_are =
             ap (λ rs. slice_set (slice_set (slice_set rs (b.inner - 1) role.Hidden) (b.inner - w) (role.Open (span_at b.is_image (length s.targets)) l.as_declared.end)) s.place (role.Close l.as_declared.end)) (emphasis_is ∙ ap (λ rs. rs ++ (m.roles ++ replicate (length bytes - p) role.Plain)) cut ∙ ap (λ rs. (k.trail.0 ++ replicate w role.Plain) ++ (m.roles ++ rs)) rest_split)
             ∙ link_roles b.is_image (k.trail.0) m.roles (replicate (l.as_declared.end - suc p) role.Plain ++ replicate (length bytes - l.as_declared.end) role.Plain) (role.Open (span_at b.is_image (length s.targets)) l.as_declared.end) (role.Close l.as_declared.end) (b.inner - 1) (b.inner - w) s.place
-                (omega (arith, inner_is)) (omega (arith, inner_is, started)) (let r : s.place ≡ p = o.sim.place in omega (arith, inner_is, long_front))
+            (omega (arith, inner_is)) (omega (arith, inner_is, started)) (let r : s.place ≡ p = o.sim.place in omega (arith, inner_is, long_front))
             ∙ ap (λ rs. k.trail.0 ++ (start_roles b.is_image (role.Open (span_at b.is_image (length s.targets)) l.as_declared.end) ++ rs)) (sym (append_assoc m.roles (role.Close l.as_declared.end ∷ replicate (l.as_declared.end - suc p) role.Plain) (replicate (length bytes - l.as_declared.end) role.Plain)))
             ∙ ap (λ rs. k.trail.0 ++ rs) (sym (append_assoc (start_roles b.is_image (role.Open (span_at b.is_image (length s.targets)) l.as_declared.end)) (m.roles ++ role.Close l.as_declared.end ∷ replicate (l.as_declared.end - suc p) role.Plain) (replicate (length bytes - l.as_declared.end) role.Plain)))
             ∙ sym (append_assoc (k.trail.0) seg (replicate (length bytes - l.as_declared.end) role.Plain))

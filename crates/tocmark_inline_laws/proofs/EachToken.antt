@@ -1,5 +1,5 @@
 -- Each token of a content is read as declared, so each content is.
-use Rattle.std.proofs.Common.{◌≡◌, ℕ, zero, suc, ◌+◌, ◌^◌, ◌<◌, ◌≤◌, Bool, true, false, ◌==◌, ◌&&◌, nat_lt, if◌then◌else◌, List, [], length, drop, codes, refl, ap, sym, subst, ◌∙◌, arith, true≢false}
+use Rattle.std.proofs.Common.{◌≡◌, ℕ, zero, suc, ◌+◌, ◌^◌, ◌<◌, ◌≤◌, Bool, true, false, ◌==◌, ◌&&◌, nat_lt, if◌then◌else◌, List, length, drop, codes, refl, ap, sym, subst, ◌∙◌, arith, true≢false}
 use Rattle.std.proofs.lemmas.Bool.Decides.{nat_tests}
 use Rattle.std.specs.Prelude.{Option, take_while}
 use Rattle.tocmark_read_scan.specs.Basic.{byte_at, starts_at}
@@ -11,7 +11,6 @@ use Rattle.tocmark_read_inlines.specs.Scan.{State, Known, ahead_in, ends_of, tic
 use Rattle.tocmark_read_spans.specs.Run.{run_at}
 use Rattle.tocmark_read_spans.specs.declared.definitions.Entry.{Entry}
 use Rattle.tocmark_commonmark.specs.InlineTree.{Atom, SoftBreak, Delimiters, bracket_text}
-use Rattle.tocmark_commonmark.specs.Inlines.{bracket_closed}
 use Rattle.tocmark_commonmark.specs.Links.{Destination}
 use Rattle.tocmark_commonmark.specs.Tokens as kind
 use Rattle.tocmark_commonmark.specs.Tokens.{Kind, kind_of, is_other, Token, token, byte_token, token_at, backslash, ampersand, reference, code_from, opening, exclamation, angle, html_end, spaces, others}
@@ -24,11 +23,10 @@ use Rattle.tocmark_inline_laws.proofs.Breaks.{feed_goes, spaces_goes}
 use Rattle.tocmark_inline_laws.proofs.ByKind.{Each, by_kind}
 use Rattle.tocmark_inline_laws.proofs.Delimiters.{star_goes, underscore_goes}
 use Rattle.tocmark_inline_laws.proofs.Run.{Next, next_by, GoesOn, read_as_declared}
-use Rattle.tocmark_inline_laws.proofs.Sim.{Grown, Sim, Goes}
+use Rattle.tocmark_inline_laws.proofs.Sim.{Sim, Goes}
 use Rattle.tocmark_inline_laws.proofs.OpenBrackets.{bracket_goes}
 use Rattle.tocmark_inline_laws.proofs.ClosedBrackets.{closing_next}
 use Rattle.tocmark_inline_laws.proofs.Places.{two_at, past_end}
-use Rattle.tocmark_inline_laws.proofs.Stretches.{got}
 use Rattle.tocmark_inline_laws.proofs.Tokens.{backslash_goes, exclamation_goes, other_goes}
 
 -- what is to be shown of a byte of a kind

@@ -1,10 +1,7 @@
 -- Atoms on both sides of a place, with the roles that say them and the reader's runs; and the search for an opening run.
-use Rattle.std.proofs.Common.{◌≡◌, ℕ, zero, suc, ◌+◌, ◌^◌, ◌<◌, ◌≤◌, Bool, true, false, ◌&&◌, ◌||◌, not, ◌==◌, ◌%◌, if◌then◌else◌, ◌⊎◌, inl, inr, List, [], ◌∷◌, ◌++◌, length, replicate, reverse, refl, ap, sym, subst, ◌∙◌, arith, append_assoc, append-nil, length-append, true≢false}
+use Rattle.std.proofs.Common.{◌≡◌, ℕ, ◌+◌, ◌^◌, ◌<◌, ◌≤◌, Bool, true, false, ◌&&◌, ◌||◌, not, ◌==◌, ◌%◌, if◌then◌else◌, ◌⊎◌, inl, inr, List, [], ◌∷◌, ◌++◌, length, replicate, reverse, refl, ap, sym, subst, ◌∙◌, arith, append_assoc, length-append, true≢false}
 use Rattle.std.proofs.lemmas.List.{length-replicate, reverse-append}
 use Rattle.std.specs.Prelude.{Option, Some, None}
-use Rattle.std.specs.List.{AllByRecursion}
-use Rattle.tocmark_read_scan.specs.Basic.{byte_at}
-use Rattle.tocmark_read_scan.proofs.PlainTests.{both_true}
 use Rattle.tocmark_read_spans.specs.Emphasis as reader
 use Rattle.tocmark_read_spans.specs.declared.role.Role.{Role}
 use Rattle.tocmark_read_spans.specs.declared.role.Role.TheVariants as role

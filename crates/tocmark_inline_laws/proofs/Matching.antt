@@ -1,5 +1,5 @@
 -- What the reader makes of delimiter runs is the emphasis that is declared.
-use Rattle.std.proofs.Common.{◌≡◌, ℕ, zero, suc, ◌+◌, ◌-◌, ◌^◌, ◌<◌, ◌≤◌, Bool, true, false, ◌==◌, ◌&&◌, ◌||◌, nat_lt, nat_le, if◌then◌else◌, ◌⊎◌, inl, inr, List, [], ◌∷◌, ◌++◌, length, take, replicate, reverse, refl, ap, sym, subst, ◌∙◌, arith, append_assoc, append-nil, length-append, true≢false}
+use Rattle.std.proofs.Common.{◌≡◌, ℕ, zero, suc, ◌+◌, ◌-◌, ◌^◌, ◌<◌, ◌≤◌, Bool, true, false, ◌==◌, ◌&&◌, ◌||◌, nat_lt, nat_le, if◌then◌else◌, inl, inr, List, [], ◌∷◌, ◌++◌, length, take, replicate, reverse, refl, ap, sym, subst, ◌∙◌, arith, append_assoc, append-nil, length-append, true≢false}
 use Rattle.std.proofs.lemmas.Bool.Decides.{nat_tests}
 use Rattle.std.proofs.lemmas.List.{length-replicate, replicate-append-replicate}
 use Rattle.std.proofs.Math.Seq.{take-append_seam}
@@ -14,8 +14,8 @@ use Rattle.tocmark_read_spans.specs.declared.role.Role.TheVariants as role
 use Rattle.tocmark_read_spans.specs.declared.role.Span.{Span}
 use Rattle.tocmark_read_spans.specs.declared.role.Span.TheVariants as span
 use Rattle.tocmark_read_spans.specs.declared.run.Run.{Run}
-use Rattle.tocmark_commonmark.specs.Emphasis.{Match, can_match, nearest, width, emphasis_of, run_left, emphasized_with, matched, closed_or, emphasis, steps}
-use Rattle.tocmark_commonmark.specs.InlineTree.{Inline, Inlines, Bracket, Atom, Whole, Delimiters, Opening, inlines_of}
+use Rattle.tocmark_commonmark.specs.Emphasis.{Match, can_match, nearest, run_left, emphasized_with, matched, closed_or, emphasis, steps}
+use Rattle.tocmark_commonmark.specs.InlineTree.{Inline, Bracket, Atom, Whole, Delimiters, Opening, inlines_of}
 use Rattle.tocmark_inline_laws.proofs.Atoms.{IsRun, Shows}
 use Rattle.tocmark_inline_laws.proofs.Flow.{Beside}
 use Rattle.tocmark_inline_laws.proofs.Sim.{runs_of, weight}

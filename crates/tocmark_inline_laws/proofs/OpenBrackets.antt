@@ -1,10 +1,10 @@
 -- Opening brackets: the nearest one before a closing bracket, and what the reader keeps of them.
-use Rattle.std.proofs.Common.{◌≡◌, ℕ, zero, suc, ◌+◌, ◌-◌, ◌^◌, ◌<◌, ◌≤◌, min, Bool, true, false, ◌==◌, ◌||◌, nat_le, if◌then◌else◌, ◌⊎◌, inl, inr, List, [], ◌∷◌, ◌++◌, length, map, replicate, reverse, refl, ap, sym, subst, ◌∙◌, arith, append_assoc, append-nil, length-append, true≢false}
+use Rattle.std.proofs.Common.{◌≡◌, ℕ, suc, ◌+◌, ◌-◌, ◌^◌, ◌<◌, ◌≤◌, min, Bool, true, false, ◌==◌, ◌||◌, nat_le, if◌then◌else◌, ◌⊎◌, inl, inr, List, [], ◌∷◌, ◌++◌, length, map, replicate, reverse, refl, ap, sym, subst, ◌∙◌, arith, append_assoc, append-nil, length-append, true≢false}
 use Rattle.std.proofs.lemmas.Bool.Decides.{nat_tests}
 use Rattle.std.proofs.lemmas.List.{length-replicate, replicate-append-replicate}
-use Rattle.std.specs.Prelude.{Option, Some, None, codes, slice_get, slice_set, ⊤}
-use Rattle.tocmark_read_scan.specs.Basic.{plus, byte_at, starts_at}
-use Rattle.tocmark_read_inlines.specs.Scan.{State, Known, is_mark, marked_last, marked, opened, imaged, looked, looked_all, next_place}
+use Rattle.std.specs.Prelude.{Option, Some, None, slice_get, slice_set, ⊤}
+use Rattle.tocmark_read_scan.specs.Basic.{plus, byte_at}
+use Rattle.tocmark_read_inlines.specs.Scan.{State, Known, is_mark, marked_last, marked, opened, looked, looked_all, next_place}
 use Rattle.tocmark_read_spans.specs.declared.definitions.Entry.{Entry}
 use Rattle.tocmark_read_spans.specs.declared.link.Bracket.{Bracket}
 use Rattle.tocmark_read_spans.specs.declared.role.Role.{Role}
@@ -12,15 +12,15 @@ use Rattle.tocmark_read_spans.specs.declared.role.Role.TheVariants as role
 use Rattle.tocmark_read_spans.specs.declared.run.Run.{Run}
 use Rattle.tocmark_commonmark.specs.InlineTree.{Text, Bracket as AtomBracket, Atom, Whole, Delimiters, Opening, as_inline, bracket_text}
 use Rattle.tocmark_commonmark.specs.Inlines.{Enclosed, enclosed, inactive}
-use Rattle.tocmark_commonmark.specs.Tokens.{Token, opening}
+use Rattle.tocmark_commonmark.specs.Tokens.{opening}
 use Rattle.tocmark_inline_laws.specs.Said.{letters}
 use Rattle.tocmark_inline_laws.proofs.Atoms.{bracket_width, flow_at, Shows, Trail}
 use Rattle.tocmark_inline_laws.proofs.Flow.{Beside, flow_step}
 use Rattle.tocmark_inline_laws.proofs.Passes.{step_look}
-use Rattle.tocmark_inline_laws.proofs.Phases.{bracket_from, Passes, passes_on, bracket_here, before_bracket}
+use Rattle.tocmark_inline_laws.proofs.Phases.{bracket_from, Passes, bracket_here, before_bracket}
 use Rattle.tocmark_inline_laws.proofs.Places.{set_here, clean_after}
 use Rattle.tocmark_inline_laws.proofs.Settling.{turned_over}
-use Rattle.tocmark_inline_laws.proofs.Sim.{beside, runs_of, weight, kept_of, runs_with, bracket_of, Opens, opens_further, Sim, Goes, goes_atom}
+use Rattle.tocmark_inline_laws.proofs.Sim.{runs_of, weight, kept_of, runs_with, bracket_of, Opens, opens_further, Sim, Goes, goes_atom}
 use Rattle.tocmark_inline_laws.proofs.Stack.{get_here}
 
 -- no atom is an opening bracket

@@ -1,10 +1,9 @@
 -- Where the first bracket is that no backslash escapes, token by token: there a label ends.
-use Rattle.std.proofs.Common.{◌≡◌, ℕ, zero, suc, ◌+◌, ◌-◌, ◌^◌, ◌<◌, ◌≤◌, Bool, true, false, not, ◌==◌, ◌&&◌, ◌||◌, nat_lt, if◌then◌else◌, ◌⊎◌, inl, inr, List, [], ◌∷◌, length, drop, refl, ap, sym, subst, ◌∙◌, arith}
+use Rattle.std.proofs.Common.{◌≡◌, ℕ, zero, suc, ◌+◌, ◌-◌, ◌^◌, ◌<◌, ◌≤◌, Bool, true, false, not, ◌==◌, ◌&&◌, nat_lt, if◌then◌else◌, ◌⊎◌, inl, inr, List, [], length, drop, refl, ap, sym, subst, ◌∙◌, arith}
 use Rattle.std.proofs.lemmas.Bool.Decides.{nat_tests}
 use Rattle.std.specs.Char.{is_ascii_punctuation}
 use Rattle.tocmark_read_scan.specs.Basic.{plus, byte_at}
-use Rattle.tocmark_read_scan.proofs.PlainTests.{eq_of, both_true, differs}
-use Rattle.tocmark_read_tokens.specs.Reference.{is_escape}
+use Rattle.tocmark_read_scan.proofs.PlainTests.{differs}
 use Rattle.tocmark_read_tokens.specs.Word.{stops, ends_enclosed, escapes, enclosed_end}
 use Rattle.tocmark_read_tokens.specs.declared.word.Enclosure.TheVariants.{Bracketed}
 use Rattle.tocmark_inline_laws.proofs.Stretches.{drop_length, first_left, none}

@@ -1,5 +1,5 @@
 -- What the reader makes of a destination or a title is what is declared.
-use Rattle.std.proofs.Common.{◌≡◌, ℕ, zero, suc, ◌+◌, ◌-◌, ◌^◌, ◌<◌, ◌≤◌, Bool, true, false, ◌==◌, ◌&&◌, nat_lt, nat_le, if◌then◌else◌, List, [], ◌∷◌, ◌++◌, length, drop, codes, refl, ap, sym, subst, ◌∙◌, arith, append_assoc, append-nil, true≢false}
+use Rattle.std.proofs.Common.{◌≡◌, ℕ, zero, suc, ◌+◌, ◌-◌, ◌^◌, ◌<◌, ◌≤◌, Bool, true, false, ◌==◌, ◌&&◌, nat_lt, nat_le, if◌then◌else◌, List, [], ◌∷◌, ◌++◌, length, drop, codes, refl, ap, sym, ◌∙◌, arith, append_assoc, append-nil, true≢false}
 use Rattle.std.proofs.lemmas.Bool.Decides.{nat_tests}
 use Rattle.std.proofs.Math.Seq.{drop-length}
 use Rattle.std.specs.Prelude.{Option, Some, None, encode_utf8, slice_get}
@@ -16,12 +16,11 @@ use Rattle.tocmark_read_tokens.specs.Name.{Named, name_end, name_at}
 use Rattle.tocmark_read_tokens.specs.Reference as number
 use Rattle.tocmark_read_tokens.specs.Reference.{State, is_escape, numeric, reference_at, resolved_or, named_or, unescape_at, unescape_at_in, unescape_step_in, stepped, unescape_start, unescaped_in}
 use Rattle.tocmark_read_tokens.specs.declared.reference.Reference.{Reference}
-use Rattle.tocmark_commonmark.specs.Tokens as kind
 use Rattle.tocmark_commonmark.specs.Tokens.{Kind, kind_of, numbered, reference_if, reference, literal, escaped, literal_at, literals_at, literals, resolved}
 use Rattle.tocmark_inline_laws.proofs.Ampersands.{Here, starts_here, none_of_four, none_named, unnamed, numeric_is, named_is, Ended, ends_well}
-use Rattle.tocmark_inline_laws.proofs.ByKind.{Plainly, Each, by_kind}
+use Rattle.tocmark_inline_laws.proofs.ByKind.{Each, by_kind}
 use Rattle.tocmark_inline_laws.proofs.Places.{past_end}
-use Rattle.tocmark_inline_laws.proofs.Stretches.{cut, cut_length, first_left, first_cut, got, not_got}
+use Rattle.tocmark_inline_laws.proofs.Stretches.{cut_length, first_cut, got, not_got}
 
 not_starts : (bytes : List ℕ) (p w : ℕ) (ws : List ℕ) → (byte_at bytes p == w) ≡ false → starts_at bytes p (w ∷ ws) ≡ false
 not_starts bytes p w ws h = by (starts_at bytes p (w ∷ ws)) refl

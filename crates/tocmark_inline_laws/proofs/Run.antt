@@ -3,11 +3,10 @@ use Rattle.std.proofs.Common.{◌≡◌, ℕ, zero, suc, ◌+◌, ◌-◌, ◌^�
 use Rattle.std.proofs.lemmas.Bool.Decides.{nat_tests}
 use Rattle.std.proofs.Math.Seq.{drop-length}
 use Rattle.std.specs.Prelude.{Option, slice_get}
-use Rattle.std.specs.List.{fold, flat_map}
+use Rattle.std.specs.List.{fold}
 use Rattle.tocmark_read_scan.specs.Basic.{byte_at}
 use Rattle.tocmark_read_inlines.specs.Inlines.{scan_start}
 use Rattle.tocmark_read_inlines.specs.Scan.{State, Known, ahead_in, settled, scanned_in}
-use Rattle.tocmark_read_inlines.specs.Write.{written}
 use Rattle.tocmark_read_spans.specs.declared.definitions.Entry.{Entry}
 use Rattle.tocmark_read_spans.specs.Emphasis.{emphasized}
 use Rattle.tocmark_read_spans.specs.declared.role.Role.{Role}
@@ -19,7 +18,7 @@ use Rattle.tocmark_commonmark.specs.InlineTree.{Atom}
 use Rattle.tocmark_commonmark.specs.Inlines.{scanned, scanned_at, scanned_if, inlines}
 use Rattle.tocmark_commonmark.specs.Links.{Destination}
 use Rattle.tocmark_commonmark.specs.Tokens.{Kind, kind_of, Token}
-use Rattle.tocmark_inline_laws.specs.Said.{commonmark, node_said, state_said, said, declared}
+use Rattle.tocmark_inline_laws.specs.Said.{commonmark, state_said, said, declared}
 use Rattle.tocmark_inline_laws.proofs.Atoms.{with_more}
 use Rattle.tocmark_inline_laws.proofs.Flow.{Flow, Beside, flow_step, flow_start, written_flows}
 use Rattle.tocmark_inline_laws.proofs.Passes.{step}

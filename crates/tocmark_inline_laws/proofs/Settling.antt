@@ -1,5 +1,5 @@
 -- The delimiter runs of a trail of atoms are matched as declared.
-use Rattle.std.proofs.Common.{◌≡◌, ℕ, zero, suc, ◌+◌, ◌^◌, ◌<◌, ◌≤◌, Bool, true, false, ◌||◌, if◌then◌else◌, List, [], ◌∷◌, ◌++◌, length, replicate, reverse, refl, ap, sym, subst, ◌∙◌, arith, append_assoc, append-nil, length-append}
+use Rattle.std.proofs.Common.{◌≡◌, ℕ, ◌+◌, ◌^◌, ◌<◌, ◌≤◌, Bool, true, false, ◌||◌, if◌then◌else◌, List, [], ◌∷◌, ◌++◌, length, reverse, refl, ap, sym, subst, ◌∙◌, arith, append_assoc, append-nil, length-append}
 use Rattle.std.proofs.lemmas.List.{length-replicate, reverse-append}
 use Rattle.std.specs.List.{fold}
 use Rattle.tocmark_read_spans.specs.Emphasis as reader
@@ -7,13 +7,13 @@ use Rattle.tocmark_read_spans.specs.declared.role.Role.{Role}
 use Rattle.tocmark_read_spans.specs.declared.role.Role.TheVariants as role
 use Rattle.tocmark_read_spans.specs.declared.run.Run.{Run}
 use Rattle.tocmark_commonmark.specs.Emphasis.{emphasis, steps, emphasized}
-use Rattle.tocmark_commonmark.specs.InlineTree.{Atom, Whole, Delimiters, Opening, inlines_of}
-use Rattle.tocmark_inline_laws.proofs.Atoms.{Trail, Stands}
+use Rattle.tocmark_commonmark.specs.InlineTree.{Atom, Whole, Delimiters, Opening}
+use Rattle.tocmark_inline_laws.proofs.Atoms.{Trail}
 use Rattle.tocmark_inline_laws.proofs.Flow.{Beside}
 use Rattle.tocmark_inline_laws.proofs.Sim.{runs_of, weight, kept_of, runs_with}
 use Rattle.tocmark_inline_laws.proofs.SpanRoles.{ShowsAll}
 use Rattle.tocmark_inline_laws.proofs.Stack.{bottom_zero}
-use Rattle.tocmark_inline_laws.proofs.Held.{placed, with_kept, Lead}
+use Rattle.tocmark_inline_laws.proofs.Held.{with_kept, Lead}
 use Rattle.tocmark_inline_laws.proofs.Matching.{Settles, size, all_matched}
 
 pub turned_over : (a : Atom) (atoms done : List Atom) → reverse atoms ++ (a ∷ done) ≡ reverse (a ∷ atoms) ++ done
@@ -59,9 +59,14 @@ trail_splits e front (Opening b ∷ part) done h back rest runs k =
     (trail_splits e (h.0) part done (h.4) (h.1 ++ back) (Opening b ∷ rest) runs ((h.1), back, refl, (h.3.2), subst (λ q. Lead e q back rest runs) (after_cut front (h.0) (h.1) (h.2)) k)) refl
 trail_splits e front (Delimiters r ∷ part) done h back rest runs k =
     split_more e front (h.0) (h.1) back (Delimiters r) part done rest (with_kept r runs) runs (h.2)
-    (trail_splits e (h.0) part done (h.4) (h.1 ++ back) (Delimiters r ∷ rest) (with_kept r runs)
-    (back, runs, ap (λ rs. rs ++ back) (h.3.0), ap (λ (q : ℕ). with_kept (record r { place = q }) runs) (h.3.1), h.3.2,
-     subst (λ q. Lead e q back rest runs) (after_cut front (h.0) (h.1) (h.2) ∙ ap (λ n. length (h.0) + n) (ap length (h.3.0) ∙ length-replicate r.count role.Plain)) k))
+    (trail_splits e (h.0) part done (h.4) (h.1 ++ back) (Delimiters r ∷ rest) (with_kept r runs) (
+      back,
+      runs,
+      ap (λ rs. rs ++ back) (h.3.0),
+      ap (λ (q : ℕ). with_kept (record r { place = q }) runs) (h.3.1),
+      h.3.2,
+      subst (λ q. Lead e q back rest runs) (after_cut front (h.0) (h.1) (h.2) ∙ ap (λ n. length (h.0) + n) (ap length (h.3.0) ∙ length-replicate r.count role.Plain)) k,
+    ))
     (kept_on (kept_of part) runs r)
 
 -- a trail of atoms is a lead from its front

@@ -1,10 +1,10 @@
 -- The roles of emphasis: what they say, and how a match makes them of plain ones.
-use Rattle.std.proofs.Common.{◌≡◌, ℕ, zero, suc, ◌+◌, ◌-◌, ◌<◌, Bool, true, false, if◌then◌else◌, List, [], ◌∷◌, ◌++◌, length, replicate, refl, ap, sym, subst, ◌∙◌, arith, append_assoc, append-nil, length-append}
+use Rattle.std.proofs.Common.{◌≡◌, ℕ, zero, suc, ◌+◌, ◌-◌, ◌<◌, Bool, true, false, if◌then◌else◌, List, [], ◌∷◌, ◌++◌, length, replicate, ap, sym, ◌∙◌, arith, append_assoc, append-nil, length-append}
 use Rattle.std.proofs.lemmas.List.{length-replicate}
 use Rattle.std.proofs.lemmas.List.Sums.{fold-append}
 use Rattle.std.specs.Prelude.{slice_set}
 use Rattle.std.specs.List.{fold}
-use Rattle.tocmark_event.specs.View.{TagView, Start, Emphasis as EmphasisTag, Strong as StrongTag}
+use Rattle.tocmark_event.specs.View.{Start, Emphasis as EmphasisTag, Strong as StrongTag}
 use Rattle.tocmark_read_scan.specs.Basic.{byte_at}
 use Rattle.tocmark_read_spans.specs.declared.role.Role.{Role}
 use Rattle.tocmark_read_spans.specs.declared.role.Role.TheVariants as role
@@ -12,7 +12,7 @@ use Rattle.tocmark_read_spans.specs.declared.role.Span.{Span}
 use Rattle.tocmark_read_spans.specs.declared.role.Span.TheVariants as span
 use Rattle.tocmark_read_spans.specs.declared.role.Target.{Target}
 use Rattle.tocmark_commonmark.specs.InlineTree.{Inline, Inlines, none, more, Text, Emphasis, Strong}
-use Rattle.tocmark_inline_laws.specs.Said.{Piece, letters, tag_said, declared, declared_one}
+use Rattle.tocmark_inline_laws.specs.Said.{Piece, letters, declared, declared_one}
 use Rattle.tocmark_inline_laws.proofs.Atoms.{with_more, flow_at, Shows}
 use Rattle.tocmark_inline_laws.proofs.Flow.{Flow, Beside, flow_step}
 use Rattle.tocmark_inline_laws.proofs.Places.{set_here, set_next}

@@ -4,13 +4,12 @@ use Rattle.std.proofs.lemmas.Bool.Decides.{nat_tests}
 use Rattle.std.proofs.lemmas.List.{length-replicate}
 use Rattle.std.proofs.lemmas.List.Sums.{take_while-cons}
 use Rattle.std.specs.Char.{is_ascii_punctuation}
-use Rattle.std.specs.Prelude.{Option, slice_get, slice_set, take_while}
+use Rattle.std.specs.Prelude.{Option, slice_set, take_while}
 use Rattle.std.specs.List.{fold, AllByRecursion}
 use Rattle.tocmark_read_scan.specs.Basic.{plus, byte_at, starts_at}
-use Rattle.tocmark_read_scan.specs.declared.syntax.Names.TheVariants.{All}
 use Rattle.tocmark_read_scan.proofs.PlainTests.{eq_of, both_true, differs, turned}
 use Rattle.tocmark_read_tokens.specs.Reference.{is_escape}
-use Rattle.tocmark_read_inlines.specs.Scan.{State, Known, is_mark, put_leaf, escaped, imaged, opened, closed_in, closed_last_in, looked, looked_mark, looked_all, next_place, with_place}
+use Rattle.tocmark_read_inlines.specs.Scan.{State, Known, is_mark, put_leaf, escaped, imaged, opened, looked, looked_mark, looked_all, next_place, with_place}
 use Rattle.tocmark_read_spans.specs.declared.definitions.Entry.{Entry}
 use Rattle.tocmark_read_spans.specs.declared.role.Leaf.{Leaf}
 use Rattle.tocmark_read_spans.specs.declared.role.Leaf.TheVariants as leaf

@@ -1,13 +1,10 @@
 -- What the reader makes of a content is what CommonMark declares.
-use Rattle.std.specs.Prelude.{◌≡◌, ℕ, zero, suc, ◌+◌, ◌^◌, ◌<◌, Bool, true, false, not, ◌==◌, ◌&&◌, ◌||◌, List, [], ◌∷◌, ◌++◌, length, slice_get, Option, Some, None, ⊤}
-use Rattle.std.specs.List.{list_any}
+use Rattle.std.specs.Prelude.{◌≡◌, ℕ, ◌+◌, ◌^◌, ◌<◌, List, ◌++◌, length, Option, Some, None, ⊤}
 use Rattle.tocmark_read_spans.specs.declared.definitions.Entry.{Entry}
 use Rattle.tocmark_read_spans.specs.declared.role.Stretch.{Stretch}
 use Rattle.tocmark_read_spans.specs.declared.role.Target.{Target}
-use Rattle.tocmark_commonmark.specs.InlineTree.{Atom, Whole, Delimiters, Opening}
 use Rattle.tocmark_commonmark.specs.Inlines.{inlines}
 use Rattle.tocmark_commonmark.specs.Links.{Destination, first_of}
-use Rattle.tocmark_commonmark.specs.Tokens.{kind_of, Token, token_at}
 use Rattle.tocmark_inline_laws.specs.Said.{words, said, declared}
 
 -- an entry among texts, also when more are added, says what a label leads to
