@@ -3,7 +3,7 @@
 use std::io::{self, ErrorKind};
 use tocmark::event::ParserOptions;
 use tocmark_print::{
-    Bullet, Delimiter, Fence, HardBreak, ListIndent, Marker, Numbering, Rule, Style, Wrap,
+    Bullet, Delimiter, Fence, HardBreak, ListIndent, Marker, Numbering, Rule, Style, Tables, Wrap,
 };
 use tocmark_reader::EXTENSIONS;
 
@@ -27,11 +27,21 @@ const GFM: ParserOptions = ParserOptions(
         | ParserOptions::ENABLE_PLUSES_DELIMITED_METADATA_BLOCKS.0,
 );
 
-fn marker_of(word: &str) -> Marker {
+fn marker_of(word: &str) -> Option<Marker> {
     if word.starts_with('_') {
-        Marker::Underscore
+        Some(Marker::Underscore)
+    } else if word.starts_with('*') {
+        Some(Marker::Asterisk)
     } else {
-        Marker::Asterisk
+        None
+    }
+}
+
+fn tables_of(word: &str) -> Tables {
+    if word == "source" {
+        Tables::Source
+    } else {
+        Tables::Aligned
     }
 }
 
@@ -87,6 +97,8 @@ fn rule_of(word: &str) -> Rule {
 fn list_indent_of(word: &str) -> ListIndent {
     if word == "four" {
         ListIndent::Four
+    } else if word == "source" {
+        ListIndent::Source
     } else {
         ListIndent::Marker
     }
@@ -97,6 +109,7 @@ fn wrap_of(word: &str) -> Wrap {
     match word.parse::<usize>() {
         Ok(columns) => Wrap::At(columns),
         Err(_) if word == "no" => Wrap::No,
+        Err(_) if word == "sentence" => Wrap::Sentence,
         Err(_) => Wrap::Keep,
     }
 }
@@ -125,10 +138,11 @@ enum Name {
     Wrap,
     ListIndent,
     TableWidth,
+    Tables,
 }
 
 /// The options, by their names.
-const NAMES: [(&str, Name); 13] = [
+const NAMES: [(&str, Name); 14] = [
     ("syntax", Name::Syntax),
     ("also-read", Name::AlsoRead),
     ("bullet", Name::Bullet),
@@ -142,6 +156,7 @@ const NAMES: [(&str, Name); 13] = [
     ("wrap", Name::Wrap),
     ("list-indent", Name::ListIndent),
     ("table-width", Name::TableWidth),
+    ("tables", Name::Tables),
 ];
 
 /// The option with this name, if there is one.
@@ -171,6 +186,7 @@ impl Looks {
             Name::HardBreak => style.hard_break = hard_break_of(word),
             Name::Wrap => style.wrap = wrap_of(word),
             Name::ListIndent => style.list_indent = list_indent_of(word),
+            Name::Tables => style.tables = tables_of(word),
             Name::TableWidth => {
                 style.table_width = word.parse::<usize>().unwrap_or(style.table_width);
             }
