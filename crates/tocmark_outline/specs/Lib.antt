@@ -1,0 +1,3 @@
+pub mod Outline
+pub mod Words
+pub mod Defining
