@@ -531,6 +531,32 @@ static int is_no_error(ptrdiff_t code) {
 }
 
 /* The bytes for Python begin with 4 values and end with where the ranges end: the events of `---`. */
+/* What a text has, in each form. */
+static void lists(void) {
+  typedef ptrdiff_t list(const uint8_t *, size_t, uint32_t, uint8_t *, size_t);
+  static const char text[] = "# A [b](c)\n\n[d]: /e\n", words[] = "A b\n";
+  static const char link[] = "[[{\"Start\":{\"Link\":{\"dest_url\":\"c\"";
+  static const char definitions[] = "[{\"label\":\"d\",\"destination\":\"/e\",\"title\":\"\",\"range\":{\"start\":12,\"end\":19},"
+                                    "\"destination_range\":{\"start\":17,\"end\":19},\"title_range\":{\"start\":19,\"end\":19},"
+                                    "\"used\":false}]";
+  static const char heading[] = "[[{\"Start\":{\"Heading\":";
+  static const struct {
+    list *call;
+    const char *begin;
+    int is_whole;
+  } rows[] = {
+      {tocmark_links, link, 0}, {tocmark_headings, heading, 0}, {tocmark_words, words, 1}, {tocmark_definitions, definitions, 1}};
+  for (size_t at = 0; at < sizeof rows / sizeof *rows; at++) {
+    uint8_t out[1000];
+    size_t size = strlen(rows[at].begin);
+    ptrdiff_t found = rows[at].call((const uint8_t *)text, strlen(text), TOCMARK_GFM, out, sizeof out);
+    if (found < (ptrdiff_t)size || (rows[at].is_whole && found != (ptrdiff_t)size) || memcmp(out, rows[at].begin, size) != 0)
+      wrong("a list is another one", &(struct text){out, found < 0 ? 0 : (size_t)found});
+    expect(rows[at].call((const uint8_t *)text, strlen(text), TOCMARK_GFM, out, 0), found, "a list for which there is no room");
+    expect(rows[at].call((const uint8_t *)"\xFF", 1, TOCMARK_GFM, out, sizeof out), TOCMARK_NOT_UTF8, "a list of no text");
+  }
+}
+
 static void marshals(void) {
   static const uint8_t rule[] = {'[', 1, 0, 0, 0, 'r', 11, 0, 0, 0, '[', 1, 0, 0, 0, 'i', 0, 0, 0, 0, '[', 1, 0, 0, 0, 'i', 3, 0, 0, 0};
   uint8_t out[1000];
@@ -583,6 +609,7 @@ static void errors(void) {
   expect(tocmark_read_json((const uint8_t *)"", 0, 0, out, sizeof out), 2, "an empty text");
   expect(tocmark_read_marshal((const uint8_t *)"\xFF", 1, 0, out, sizeof out), TOCMARK_NOT_UTF8, "a text for Python");
   marshals();
+  lists();
   expect(tocmark_error_text(TOCMARK_OUT_OF_MEMORY, out, sizeof out), 13, "the text of an error");
   if (memcmp(out, "out of memory", 13) != 0)
     wrong("the text of an error", NULL);

@@ -86,6 +86,22 @@ ptrdiff_t tocmark_read_json(const uint8_t *text, size_t text_len, uint32_t flags
  * Errors: TOCMARK_OUT_OF_MEMORY, TOCMARK_NOT_UTF8, TOCMARK_TOO_LONG. */
 ptrdiff_t tocmark_read_marshal(const uint8_t *text, size_t text_len, uint32_t flags, uint8_t *out, size_t out_len);
 
+/* These parse Markdown, and write what it has. Errors: TOCMARK_OUT_OF_MEMORY, TOCMARK_NOT_UTF8.
+ *
+ * tocmark_links: the events of links and images, in the form of tocmark_read_json: a link's Start, what is in it, and its End. An
+ * image in a link is among the events of that link.
+ * tocmark_headings: the events of headings, in the same form.
+ * tocmark_words: the text without markup: what texts, code and mathematics say. Each line and each block begins on a line of its
+ * own. Front matter and HTML say nothing.
+ * tocmark_definitions: the definitions of links, in their order, as a JSON array of {"label": .., "destination": .., "title": ..,
+ * "range": {"start": .., "end": ..}, "destination_range": .., "title_range": .., "used": ..}. Ranges count bytes of the text;
+ * title_range is empty without a title. "used" is true if a link or an image leads to the definition: of several with one label
+ * the first counts. */
+ptrdiff_t tocmark_links(const uint8_t *text, size_t text_len, uint32_t flags, uint8_t *out, size_t out_len);
+ptrdiff_t tocmark_headings(const uint8_t *text, size_t text_len, uint32_t flags, uint8_t *out, size_t out_len);
+ptrdiff_t tocmark_words(const uint8_t *text, size_t text_len, uint32_t flags, uint8_t *out, size_t out_len);
+ptrdiff_t tocmark_definitions(const uint8_t *text, size_t text_len, uint32_t flags, uint8_t *out, size_t out_len);
+
 /* Writes the Markdown of events as JSON: an array of events, or of [event, range] or [event, null]. All blocks get one layout;
  * tocmark_rewrite keeps the layout of a source.
  *
@@ -284,6 +300,23 @@ static inline ptrdiff_t tocmark_read_marshal_(const uint8_t *text, size_t text_l
   return tocmark_read_marshal(tocmark_text_(text), text_len, flags, tocmark_room_(out), out_len);
 }
 
+static inline ptrdiff_t tocmark_links_(const uint8_t *text, size_t text_len, uint32_t flags, uint8_t *out, size_t out_len) {
+  return tocmark_links(tocmark_text_(text), text_len, flags, tocmark_room_(out), out_len);
+}
+
+static inline ptrdiff_t tocmark_headings_(const uint8_t *text, size_t text_len, uint32_t flags, uint8_t *out, size_t out_len) {
+  return tocmark_headings(tocmark_text_(text), text_len, flags, tocmark_room_(out), out_len);
+}
+
+static inline ptrdiff_t tocmark_words_(const uint8_t *text, size_t text_len, uint32_t flags, uint8_t *out, size_t out_len) {
+  return tocmark_words(tocmark_text_(text), text_len, flags, tocmark_room_(out), out_len);
+}
+
+static inline ptrdiff_t tocmark_definitions_(const uint8_t *text, size_t text_len, uint32_t flags, uint8_t *out,
+                                             size_t out_len) {
+  return tocmark_definitions(tocmark_text_(text), text_len, flags, tocmark_room_(out), out_len);
+}
+
 static inline ptrdiff_t tocmark_write_json_(const uint8_t *json, size_t json_len, const uint8_t *source, size_t source_len,
                                             uint32_t flags, const uint8_t *options, size_t options_len, uint8_t *out,
                                             size_t out_len) {
@@ -365,6 +398,10 @@ static inline ptrdiff_t tocmark_compare_(const uint8_t *old_text, size_t old_len
 #define tocmark_error_text tocmark_error_text_
 #define tocmark_read_json tocmark_read_json_
 #define tocmark_read_marshal tocmark_read_marshal_
+#define tocmark_links tocmark_links_
+#define tocmark_headings tocmark_headings_
+#define tocmark_words tocmark_words_
+#define tocmark_definitions tocmark_definitions_
 #define tocmark_write_json tocmark_write_json_
 #define tocmark_write_checked tocmark_write_checked_
 #define tocmark_write_json_at tocmark_write_json_at_

@@ -35,7 +35,7 @@ def has_program():
 
 
 def load_tests(loader, tests, pattern):
-    for name in ("", "._calls", "._compare", "._tree"):
+    for name in ("", "._calls", "._compare", "._outline", "._tree"):
         tests.addTests(doctest.DocTestSuite(importlib.import_module(f"tocmark{name}")))
     return tests
 
@@ -272,6 +272,40 @@ class Dumping(unittest.TestCase):
         for events in (["Rule", ("Rule", {"start": 0, "end": 3})], [("Rule", range(0, 2**31))], [(Text("Rule"), range(0))], [["Rule", None]]):
             self.assertIn("---", self.answers_as_json(events))
         self.assertEqual(tocmark.write(event for event in ["Rule"]), "---")
+
+
+class Listing(unittest.TestCase):
+    def test_a_link_has_its_image(self):
+        found = tocmark.links("[![a *b*](c.png 'd')](/e)\n\n> <x@y.z> [f]\n> [g][h]\n\n[h]: /i")
+        self.assertEqual([(it.text, it.destination, it.title, it.kind, it.label, it.is_image) for it in found], [
+            ("a b", "/e", "", "Inline", "", False), ("a b", "c.png", "d", "Inline", "", True),
+            ("x@y.z", "x@y.z", "", "Email", "", False), ("g", "/i", "", "Reference", "h", False)])
+
+    def test_lists_are_those_of_all_events(self):
+        for text in (ODD, "", "a\n", "# a `b` <i>c</i>\n\n1. ## d  \n   e\n"):
+            nodes = [*tocmark.walk(tocmark.read(text), text)]
+            self.assertEqual([(it.destination, it.text, it.range) for it in tocmark.links(text)],
+                             [(it.value["dest_url"], it.text, it.range) for it in nodes if it.name in ("Link", "Image")])
+            self.assertEqual([(f"H{it.level}", it.text, it.id, it.range) for it in tocmark.headings(text)],
+                             [(it.value["level"], it.text, it.value["id"], it.range) for it in nodes if it.name == "Heading"])
+            self.assertEqual([(event, range(place["start"], place["end"])) for event, place in json.loads(tocmark.read_json(text))],
+                             tocmark.read(text))
+
+    def test_words_have_lines(self):
+        for text, wanted in (("", ""), ("a\nb  \nc\n", "a\nb\nc\n"), (FRONT + "a", "a\n"), ("<p>x</p>\n\n<b>y</b>", "y\n"),
+                             ("* a\n  * b\n* c\n\n      d\n", "a\nb\nc\nd\n"), ("```\nx\n\ny\n```\nz", "x\n\ny\nz\n"),
+                             ("|a|b|\n|-|-|\n|c|\n", "a\nb\nc\n"), ("[a](b)![c](d) &amp;", "ac &\n"), ("x[^1]\n\n[^1]: y", "x\ny\n")):
+            self.assertEqual(tocmark.text(text), wanted, text)
+
+    def test_syntaxes(self):
+        self.assertEqual(tocmark.headings("# a {#b}", extensions=["heading-attributes"])[0].id, "b")
+        self.assertEqual(tocmark.text("~~a~~", syntax="commonmark"), "~~a~~\n")
+        self.assertEqual([it.kind for it in tocmark.links("x\n|[a](b)|\n|-|\n")], ["Inline"])
+        for call in (tocmark.links, tocmark.headings, tocmark.text, tocmark.definitions, tocmark.read_json):
+            with self.assertRaisesRegex(ValueError, "'html' is none of commonmark"):
+                call("a", syntax="html")
+            with self.assertRaisesRegex(TypeError, "text must be a str"):
+                call(b"a")
 
 
 class Rewriting(unittest.TestCase):

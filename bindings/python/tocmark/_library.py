@@ -63,12 +63,16 @@ class Place(ctypes.Structure):
 
 
 compare = _function("tocmark_compare", *_text, *_text, ctypes.c_uint32, ctypes.c_uint32, *_room)
+definitions = _function("tocmark_definitions", *_text, ctypes.c_uint32, *_room)
 error_text = _function("tocmark_error_text", ctypes.c_ssize_t, *_room)
 format_text = _function("tocmark_format_also", *_text, ctypes.c_uint32, ctypes.POINTER(ctypes.c_uint32), ctypes.c_size_t,
                         ctypes.POINTER(Style), *_room)
+headings = _function("tocmark_headings", *_text, ctypes.c_uint32, *_room)
+links = _function("tocmark_links", *_text, ctypes.c_uint32, *_room)
 read_json = _function("tocmark_read_json", *_text, ctypes.c_uint32, *_room)
 read_marshal = _function("tocmark_read_marshal", *_text, ctypes.c_uint32, *_room)
 rewrite = _function("tocmark_rewrite", *_text, *_text, ctypes.c_uint32, *_text, ctypes.POINTER(Place), *_room)
+words = _function("tocmark_words", *_text, ctypes.c_uint32, *_room)
 write_checked = _function("tocmark_write_checked_at", *_text, *_text, ctypes.c_uint32, *_text, ctypes.POINTER(Place), *_room)
 write_marshal = _function("tocmark_write_marshal_at", *_text, *_text, ctypes.c_uint32, *_text, ctypes.POINTER(Place), *_room)
 write_json = _function("tocmark_write_json_at", *_text, *_text, ctypes.c_uint32, *_text, ctypes.POINTER(Place), *_room)

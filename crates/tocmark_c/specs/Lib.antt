@@ -8,3 +8,4 @@ pub mod Place
 pub mod Calls
 pub mod Rewriting
 pub mod Comparing
+pub mod Outline

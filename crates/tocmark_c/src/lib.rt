@@ -5,15 +5,17 @@
 //! state is kept between calls. `style` takes a style from C, and `place` tells C where an error is; `refusal` has an
 //! error with its place. `marshal_reading` parses Markdown for Python, and `marshal_writing` writes events that Python gives.
 //! `writing` and `packed_events` write events, too, and `rewriting` rewrites a source. `comparing` lists what two texts say
-//! differently.
+//! differently, and `outlining` what a text has.
 //!
-//! The crate uses `tocmark_interchange` for events, `tocmark_format` for formatting, and `tocmark_differences` for comparing.
+//! The crate uses `tocmark_interchange` for events, `tocmark_format` for formatting, `tocmark_differences` for comparing, and
+//! `tocmark_outline` for lists.
 #![tactic(auto)]
 
 mod cause;
 mod comparing;
 mod marshal_reading;
 mod marshal_writing;
+mod outlining;
 mod packed_events;
 mod place;
 mod refusal;
@@ -28,6 +30,7 @@ ghost use Rattle.tocmark_c.specs.Calls.{IsDocumentCauseOf, IsFormatCause, IsMark
 ghost use Rattle.tocmark_c.specs.Comparing.{IsCompareCause, IsComparison};
 ghost use Rattle.tocmark_c.specs.MarshalCalls.{IsMarshalCause, IsMarshalOf};
 ghost use Rattle.tocmark_c.specs.MarshalWriting.{IsDumpMarkdown, IsDumpWriteCause};
+ghost use Rattle.tocmark_c.specs.Outline.{IsOutline};
 ghost use Rattle.tocmark_c.specs.PackedCalls.{IsPackedMarkdown, IsPackedWriteCause};
 ghost use Rattle.tocmark_c.specs.Place.{IsTold};
 ghost use Rattle.tocmark_c.specs.Rewriting.{IsRewriteCauseOf, IsRewrittenOf};
@@ -36,6 +39,7 @@ use cause::{Cause, error_text};
 use comparing::compare;
 use marshal_reading::read_bytes;
 use marshal_writing::write_marshal_events;
+use outlining::{Outlined, outline};
 use packed_events::write_packed_events;
 use place::TocmarkPlace;
 use rewriting::rewrite;
@@ -91,6 +95,54 @@ pub extern "C" fn tocmark_read_marshal(
         Ok(bytes) => lay_bytes(&bytes, out),
         Err(cause) => cause.code(),
     }
+}
+
+/// Parses Markdown under these flags, and writes the JSON of the events of its links and images with their ranges into
+/// `out`: a link's Start, what is in it, and its End.
+#[unsafe(no_mangle)]
+#[tactic(auto, using(crate::proofs::Answers::answered))]
+pub extern "C" fn tocmark_links(alloc: Global, text: &[u8], flags: u32, out: &mut [u8]) -> isize
+    ensures { IsAnswer (IsOutline Outlined.Links flags text.now) (IsReadCause text.now)
+        result out.old out.new }
+{
+    answer(outline(alloc, text, flags, Outlined::Links), out)
+}
+
+/// Parses Markdown under these flags, and writes the JSON of the events of its headings with their ranges into `out`.
+#[unsafe(no_mangle)]
+#[tactic(auto, using(crate::proofs::Answers::answered))]
+pub extern "C" fn tocmark_headings(alloc: Global, text: &[u8], flags: u32, out: &mut [u8]) -> isize
+    ensures { IsAnswer (IsOutline Outlined.Headings flags text.now) (IsReadCause text.now)
+        result out.old out.new }
+{
+    answer(outline(alloc, text, flags, Outlined::Headings), out)
+}
+
+/// Parses Markdown under these flags, and writes its words without markup into `out`: what texts, code and mathematics
+/// say. Each line and each block begins on a line of its own. Front matter and HTML say nothing.
+#[unsafe(no_mangle)]
+#[tactic(auto, using(crate::proofs::Answers::answered))]
+pub extern "C" fn tocmark_words(alloc: Global, text: &[u8], flags: u32, out: &mut [u8]) -> isize
+    ensures { IsAnswer (IsOutline Outlined.Words flags text.now) (IsReadCause text.now)
+        result out.old out.new }
+{
+    answer(outline(alloc, text, flags, Outlined::Words), out)
+}
+
+/// Parses Markdown under these flags, and writes a JSON array of its definitions of links into `out`: of each its label,
+/// destination and title, their ranges, and whether a link or an image leads to it.
+#[unsafe(no_mangle)]
+#[tactic(auto, using(crate::proofs::Answers::answered))]
+pub extern "C" fn tocmark_definitions(
+    alloc: Global,
+    text: &[u8],
+    flags: u32,
+    out: &mut [u8],
+) -> isize
+    ensures { IsAnswer (IsOutline Outlined.Definitions flags text.now) (IsReadCause text.now)
+        result out.old out.new }
+{
+    answer(outline(alloc, text, flags, Outlined::Definitions), out)
 }
 
 /// Writes events that are given as JSON as Markdown into `out`. Ranges are bytes of the source; if that is empty, they

@@ -3,7 +3,8 @@
 use crate::release::release_line;
 use crate::streams::write_out;
 use clap::error::ErrorKind;
-use std::io::Write;
+use std::alloc::{AllocError, Global};
+use std::io::{IsTerminal, Write};
 use std::process::ExitCode;
 use std::{env, fmt, io};
 use tocmark_files::quoted::OneLine;
@@ -23,11 +24,17 @@ impl Program {
         let _ = writeln!(faults, "{name}: {fault}");
     }
 
-    /// Writes the first line of a message about a wrong call, and returns the status of wrong arguments: 2.
+    /// Writes a line about a wrong call, and returns the status of wrong arguments: 2.
     pub fn refuse<F: Write>(self, faults: &mut F, why: &str) -> ExitCode {
-        let line = why.lines().next().unwrap_or("");
-        self.complain(faults, &line);
+        self.complain(faults, &why);
         ExitCode::from(2)
+    }
+
+    /// Writes this note to standard error, if standard input is a terminal: a person may not know what the program waits for.
+    pub fn note_at_terminal(self, rt: &HostRuntime, note: &str) {
+        if rt.stdin().is_terminal() {
+            self.complain(&mut rt.stderr(), &note);
+        }
     }
 
     /// Writes the help or the version that a call asks for, and returns status 0. If the arguments are wrong, it writes why to
@@ -40,7 +47,10 @@ impl Program {
             return Ok(self.refuse(&mut faults, "out of memory"));
         };
         if error.use_stderr() {
-            return Ok(self.refuse(&mut faults, text.as_str()));
+            return match in_one_line(rt.alloc(), text.as_str()) {
+                Ok(line) => Ok(self.refuse(&mut faults, line.as_str())),
+                Err(_) => Ok(self.refuse(&mut faults, "out of memory")),
+            };
         }
         let mut output = rt.stdout();
         write_out(&mut output, text.as_str())?;
@@ -51,6 +61,28 @@ impl Program {
         }
         Ok(ExitCode::from(0))
     }
+}
+
+/// A message of clap as one line: what is wrong, what is listed below that, its tips, and where there is more. The usage is left
+/// out.
+fn in_one_line(alloc: Global, why: &str) -> Result<String, AllocError> {
+    let mut line = String::new(alloc);
+    for part in why.lines() {
+        if part.starts_with("Usage: ") || part.starts_with("For more ") {
+            break;
+        }
+        let part = part.trim_start();
+        let (mark, words) = match part.strip_prefix("tip: ") {
+            Some(tip) => ("; ", tip),
+            None => (" ", part),
+        };
+        if !line.is_empty() && !words.is_empty() {
+            line.push_str(mark)?;
+        }
+        line.push_str(words)?;
+    }
+    line.push_str("; try --help")?;
+    Ok(line)
 }
 
 /// The words of this call, the program's own name first.

@@ -1,11 +1,11 @@
-//! Reads and writes whole texts.
+//! Reads and writes whole texts, and says whether they are coloured.
 
 ghost use Rattle.std.specs.Prelude.{◌≡◌, Err, IfOk, IfSome, IsUtf8, OnOk, string_bytes};
 ghost use Rattle.std.specs.Io.KnownBytes.{Appends};
 
 use std::alloc::Global;
-use std::io;
-use std::io::{Read, Write};
+use std::io::{IsTerminal, Read, Write};
+use std::{env, io};
 
 /// Why an input gives no text.
 #[derive(Debug, Drop)]
@@ -41,4 +41,18 @@ pub fn write_out<O: Write>(output: &mut O, text: &str) -> io::Result<()>
 {
     output.write_all(text.as_bytes())?;
     output.flush()
+}
+
+/// Whether a variable of the environment has a value that isn't empty.
+fn is_set(rt: &HostRuntime, name: &str) -> bool {
+    match env::var(rt, name) {
+        Ok(value) => !value.is_empty(),
+        Err(error) => !matches!(error, env::VarError::NotPresent),
+    }
+}
+
+/// Whether output has colours if nothing else is asked for: never if the environment has `NO_COLOR`, always if it has
+/// `FORCE_COLOR`, and else on a terminal. An empty variable counts as none.
+pub fn wants_color(rt: &HostRuntime) -> bool {
+    !is_set(rt, "NO_COLOR") && (is_set(rt, "FORCE_COLOR") || rt.stdout().is_terminal())
 }

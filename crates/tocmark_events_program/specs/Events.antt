@@ -8,6 +8,7 @@ use Rattle.tocmark_interchange.specs.Document.{IsWrittenTheSame}
 use Rattle.tocmark_interchange.specs.Interchange.{IsWrittenAgain, IsWrittenFrom, reading_json, reading_located}
 use Rattle.tocmark_interchange.specs.Lines.{AppendsFront, IsWrittenFromLines, json_of, reading_lines, reading_located_lines}
 use Rattle.tocmark_interchange.specs.Rewriting.{IsRewrittenText}
+use Rattle.tocmark_outline.specs.Defining.{IsDefinitionsJson}
 use Rattle.tocmark_events_program.specs.declared.arguments.Call.{Call}
 use Rattle.tocmark_events_program.specs.declared.arguments.Call.TheVariants as call
 use Rattle.tocmark_events_program.specs.declared.arguments.Job.{Job}
@@ -18,6 +19,7 @@ use Rattle.tocmark_events_program.specs.declared.fault.Fault.TheVariants as faul
 -- whether the lines of a job's input are joined into an array
 abbrev pub joins_lines : Job → Bool
 joins_lines (job.Read flags positions) = false
+joins_lines (job.Define flags) = false
 joins_lines job.Check = false
 joins_lines (job.Write flags options file is_document lines) = is_document && lines
 joins_lines (job.Rewrite flags options file reports lines) = lines
@@ -35,6 +37,7 @@ lines_read flags true text = reading_located_lines flags text
 -- what a job makes of its text, whose lines aren't joined
 abbrev pub IsMade : Job → List ℕ → List ℕ → List ℕ → Type 0
 IsMade (job.Read flags positions) source text output = IsReadAs flags positions text output
+IsMade (job.Define flags) source text output = IsDefinitionsJson flags text output
 IsMade job.Check source text output = IsWrittenAgain text output
 IsMade (job.Write flags options file true lines) source text output = IsWrittenTheSame (options_view options) flags (is_some file) source text output
 IsMade (job.Write flags options file false true) source text output = IsWrittenFromLines (options_view options) flags (is_some file) source text output

@@ -7,6 +7,7 @@ ghost use Rattle.tocmark_interchange.specs.Document.{IsWrittenTheSame};
 ghost use Rattle.tocmark_interchange.specs.Interchange.{IsWrittenAgain, IsWrittenFrom, reading_json, reading_located};
 ghost use Rattle.tocmark_interchange.specs.Lines.{IsWrittenFromLines, array_of};
 ghost use Rattle.tocmark_interchange.specs.Rewriting.{IsRewrittenText};
+ghost use Rattle.tocmark_outline.specs.Defining.{IsDefinitionsJson};
 ghost use Rattle.tocmark_events_program.specs.Events.{IsAnswer, IsMade, IsReadAs, IsWriteFault};
 
 use crate::arguments::Job;
@@ -18,6 +19,7 @@ use tocmark_interchange::{
     array_of, check_json, checked_over, read_json, read_located, rewrite_json, write_lines,
     write_over,
 };
+use tocmark_outline::definitions;
 use tocmark_rewrite::RewrittenTree;
 
 /// The answer to a call.
@@ -75,6 +77,16 @@ fn read_as(
     } else {
         read_events(alloc, text, flags)
     }
+}
+
+/// The JSON of the definitions of links of a text under these flags.
+fn define(alloc: Global, text: &str, flags: ParserOptions) -> Result<Answer, Fault>
+    ensures fault { IfErr result (λ fault. ¬ (IsWriteFault fault)) }
+    ensures defined { IfOk result (λ answer.
+        IsDefinitionsJson flags text.now (string_bytes answer.text)) }
+{
+    let output = definitions(alloc, text, flags)?;
+    Ok(only(alloc, output))
 }
 
 /// The one form of a JSON text of events: without spaces, the keys in order, without lines and columns.
@@ -164,6 +176,7 @@ fn made(alloc: Global, job: Job<'_>, source: &str, text: &str) -> Result<Answer,
 {
     match job {
         Job::Read { flags, positions } => read_as(alloc, text, flags, positions),
+        Job::Define { flags } => define(alloc, text, flags),
         Job::Check => checked_events(alloc, text),
         Job::Write {
             flags,

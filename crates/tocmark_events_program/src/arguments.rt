@@ -1,7 +1,7 @@
 //! What a call asks for.
 
 use crate::settings::{Unset, set};
-use clap::{Arg, ArgAction, ArgMatches, Command};
+use clap::{Arg, ArgMatches, Command};
 use std::alloc::{AllocError, Global};
 use std::fmt;
 use tocmark::event::ParserOptions;
@@ -31,6 +31,10 @@ pub enum Job<'a> {
         flags: ParserOptions,
         /// Whether ranges have lines and columns.
         positions: bool,
+    },
+    /// Markdown, read under these flags, to its definitions of links.
+    Define {
+        flags: ParserOptions,
     },
     /// Events to the one form of their JSON.
     Check,
@@ -65,7 +69,7 @@ impl<'a> Job<'a> {
         ensures { result ≡ joins_lines self.now }
     {
         match self {
-            Job::Read { .. } | Job::Check => false,
+            Job::Read { .. } | Job::Define { .. } | Job::Check => false,
             Job::Write {
                 is_document,
                 lines,
@@ -80,8 +84,6 @@ impl<'a> Job<'a> {
 #[derive(Clone, Copy, Drop)]
 pub enum Refusal<'a> {
     NoVerb,
-    /// This command is given a file, and not standard input.
-    File(&'a str),
     Syntax,
     Extension,
     NoSource,
@@ -94,10 +96,7 @@ pub enum Refusal<'a> {
 impl<'a> fmt::Display for Refusal<'a> {
     fn fmt<W: fmt::Write>(&self, f: &mut fmt::Formatter<W>) -> fmt::Result {
         match self {
-            Refusal::NoVerb => write!(f, "read, write, rewrite or check is wanted"),
-            Refusal::File(verb) => {
-                write!(f, "{verb} reads standard input, as {NAME} {verb} <FILE")
-            }
+            Refusal::NoVerb => write!(f, "read, definitions, write, rewrite or check is wanted"),
             Refusal::Syntax => write!(f, "--syntax wants commonmark, gfm or all"),
             Refusal::Extension => write!(
                 f,
@@ -116,14 +115,17 @@ impl<'a> fmt::Display for Refusal<'a> {
 pub const NAME: &str = "tocmark-events";
 
 /// What `--help` says of `read`.
-const READ: &str = "Turn Markdown on standard input into events as JSON";
+const READ: &str = "Turn Markdown into events as JSON";
+
+/// What `--help` says of `definitions`.
+const DEFINITIONS: &str = "List the definitions of links in Markdown as JSON";
 
 /// What `--help` says of `write`.
-const WRITE: &str = "Turn events as JSON on standard input into Markdown";
+const WRITE: &str = "Turn events as JSON into Markdown";
 
 /// What `--help` says of `rewrite`.
 const REWRITE: &str =
-    "Edit a document: keep all that isn't changed in its\nevents, which come as JSON on standard input";
+    "Edit a document: keep all that isn't changed in its\nevents, which come as JSON";
 
 /// What `--help` says of `check`.
 const CHECK: &str = "Print the JSON of events without spaces, and with keys in one order";
@@ -208,13 +210,12 @@ static MARKDOWN_OPTIONS: [CommandOption<'static>; 3] = [
     },
 ];
 
-/// The command of this name. It takes words, for a message that it reads standard input.
+/// The command of this name. It takes the file that it reads.
 fn verb<'a>(alloc: Global, name: &'a str, about: &'a str) -> Result<Command<'a>, AllocError> {
-    let words = Arg::new(alloc, "file")
-        .action(ArgAction::Append)
-        .num_args(0..)
-        .hide(true);
-    Command::new(alloc, name).about(about).arg(words)
+    let file = Arg::new(alloc, "file")
+        .value_name("FILE")
+        .help("File to read; without it, standard input is read");
+    Command::new(alloc, name).about(about).arg(file)
 }
 
 /// The command with these options, those of each command that writes Markdown, and those of the syntax.
@@ -233,6 +234,11 @@ fn read_command<'a>(alloc: Global, syntax_help: &'a str) -> Result<Command<'a>, 
     let read = verb(alloc, "read", READ)?;
     let read = with_options(alloc, read, &READ_OPTIONS)?;
     with_syntax(alloc, read, syntax_help)
+}
+
+fn definitions_command<'a>(alloc: Global, syntax_help: &'a str) -> Result<Command<'a>, AllocError> {
+    let definitions = verb(alloc, "definitions", DEFINITIONS)?;
+    with_syntax(alloc, definitions, syntax_help)
 }
 
 fn rewrite_command<'a>(alloc: Global, syntax_help: &'a str) -> Result<Command<'a>, AllocError> {
@@ -261,6 +267,7 @@ pub fn command<'a>(alloc: Global, syntax_help: &'a str) -> Result<Command<'a>, A
         .about("Turn Markdown into events as JSON, and back")
         .subcommand_required(true);
     let command = with_subcommand(command, read_command(alloc, syntax_help))?;
+    let command = with_subcommand(command, definitions_command(alloc, syntax_help))?;
     let command = with_subcommand(command, rewrite_command(alloc, syntax_help))?;
     let command = with_subcommand(command, write_command(alloc, syntax_help))?;
     with_subcommand(command, verb(alloc, "check", CHECK))
@@ -310,11 +317,32 @@ pub fn options_file<'a>(matches: &ArgMatches<'a>) -> Option<&'a str> {
     }
 }
 
+/// The files that a call names beside its source and its options.
+#[derive(Clone, Copy, Drop)]
+pub struct Files<'a> {
+    /// The one that is read in place of standard input.
+    pub read: Option<&'a str>,
+    /// The one that is rewritten in place.
+    pub in_place: Option<&'a str>,
+}
+
 /// The file that is rewritten in place, if the call asks for that.
-pub fn file_in_place<'a>(matches: &ArgMatches<'a>) -> Option<&'a str> {
+fn file_in_place<'a>(matches: &ArgMatches<'a>) -> Option<&'a str> {
     match matches.subcommand() {
         Some(("rewrite", matches)) if matches.get_flag("in-place") => matches.get_str("source"),
         _ => None,
+    }
+}
+
+/// The files that a call names beside its source and its options.
+pub fn files_in<'a>(matches: &ArgMatches<'a>) -> Files<'a> {
+    let read = match matches.subcommand() {
+        Some((_, words)) => words.get_str("file"),
+        None => None,
+    };
+    Files {
+        read,
+        in_place: file_in_place(matches),
     }
 }
 
@@ -355,15 +383,15 @@ pub fn asked<'a>(
     let Some((name, matches)) = matches.subcommand() else {
         return Err(Refusal::NoVerb);
     };
-    if matches.contains_id("file") {
-        return Err(Refusal::File(name));
-    }
     if name == "check" {
         return Ok(Call::Whole(Job::Check));
     }
     let flags = flags_of(matches)?;
     if name == "read" {
         return Ok(reading_asked(matches, flags));
+    }
+    if name == "definitions" {
+        return Ok(Call::Whole(Job::Define { flags }));
     }
     let options = valid_options(alloc, matches, name, flags, given)?;
     let lines = matches.get_flag("lines");

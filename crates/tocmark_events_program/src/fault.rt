@@ -15,16 +15,16 @@ use tocmark_json::fault::JsonError;
 /// A fault, shown as one line on standard error, behind the name of the program.
 #[derive(Debug, Drop, Error)]
 pub enum Fault {
-    #[error("cannot read standard input")]
+    #[error("cannot read the input")]
     Read,
     /// A file that is named can't be read as UTF-8.
     #[error("{0}: cannot read it: {1}")]
     Unreadable(String, io::Error),
     #[error("{0}")]
     NotOptions(OptionsTextError),
-    #[error("standard input is not UTF-8")]
+    #[error("the input is not UTF-8")]
     NotUtf8,
-    #[error("standard input is no JSON: {0} (--lines reads an event from each line)")]
+    #[error("the input is no JSON: {0} (--lines reads an event from each line)")]
     NotJson(serde_json::Error),
     #[error("{0}")]
     NotEvents(JsonError),

@@ -1,4 +1,4 @@
-//! The program for other languages: Markdown on standard input to events as JSON on standard output, and back.
+//! The program for other languages: Markdown to events as JSON on standard output, and back.
 //! `docs/JSON.md` has the form.
 //!
 //! It stands on `tocmark_interchange`, which makes its answers, and on `tocmark_command`, which has what it shares with the
@@ -18,12 +18,13 @@ ghost use Rattle.tocmark_interchange.specs.Lines.{AppendsFront};
 ghost use Rattle.tocmark_events_program.specs.Events.{IsAnswered, IsWriteFault, WritesLate, lines_read};
 
 use answer::answered;
-use arguments::{Call, Job, NAME, asked, command, file_in_place, options_file};
+use arguments::{Call, Files, Job, NAME, asked, command, files_in, options_file};
 use clap::ArgMatches;
 use edited::Edited;
 use fault::Fault;
 use std::alloc::Global;
 use std::fs;
+use std::fs::File;
 use std::io::{Read, Write};
 use std::process::ExitCode;
 use tocmark::Options;
@@ -227,10 +228,14 @@ fn show(rt: &HostRuntime, error: &clap::Error) -> ExitCode {
 fn rewrite_in_place(
     rt: &HostRuntime,
     job: Job<'_>,
+    files: Files<'_>,
     file: &str,
     source: &str,
 ) -> Result<Vec<RewrittenTree>, Fault> {
-    let input = text_in(rt.alloc(), &mut rt.stdin())?;
+    let input = match files.read {
+        Some(events) => text_of(rt, events)?,
+        None => text_in(rt.alloc(), &mut rt.stdin())?,
+    };
     let answer = answered(rt.alloc(), job, source, input.as_str())?;
     let edited = Edited {
         job,
@@ -243,9 +248,15 @@ fn rewrite_in_place(
 }
 
 /// The status of a job that replaces a file.
-fn perform_in_place(rt: &HostRuntime, job: Job<'_>, file: &str, source: &str) -> ExitCode {
+fn perform_in_place(
+    rt: &HostRuntime,
+    job: Job<'_>,
+    files: Files<'_>,
+    file: &str,
+    source: &str,
+) -> ExitCode {
     let mut faults = rt.stderr();
-    match rewrite_in_place(rt, job, file, source) {
+    match rewrite_in_place(rt, job, files, file, source) {
         Ok(blocks) => {
             report(&mut faults, Call::Whole(job), &blocks);
             ExitCode::from(0)
@@ -257,31 +268,80 @@ fn perform_in_place(rt: &HostRuntime, job: Job<'_>, file: &str, source: &str) ->
     }
 }
 
-fn perform(rt: &HostRuntime, call: Call<'_>, in_place: Option<&str>) -> ExitCode {
+/// Does what a call asks for, over this input.
+fn perform_over<I: Read>(
+    rt: &HostRuntime,
+    call: Call<'_>,
+    source: &str,
+    input: &mut I,
+) -> ExitCode {
+    let mut output = rt.stdout();
     let mut faults = rt.stderr();
+    let alloc = rt.alloc();
+    ExitCode::from(run(alloc, call, source, input, &mut output, &mut faults))
+}
+
+/// Opens a file that a call reads.
+fn opened(rt: &HostRuntime, file: &str) -> Result<File, Fault> {
+    match File::open(rt, file) {
+        Ok(input) => Ok(input),
+        Err(error) => {
+            let name = in_quotes(rt.alloc(), file)?;
+            Err(Fault::Unreadable(name, error))
+        }
+    }
+}
+
+/// Does what a call asks for, over the file that it names, or over standard input.
+fn perform_on_input(
+    rt: &HostRuntime,
+    call: Call<'_>,
+    source: &str,
+    file: Option<&str>,
+) -> ExitCode {
+    let Some(file) = file else {
+        return perform_over(rt, call, source, &mut rt.stdin());
+    };
+    match opened(rt, file) {
+        Ok(input) => {
+            let mut input = input;
+            perform_over(rt, call, source, &mut input)
+        }
+        Err(fault) => {
+            EVENTS.complain(&mut rt.stderr(), &fault);
+            ExitCode::from(1)
+        }
+    }
+}
+
+/// What a terminal is asked for.
+fn note_of(call: Call<'_>) -> &'static str {
+    match call {
+        Call::Stream { .. } | Call::Whole(Job::Read { .. } | Job::Define { .. }) => {
+            "reading Markdown from the terminal; end it with Ctrl-D"
+        }
+        _ => "reading events as JSON from the terminal; end them with Ctrl-D",
+    }
+}
+
+/// Does what a call asks for: in a file's place, or to standard output.
+fn perform(rt: &HostRuntime, call: Call<'_>, files: Files<'_>) -> ExitCode {
     let source = match source_of(rt, call) {
         Ok(source) => source,
         Err(fault) => {
-            EVENTS.complain(&mut faults, &fault);
+            EVENTS.complain(&mut rt.stderr(), &fault);
             return ExitCode::from(1);
         }
     };
-    if let Some(file) = in_place {
+    if files.read.is_none() {
+        EVENTS.note_at_terminal(rt, note_of(call));
+    }
+    if let Some(file) = files.in_place {
         if let Call::Whole(job) = call {
-            return perform_in_place(rt, job, file, source.as_str());
+            return perform_in_place(rt, job, files, file, source.as_str());
         }
     }
-    let mut input = rt.stdin();
-    let mut output = rt.stdout();
-    let alloc = rt.alloc();
-    ExitCode::from(run(
-        alloc,
-        call,
-        source.as_str(),
-        &mut input,
-        &mut output,
-        &mut faults,
-    ))
+    perform_on_input(rt, call, source.as_str(), files.read)
 }
 
 /// Does what right arguments ask for.
@@ -294,7 +354,7 @@ fn start(rt: &HostRuntime, matches: &ArgMatches<'_>) -> ExitCode {
         }
     };
     match asked(rt.alloc(), matches, options) {
-        Ok(call) => perform(rt, call, file_in_place(matches)),
+        Ok(call) => perform(rt, call, files_in(matches)),
         Err(refusal) => {
             EVENTS.complain(&mut rt.stderr(), &refusal);
             ExitCode::from(2)

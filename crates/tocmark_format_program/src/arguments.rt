@@ -63,7 +63,7 @@ pub struct Choice {
 /// Whether a diff is coloured.
 #[derive(Clone, Copy)]
 pub enum Color {
-    /// On a terminal, unless the environment has `NO_COLOR`.
+    /// On a terminal, unless the environment has `NO_COLOR`; everywhere, if it has `FORCE_COLOR`.
     Auto,
     Always,
     Never,
@@ -299,7 +299,7 @@ static VOICE: [CommandOption<'static>; 5] = [
         name: "color",
         letter: None,
         takes: Takes::Value("WHEN"),
-        help: "Colour the diff: auto (default: on a terminal,\nunless NO_COLOR is set), always or never",
+        help: "Colour the diff: auto (default: on a terminal, or if\nFORCE_COLOR is set, and never if NO_COLOR is set),\nalways or never",
     },
 ];
 

@@ -48,7 +48,7 @@ use std::{env, fs, io};
 use stream::{Passed, READER, format_stream};
 use text::text_in;
 use tocmark_command::program::Program;
-use tocmark_command::streams::write_out;
+use tocmark_command::streams::{wants_color, write_out};
 use tocmark_command::syntax::syntax_help;
 use tocmark_files::diff::{Look, unified_diff};
 use tocmark_files::place::{OpenFile, Place};
@@ -187,6 +187,9 @@ fn copy_through(rt: &HostRuntime, work: Work) -> Result<Passed, Fault> {
 fn done(rt: &HostRuntime, work: Work, target: &Target) -> Result<Passed, Fault> {
     let (path, settings) = (target.path.as_str(), target.settings);
     let is_dry = work.task.is_dry();
+    if let Origin::Input = &target.origin {
+        FORMAT.note_at_terminal(rt, "reading Markdown from the terminal; end it with Ctrl-D");
+    }
     match &target.origin {
         Origin::ExcludedInput => copy_through(rt, work),
         Origin::Input if is_dry => {
@@ -257,12 +260,12 @@ fn do_all(
     Ok(())
 }
 
-/// Whether a diff is coloured: on a terminal, unless the environment has `NO_COLOR`, or as is asked for.
+/// Whether a diff is coloured: as is asked for, or by the environment and the terminal.
 fn is_colored(rt: &HostRuntime, color: Color) -> bool {
     match color {
         Color::Always => true,
         Color::Never => false,
-        Color::Auto => rt.stdout().is_terminal() && env::var(rt, "NO_COLOR").is_err(),
+        Color::Auto => wants_color(rt),
     }
 }
 

@@ -1,4 +1,4 @@
-use Rattle.std.proofs.Common.{◌≡◌, ◌++◌, ◌∷◌, [], flat_map, map, take}
+use Rattle.std.proofs.Common.{◌≡◌, ◌∷◌, [], flat_map, map, take}
 use Rattle.json.specs.Token.{begin_array}
 use Rattle.tocmark_outline.specs.Defining.{definition_tokens, listed_view}
 use Rattle.tocmark_outline.proofs.defining.listing.Given as goal

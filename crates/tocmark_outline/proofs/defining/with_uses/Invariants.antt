@@ -1,7 +1,6 @@
 use Rattle.std.proofs.Common.{◌≡◌, ◌++◌, map}
 use Rattle.std.specs.Vec.Iter.{into_iter_items}
 use Rattle.tocmark_reader.specs.Definitions.{said_view}
-use Rattle.tocmark_reader.specs.declared.definitions.ReferenceDefinition.{ReferenceDefinition}
 use Rattle.tocmark_outline.specs.declared.defining.Listed.{Listed}
 use Rattle.tocmark_outline.proofs.defining.with_uses.Given as goal
 

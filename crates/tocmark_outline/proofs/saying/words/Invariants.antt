@@ -1,7 +1,5 @@
-use Rattle.std.proofs.Common.{◌≡◌, ℕ, map, take}
+use Rattle.std.proofs.Common.{◌≡◌, map, take}
 use Rattle.std.specs.List.{fold}
-use Rattle.tocmark_event.specs.Text.{text_of}
-use Rattle.tocmark_event.specs.View.{event_view}
 use Rattle.tocmark_outline.specs.Outline.{Placed, placed}
 use Rattle.tocmark_outline.specs.Words.{say, saying_view, silent}
 use Rattle.tocmark_outline.proofs.saying.words.Given as goal

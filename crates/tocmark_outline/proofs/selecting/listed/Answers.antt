@@ -3,7 +3,7 @@ use mathlib.Core.List.{map-map}
 use Rattle.serde_json.specs.Data.{Data}
 use Rattle.serde_json.specs.Written.{IsInOrder}
 use Rattle.tocmark_event.specs.Text.{text_of}
-use Rattle.tocmark_event.specs.View.{EventView, event_view}
+use Rattle.tocmark_event.specs.View.{EventView}
 use Rattle.tocmark_event.specs.Reading.{ReadingView}
 use Rattle.tocmark_json.specs.Json.{pairs_json, ranged_view}
 use Rattle.tocmark_outline.specs.Outline.{Placed, listed, placed, selected}
