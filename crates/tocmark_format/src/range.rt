@@ -19,6 +19,9 @@ pub struct StyledLines {
     pub lines: Option<Lines>,
 }
 
+/// What a blank line has.
+const WHITE: [char; 4] = [' ', '\t', '\r', '\n'];
+
 /// Where a block begins: its line in the source, counted from 1, and its place in the printed text.
 #[derive(Clone, Copy)]
 struct Edge {
@@ -38,10 +41,17 @@ pub(crate) struct Patch<'p> {
 }
 
 impl Lines {
-    /// The lines on which a block stands.
+    /// The lines on which a block stands, without blank ones: definitions have those beside them.
     pub(crate) fn of(source: &Source<'_>, block: Block) -> Lines {
         let (from, to) = block.range;
-        let (first, last) = source.lines_between(from, to);
+        let text = source.text.get(from..to).unwrap_or("");
+        let end = text.trim_end_matches(&WHITE).len();
+        let rest = text.trim_start_matches(&WHITE).len();
+        let white = text.len().saturating_sub(rest);
+        let (first, last) = source.lines_between(
+            from.saturating_add(white),
+            from.saturating_add(end),
+        );
         Lines { first, last }
     }
 
@@ -98,7 +108,7 @@ fn place_after(text: &str, count: usize) -> usize {
 fn rest_from(text: &str, line: usize) -> &str {
     let place = place_after(text, line.saturating_sub(1));
     let above = text.get(..place).unwrap_or("");
-    let end = above.trim_end_matches(&[' ', '\t', '\r', '\n']).len();
+    let end = above.trim_end_matches(&WHITE).len();
     let below = text.get(end..).unwrap_or("");
     below.get(place_after(below, 1)..).unwrap_or("")
 }
