@@ -34,7 +34,7 @@ use Rattle.tocmark_block_laws.proofs.Marks.{heading_later}
 use Rattle.tocmark_block_laws.proofs.Texts.{between_none}
 use Rattle.tocmark_block_laws.proofs.Starts.{start_as, is_blank_kind, may_underline, HeadingFacts, Facts, leaf_facts}
 use Rattle.tocmark_block_laws.proofs.Pages.{here, closed, paragraph_page, rule_block, ended_block, piece_in, closed_begins, open_begins, nothing_ends, blank_passes, rule_comes, text_begins, text_goes_on, paragraph_ends, paragraph_shuts, closes_first, same_start, underline_comes, piece_if, has_words, words, heading_comes}
-use Rattle.tocmark_block_laws.proofs.Told.{also, also_none, also_more, Holds, holds_none, holds_more, holds_read, paragraph_told, heading_told, definitions_none}
+use Rattle.tocmark_block_laws.proofs.Told.{also, also_none, also_more, Holds, holds_none, holds_more, holds_read, paragraph_told, heading_told}
 
 -- a page at the end
 abbrev pub final : List ℕ → State → List Line → State

@@ -1,6 +1,7 @@
 pub mod Columns
 pub mod Marks
 pub mod TextLines
+pub mod Labels
 pub mod Texts
 pub mod Fronts
 pub mod HtmlEnds

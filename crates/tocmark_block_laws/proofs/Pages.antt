@@ -16,7 +16,7 @@ use Rattle.tocmark_read_lines.specs.Marks.{tail_of}
 use Rattle.tocmark_read_lines.specs.declared.beginnings.Heading.{Heading}
 use Rattle.tocmark_read_lines.specs.declared.cell.Cell.{Cell}
 use Rattle.tocmark_read_lines.specs.declared.line.Line.{Line}
-use Rattle.tocmark_read_page.specs.Definitions.{begins_definition, definitions_from}
+use Rattle.tocmark_read_page.specs.Definitions.{definitions_from}
 use Rattle.tocmark_read_page.specs.Leaves.{is_paragraph}
 use Rattle.tocmark_read_page.specs.Pages.{State, leaf_opened, leaf_closed, closed_to, times, list_left, begun, loosened, had_marked, list_of, is_apart, leaf_finished, finished, settled, shortened, has_text, piece_taken, one_closed}
 use Rattle.tocmark_read_page.specs.Pieces.{piece_of, code_piece, keeps_line, text_piece, heading_piece, whole_place}
@@ -249,21 +249,21 @@ text_goes_on text cells l n bs ps q qs from end number h =
 abbrev pub ended_block : BlockKind → List Piece → List Piece → ℕ → ℕ → Block
 ended_block k ps qs start end = block k start end (length ps) (length (ps ++ qs))
 
-settled_none : (text : List ℕ) (bs : List Block) (ps : List Piece) (q : Piece) (qs : List Piece) (end number : ℕ) → (byte_at text q.start == 91) ≡ false → length ps + 1 < 2 ^ 64
+settled_none : (text : List ℕ) (bs : List Block) (ps : List Piece) (q : Piece) (qs : List Piece) (end number : ℕ) → definitions_from text (q ∷ qs) [] ≡ ([], 0) → length ps + 1 < 2 ^ 64
     → settled text (paragraph_page bs ps (q ∷ qs) q.start end number) ≡ paragraph_page bs ps (q ∷ qs) q.start end number
-unfolding settled definitions_from begins_definition shortened
+unfolding settled shortened
 settled_none text bs ps q qs end number h fits =
     let b : Block = paragraph_block ps q.start in
     let first : plus (length ps) 0 ≡ length ps = omega (arith, fits) in
     rw (get_last bs b, drop_behind ps (q ∷ qs), h, first, get_behind ps qs q, set_last bs b b) refl
 
-pub paragraph_ends : (text : List ℕ) (bs : List Block) (ps : List Piece) (q : Piece) (qs : List Piece) (end number : ℕ) → (byte_at text q.start == 91) ≡ false → length ps + 1 < 2 ^ 64
+pub paragraph_ends : (text : List ℕ) (bs : List Block) (ps : List Piece) (q : Piece) (qs : List Piece) (end number : ℕ) → definitions_from text (q ∷ qs) [] ≡ ([], 0) → length ps + 1 < 2 ^ 64
     → closed_to text 0 (paragraph_page bs ps (q ∷ qs) q.start end number) ≡ closed (bs ++ ended_block kind.Paragraph ps (q ∷ qs) q.start end ∷ []) (ps ++ q ∷ qs) end number (length (ps ++ q ∷ qs))
 unfolding closed_to leaf_closed times
 paragraph_ends text bs ps q qs end number h fits =
     ap (λ s. times one_closed (length s.opened - 0) s) (ap leaf_finished (settled_none text bs ps q qs end number h fits) ∙ page_finished leaf.Paragraph kind.Paragraph bs (length ps) (ps ++ q ∷ qs) (ps ++ q ∷ qs) (length (ps ++ q ∷ qs)) q.start end number (take-length (ps ++ q ∷ qs)))
 
-pub paragraph_shuts : (text : List ℕ) (bs : List Block) (ps : List Piece) (q : Piece) (qs : List Piece) (end number : ℕ) → (byte_at text q.start == 91) ≡ false → length ps + 1 < 2 ^ 64
+pub paragraph_shuts : (text : List ℕ) (bs : List Block) (ps : List Piece) (q : Piece) (qs : List Piece) (end number : ℕ) → definitions_from text (q ∷ qs) [] ≡ ([], 0) → length ps + 1 < 2 ^ 64
     → closed_to text 0 (paragraph_page bs ps (q ∷ qs) q.start end number)
     ≡ closed_to text 0 (closed (bs ++ ended_block kind.Paragraph ps (q ∷ qs) q.start end ∷ []) (ps ++ q ∷ qs) end number (length (ps ++ q ∷ qs)))
 paragraph_shuts text bs ps q qs end number h fits =
@@ -352,7 +352,7 @@ has_some bs ps q qs start end number =
     let some : nat_lt (length ps) (length (ps ++ q ∷ qs)) ≡ true = grind (arith, nat_tests) in
     rw (get_last bs (paragraph_block ps start), some) refl
 
-pub underline_comes : (text : List ℕ) (cells : List Cell) (l : Line) (n : ℕ) (level : HeadingLevel) (bs : List Block) (ps : List Piece) (q : Piece) (qs : List Piece) (end number : ℕ) → (byte_at text q.start == 91) ≡ false → length ps + 1 < 2 ^ 64
+pub underline_comes : (text : List ℕ) (cells : List Cell) (l : Line) (n : ℕ) (level : HeadingLevel) (bs : List Block) (ps : List Piece) (q : Piece) (qs : List Piece) (end number : ℕ) → definitions_from text (q ∷ qs) [] ≡ ([], 0) → length ps + 1 < 2 ^ 64
     → started (start.Underline level) text cells l (tail_of cells) (here n) (paragraph_page bs ps (q ∷ qs) q.start end number)
     ≡ closed (bs ++ ended_block (kind.Heading level None) ps (q ∷ qs) q.start l.end ∷ []) (ps ++ q ∷ qs) l.end l.number (length (ps ++ q ∷ qs))
 unfolding started_in underline_taken_in underlined_in

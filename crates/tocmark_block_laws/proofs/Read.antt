@@ -17,7 +17,7 @@ use Rattle.tocmark_read_lines.specs.declared.html.HtmlKind.TheVariants as html
 use Rattle.tocmark_read_lines.specs.declared.beginnings.Heading.{Heading as HeadingMark}
 use Rattle.tocmark_read_lines.specs.declared.cell.Cell.{Cell}
 use Rattle.tocmark_read_lines.specs.declared.line.Line.{Line}
-use Rattle.tocmark_read_page.specs.Definitions.{DefinitionView}
+use Rattle.tocmark_read_page.specs.Definitions.{DefinitionView, definitions_from}
 use Rattle.tocmark_read_page.specs.Pages.{State, closed_to}
 use Rattle.tocmark_read_page.specs.Pieces.{piece_of, heading_piece}
 use Rattle.tocmark_read_page.specs.declared.page.Block.{Block as ReadBlock}
@@ -34,7 +34,7 @@ use Rattle.tocmark_commonmark.specs.Beginnings.{Beginning, BlankLine, CodeLine, 
 use Rattle.tocmark_commonmark.specs.Leaves.{indented_code, fenced_code, html_block, definitions, text_of, underline, underlined, Turn, GoesOn, Stops, Underlines, turn_of, turn, turned, paragraph_lines, paragraph_with, paragraph_of}
 use Rattle.tocmark_commonmark.specs.Blocks.{first_block, and_rest, blocks_from, size, blocks, blocks_of}
 use Rattle.tocmark_block_laws.specs.Trees.{told, told_before, line_text, leaf_text, tree_of, placed_in}
-use Rattle.tocmark_block_laws.specs.Leaves.{IsPlain, ends_with_feed, is_leaf, IsLeafLine, LeavesAreDeclared}
+use Rattle.tocmark_block_laws.specs.Leaves.{IsPlain, ends_with_feed, is_leaf, has_label_end, IsLeafLine, LeavesAreDeclared}
 use Rattle.tocmark_block_laws.proofs.TextLines.{declared, lines_same, Sound, lines_sound, lines_few}
 use Rattle.tocmark_block_laws.proofs.Marks.{heading_later}
 use Rattle.tocmark_block_laws.proofs.Texts.{between_none}
@@ -42,10 +42,11 @@ use Rattle.tocmark_block_laws.proofs.ReadHtml.{HtmlOpen, html_next, html_read}
 use Rattle.tocmark_block_laws.proofs.Starts.{html_start, start_as, is_blank_kind, may_underline, HeadingFacts, Facts, leaf_facts}
 use Rattle.tocmark_block_laws.proofs.Pages.{here, closed, paragraph_page, rule_block, ended_block, piece_in, closed_begins, open_begins, nothing_ends, blank_passes, rule_comes, text_begins, text_goes_on, paragraph_ends, paragraph_shuts, closes_first, same_start, underline_comes, piece_if, has_words, words, heading_comes, leaf_page, takes_kept, fence_comes, indented_comes, interrupts_first, html_comes}
 use Rattle.tocmark_block_laws.proofs.Ends.{final, Ends, ends_cons, ends_closed, no_blocks, Goal, from_there}
-use Rattle.tocmark_block_laws.proofs.ReadCodes.{says_at, same_column, fence_read, CodeOpen, code_read}
+use Rattle.tocmark_block_laws.proofs.ReadCodes.{all_append, says_at, same_column, fence_read, CodeOpen, code_read}
+use Rattle.tocmark_block_laws.proofs.Labels.{AreClear, defines_none, reads_none}
 use Rattle.tocmark_block_laws.proofs.Codes.{Fed, Taken as LineTaken, lines_fed}
 use Rattle.tocmark_block_laws.proofs.Fronts.{part_of}
-use Rattle.tocmark_block_laws.proofs.Told.{also, also_none, also_more, Holds, holds_none, holds_more, holds_read, paragraph_told, heading_told, definitions_none}
+use Rattle.tocmark_block_laws.proofs.Told.{also, also_none, also_more, Holds, holds_none, holds_more, holds_read, paragraph_told, heading_told}
 
 -- paragraphs: what a line is to the one above it
 
@@ -103,8 +104,11 @@ drop_next (suc n) (x ∷ xs) y ys e = drop_next n xs y ys e
 -- what is known of an open paragraph
 pub record Opened (text : List ℕ) (fuel : ℕ) (whole : List DeclaredLine) (ls : List Line) (ps : List Piece) (q : Piece) (qs : List Piece) (t : List ℕ) (ts : List (List ℕ)) : Type 0 where
   pub texts : map (line_text text) (q ∷ qs) ≡ t ∷ ts
-  pub first : (byte_at text q.start == 91) ≡ false
-  pub bracket : begins_with 91 t ≡ false
+  pub bracket : has_label_end text ≡ true → begins_with 91 t ≡ false
+  pub clear : has_label_end text ≡ false → AreClear (t ∷ ts)
+  pub plain : IsPlain text
+  pub defines : definitions (t ∷ ts) ≡ ([], 0)
+  pub reads : definitions_from text (q ∷ qs) [] ≡ ([], 0)
   pub rest : drop (length (t ∷ ts)) whole ≡ map (declared text) ls
   pub room : length ps + suc (length qs) + length ls + 1 < 2 ^ 64
   pub few : length ls ≤ fuel
@@ -126,7 +130,7 @@ paragraph_last : (text : List ℕ) (fuel at : ℕ) (whole : List DeclaredLine) (
     → Holds text bs ps found → Opened text fuel whole [] ps q qs t ts → Ends text (closed_to text 0 (paragraph_page bs ps (q ∷ qs) q.start end number)) found (from_there fuel at whole (paragraph_of at (t ∷ ts, None)))
 paragraph_last text fuel at whole bs ps q qs end number found t ts h o =
     subst (λ (fs : List Found). Ends text (closed_to text 0 (paragraph_page bs ps (q ∷ qs) q.start end number)) found fs) is
-    (subst (λ (s : State). Ends text s found (text_found at t ts ∷ [])) (sym (paragraph_ends text bs ps q qs end number o.first room))
+    (subst (λ (s : State). Ends text s found (text_found at t ts ∷ [])) (sym (paragraph_ends text bs ps q qs end number o.reads room))
     (ends_cons text (shut bs ps q qs end number) found (text_found at t ts) [] (λ y. refl) refl
     (record { blocks = holds_read text (bs ++ ended_as ps q qs end ∷ []) (ps ++ q ∷ qs) found' (paragraph_holds text fuel whole [] bs ps q qs end found t ts h o) ∙ sym (also_none found'); read = refl; declares = refl })))
   where
@@ -138,7 +142,7 @@ paragraph_last text fuel at whole bs ps q qs end number found t ts h o =
 
     is : text_found at t ts ∷ [] ≡ from_there fuel at whole (paragraph_of at (t ∷ ts, None))
     is = ap (λ (fs : List Found). text_found at t ts ∷ fs) (sym (no_blocks fuel (at + length (t ∷ ts))))
-        ∙ stops_as fuel at whole [] t ts (definitions_none t ts o.bracket) o.rest
+        ∙ stops_as fuel at whole [] t ts o.defines o.rest
 
 -- the paragraph ends before a line, which does what it does where nothing is open
 paragraph_stops : (text : List ℕ) (fuel at : ℕ) → Goal text fuel → (whole : List DeclaredLine) (l : Line) (ls : List Line) (f : Facts text l) (bs : List ReadBlock) (ps : List Piece) (q : Piece) (qs : List Piece) (end number : ℕ) (found : Blocks) (t : List ℕ) (ts : List (List ℕ)) (b : LeafStart)
@@ -147,7 +151,7 @@ paragraph_stops : (text : List ℕ) (fuel at : ℕ) → Goal text fuel → (whol
     → Ends text (final text (started b text f.columns l (tail_of f.columns) (here f.spaces) (paragraph_page bs ps (q ∷ qs) q.start end number)) ls) found (from_there fuel at whole (paragraph_of at (t ∷ ts, None)))
 paragraph_stops text fuel at again whole l ls f bs ps q qs end number found t ts b h o facts e same =
     subst (λ (s : State). Ends text (final text s ls) found (from_there fuel at whole (paragraph_of at (t ∷ ts, None)))) taken
-    (subst (λ (fs : List Found). Ends text (final text (shut bs ps q qs end number) (l ∷ ls)) found fs) (stops_as fuel at whole (map (declared text) (l ∷ ls)) t ts (definitions_none t ts o.bracket) o.rest)
+    (subst (λ (fs : List Found). Ends text (final text (shut bs ps q qs end number) (l ∷ ls)) found fs) (stops_as fuel at whole (map (declared text) (l ∷ ls)) t ts o.defines o.rest)
     (ends_cons text (final text (shut bs ps q qs end number) (l ∷ ls)) found (text_found at t ts) (blocks_from fuel (at + length (t ∷ ts)) (map (declared text) (l ∷ ls))) (λ y. refl) refl
     (again (at + length (t ∷ ts)) (l ∷ ls) (bs ++ ended_as ps q qs end ∷ []) (ps ++ q ∷ qs) end number (length (ps ++ q ∷ qs)) (also found (more (Paragraph (text_of (t ∷ ts))) none))
     (paragraph_holds text fuel whole (l ∷ ls) bs ps q qs end found t ts h o) room o.few facts)))
@@ -165,8 +169,8 @@ paragraph_heads : (text : List ℕ) (fuel at : ℕ) → Goal text fuel → (whol
     → Holds text bs ps found → Opened text fuel whole (l ∷ ls) ps q qs t ts → AllByRecursion (Facts text) (l ∷ ls)
     → Ends text (final text (started (start.Underline level) text f.columns l (tail_of f.columns) (here f.spaces) (paragraph_page bs ps (q ∷ qs) q.start end number)) ls) found (from_there fuel at whole (paragraph_of at (t ∷ ts, Some level)))
 paragraph_heads text fuel at again whole l ls f bs ps q qs end number found t ts level h o facts =
-    subst (λ (s : State). Ends text (final text s ls) found (from_there fuel at whole (paragraph_of at (t ∷ ts, Some level)))) (sym (underline_comes text f.columns l f.spaces level bs ps q qs end number o.first few_pieces))
-    (subst (λ (fs : List Found). Ends text (final text after ls) found fs) (underlines_as fuel at whole (map (declared text) ls) t ts level (definitions_none t ts o.bracket) passed)
+    subst (λ (s : State). Ends text (final text s ls) found (from_there fuel at whole (paragraph_of at (t ∷ ts, Some level)))) (sym (underline_comes text f.columns l f.spaces level bs ps q qs end number o.reads few_pieces))
+    (subst (λ (fs : List Found). Ends text (final text after ls) found fs) (underlines_as fuel at whole (map (declared text) ls) t ts level o.defines passed)
     (ends_cons text (final text after ls) found (heading_found at level t ts) (blocks_from fuel (at + (length (t ∷ ts) + 1)) (map (declared text) ls)) (λ y. refl) refl
     (again (at + (length (t ∷ ts) + 1)) ls (bs ++ b ∷ []) (ps ++ q ∷ qs) l.end l.number (length (ps ++ q ∷ qs)) (also found (more (Heading level (text_of (t ∷ ts))) none))
     (holds_more text bs ps found b (Heading level (text_of (t ∷ ts))) (q ∷ qs) h refl (heading_told text level ps (q ∷ qs) (text_of (t ∷ ts)) q.start l.end (ap text_of o.texts)))
@@ -198,9 +202,12 @@ opened_more : (text : List ℕ) (fuel : ℕ) (whole : List DeclaredLine) (l : Li
     → Opened text fuel whole (l ∷ ls) ps q qs t ts → Opened text fuel whole ls ps q (qs ++ piece_in f.columns f.spaces l ∷ []) t (ts ++ line_ink (declared text l) ∷ [])
 opened_more text fuel whole l ls f ps q qs t ts e o =
     record {
-      texts = map-append (line_text text) (q ∷ qs) (p ∷ []) ∙ ap (λ (xs : List (List ℕ)). xs ++ line_text text p ∷ []) o.texts ∙ ap (λ (x : List ℕ). (t ∷ ts) ++ x ∷ []) (f.ink e);
-      first = o.first;
+      texts = texts;
       bracket = o.bracket;
+      clear = clear;
+      plain = o.plain;
+      defines = none;
+      reads = reads_none text q (qs ++ p ∷ []) t (ts ++ line_ink dl ∷ []) o.plain texts none;
       rest = ap (λ n. drop n whole) count ∙ drop_next (suc (length ts)) whole dl (map (declared text) ls) o.rest;
       room = omega (arith, more_pieces, all);
       few = omega (arith, k);
@@ -211,6 +218,15 @@ opened_more text fuel whole l ls f ps q qs t ts e o =
 
     dl : DeclaredLine
     dl = declared text l
+
+    texts : map (line_text text) (q ∷ (qs ++ p ∷ [])) ≡ t ∷ (ts ++ line_ink dl ∷ [])
+    texts = map-append (line_text text) (q ∷ qs) (p ∷ []) ∙ ap (λ (xs : List (List ℕ)). xs ++ line_text text p ∷ []) o.texts ∙ ap (λ (x : List ℕ). (t ∷ ts) ++ x ∷ []) (f.ink e)
+
+    clear : has_label_end text ≡ false → AreClear (t ∷ (ts ++ line_ink dl ∷ []))
+    clear g = all_append (λ x. has_label_end x ≡ false) (t ∷ ts) (line_ink dl ∷ []) (o.clear g) (f.clear g, tt)
+
+    none : definitions (t ∷ (ts ++ line_ink dl ∷ [])) ≡ ([], 0)
+    none = defines_none text t (ts ++ line_ink dl ∷ []) o.bracket clear
 
     all : length ps + suc (length qs) + suc (length ls) + 1 < 2 ^ 64
     all = o.room
@@ -237,7 +253,7 @@ paragraph_line text fuel at again whole l ls f bs ps q qs end number found t ts 
     subst (λ (s : State). Ends text (final text s ls) found (from_there fuel at whole (paragraph_of at (turned next (t ∷ ts) (line_ink (declared text l)) (turn (t ∷ ts) (declared text l))))))
     (sym (open_begins text l f bs ps (q ∷ qs) q.start end number))
     (subst (λ (x : Turn). Ends text (final text (begun (start_as f.spaces true f.level f.kind)) ls) found (from_there fuel at whole (paragraph_of at (turned next (t ∷ ts) (line_ink (declared text l)) x))))
-    (sym (turn_same text l f t ts (definitions_none t ts o.bracket)))
+    (sym (turn_same text l f t ts o.defines))
     (by f.kind f.level refl refl f.leaf f.marked goes))
   where
     next : List (List ℕ) → List (List ℕ) × Option HeadingLevel
@@ -259,7 +275,7 @@ paragraph_line text fuel at again whole l ls f bs ps q qs end number found t ts 
         → Ends text (final text (begun b) ls) found (from_there fuel at whole (paragraph_of at (t ∷ ts, None)))
     stops k b e i first =
         paragraph_stops text fuel at again whole l ls f bs ps q qs end number found t ts b h o facts (ap (start_as f.spaces false f.level) e ∙ i)
-        (same_start text f.columns l f.spaces b (paragraph_page bs ps (q ∷ qs) q.start end number) (shut bs ps q qs end number) first (paragraph_shuts text bs ps q qs end number o.first room))
+        (same_start text f.columns l f.spaces b (paragraph_page bs ps (q ∷ qs) q.start end number) (shut bs ps q qs end number) first (paragraph_shuts text bs ps q qs end number o.reads room))
 
     goes_on : (k : Beginning) → f.kind ≡ k → is_blank_kind k ≡ false → Goes k → Ends text (final text (begun start.Text) ls) found (from_there fuel at whole (paragraph_of at (next (t ∷ (ts ++ line_ink (declared text l) ∷ [])))))
     goes_on k e b g =
@@ -459,10 +475,21 @@ line_read text fuel at again l ls f bs ps end number kept found h room few facts
     by (ItemLine x) e leaf = absurd (true≢false (sym leaf))
     by TextLine e leaf =
         let not_blank : is_blank_kind f.kind ≡ false = ap is_blank_kind e in
+        let none_defined : definitions (line_ink dl ∷ []) ≡ ([], 0) = defines_none text (line_ink dl) [] f.bracket (λ g. (f.clear g, tt)) in
         subst (λ (s : State). Ends text (final text s ls) found (from_there fuel at (dl ∷ rest) (paragraph_of at (paragraph_lines (line_ink dl ∷ []) rest))))
         (sym (text_begins text f.columns l f.spaces bs ps end number kept (f.some not_blank)))
         (paragraph_read text fuel at again (dl ∷ rest) ls bs ps p [] l.end l.number found (line_ink dl) [] h
-        (record { texts = ap (λ (x : List ℕ). x ∷ []) (f.ink not_blank); first = f.first not_blank; bracket = f.bracket; rest = refl; room = same; few = few }) facts)
+        (record {
+          texts = ap (λ (x : List ℕ). x ∷ []) (f.ink not_blank);
+          bracket = f.bracket;
+          clear = λ g. (f.clear g, tt);
+          plain = f.plain;
+          defines = none_defined;
+          reads = reads_none text p [] (line_ink dl) [] f.plain (ap (λ (x : List ℕ). x ∷ []) (f.ink not_blank)) none_defined;
+          rest = refl;
+          room = same;
+          few = few;
+        }) facts)
     by LazyLine e leaf = absurd (true≢false (sym leaf))
 
 read_all : (text : List ℕ) (fuel : ℕ) → Goal text fuel
@@ -474,7 +501,7 @@ read_all text (suc fuel) at (l ∷ ls) bs ps end number kept found h room few fa
     line_read text fuel at (read_all text fuel) l ls (facts.0) bs ps end number kept found h room (let k : suc (length ls) ≤ suc fuel = few in omega (arith, k)) (facts.1)
 
 -- the facts of all lines
-all_facts : (text : List ℕ) (ls : List Line) → IsPlain text → length text + 3 < 2 ^ 64 → AllByRecursion (Sound text) ls → AllByRecursion (IsLeafLine (ends_with_feed text)) (map (declared text) ls) → (ends_with_feed text ≡ true → AllByRecursion (Fed text) ls) → AllByRecursion (Facts text) ls
+all_facts : (text : List ℕ) (ls : List Line) → IsPlain text → length text + 3 < 2 ^ 64 → AllByRecursion (Sound text) ls → AllByRecursion (IsLeafLine (ends_with_feed text) (has_label_end text)) (map (declared text) ls) → (ends_with_feed text ≡ true → AllByRecursion (Fed text) ls) → AllByRecursion (Facts text) ls
 all_facts text [] h fits sound leaves fed = tt
 all_facts text (l ∷ ls) h fits sound leaves fed = (leaf_facts text l h fits (sound.0) (leaves.0) (λ e. (fed e).0), all_facts text ls h fits (sound.1) (leaves.1) (λ e. (fed e).1))
 
@@ -505,7 +532,7 @@ leaves-declared text fits plain leaves = record { blocks = ends.blocks; definiti
     room = omega (arith, lines_few text, fits)
 
     facts : AllByRecursion (Facts text) (lines_of text)
-    facts = all_facts text (lines_of text) plain fits (lines_sound text plain) (subst (λ (ls : List DeclaredLine). AllByRecursion (IsLeafLine (ends_with_feed text)) ls) (sym same) leaves) (λ e. lines_fed text plain e)
+    facts = all_facts text (lines_of text) plain fits (lines_sound text plain) (subst (λ (ls : List DeclaredLine). AllByRecursion (IsLeafLine (ends_with_feed text) (has_label_end text)) ls) (sym same) leaves) (λ e. lines_fed text plain e)
 
     ends : Ends text (final text (closed [] [] 0 0 0) (lines_of text)) none (blocks_from (size ds) 0 ds)
     ends = subst (λ (ls : List DeclaredLine). Ends text (final text (closed [] [] 0 0 0) (lines_of text)) none (blocks_from (size ds) 0 ls)) same

@@ -33,12 +33,13 @@ use Rattle.tocmark_read_blocks.specs.declared.leaf.LeafStart.TheVariants as star
 use Rattle.tocmark_commonmark.specs.Lines.{Part, is_blank_byte, is_blank, column_after, indent, line_ink, without_last_blanks, cells, document_line}
 use Rattle.tocmark_commonmark.specs.Beginnings.{Beginning, BlankLine, CodeLine, QuoteLine, HeadingLine, FenceLine, HtmlLine, RuleLine, ItemLine, TextLine, LazyLine, html_if, begins_with, first_of_these, near_beginning, beginning_of, beginning, heading_text}
 use Rattle.tocmark_commonmark.specs.Leaves.{info, underlined, underline}
-use Rattle.tocmark_block_laws.specs.Leaves.{IsPlain, ends_with_feed, is_leaf, IsLeafLine}
+use Rattle.tocmark_block_laws.specs.Leaves.{IsPlain, ends_with_feed, is_leaf, has_label_end, IsLeafLine}
 use Rattle.tocmark_read_blocks.specs.Codes.{info_of}
 use Rattle.tocmark_read_page.specs.declared.page.BlockKind.TheVariants as block_kind
 use Rattle.tocmark_block_laws.proofs.Columns.{length_on, ink_on, run_low, ink_low, Behind, byte_on, between_on, le_on, front_low, plus_low, plus_zero}
 use Rattle.tocmark_block_laws.proofs.Marks.{trimmed_on, heading_later, heading_on, fence_indented, fence_on, underline_on, marker_on, back_stops, rule_on}
 use Rattle.tocmark_block_laws.proofs.Fronts.{spaces_of, part_of, at_ink, indent_same, spaces_low, blank_same, cursor_same, behind_at, between_further, ink_first, byte_first, between_in}
+use Rattle.tocmark_block_laws.proofs.Labels.{clear_between, clear_rest}
 use Rattle.tocmark_block_laws.proofs.Codes.{Fed, CodeFacts, code_facts}
 use Rattle.tocmark_block_laws.proofs.Texts.{blanks_same, trimmed_high, trimmed_text, front_same, between_is, between_length, Trimmed, heading_text_trimmed, place_there, place_here}
 use Rattle.tocmark_block_laws.proofs.TextLines.{Plain, plain_head, no_tab, declared, Sound, drop_plain, front_plain, between_plain}
@@ -123,8 +124,9 @@ pub record Facts (text : List ℕ) (l : Line) : Type 0 where
   pub under : is_blank_kind kind ≡ false → (texts : List (List ℕ)) → underline texts (declared text l) ≡ underlined texts level
   pub ink : is_blank_kind kind ≡ false → bytes_between text (cell_place columns spaces l.end) l.end ≡ line_ink (declared text l)
   pub some : is_blank_kind kind ≡ false → nat_lt (cell_place columns spaces l.end) l.next ≡ true
-  pub first : is_blank_kind kind ≡ false → (byte_at text (cell_place columns spaces l.end) == 91) ≡ false
-  pub bracket : begins_with 91 (line_ink (declared text l)) ≡ false
+  pub bracket : has_label_end text ≡ true → begins_with 91 (line_ink (declared text l)) ≡ false
+  pub clear : has_label_end text ≡ false → has_label_end (line_ink (declared text l)) ≡ false
+  pub plain : IsPlain text
   pub heads : (h : Heading) → kind ≡ HeadingLine h → HeadingFacts text l columns spaces h (line_ink (declared text l))
   pub infos : (x : Fence) → kind ≡ FenceLine x → InfoFacts text l columns spaces x (line_ink (declared text l))
   pub code : CodeFacts text l columns spaces
@@ -319,9 +321,9 @@ html_same b bs = by (b == 60) refl
 
 -- a line without a tab that is blank
 
-blank_facts : (text : List ℕ) (l : Line) (xs : List ℕ) → bytes_between text l.start l.end ≡ xs → IsPlain xs → length xs + 3 < 2 ^ 64 → is_blank xs ≡ true → begins_with 91 (line_ink (declared text l)) ≡ false → CodeFacts text l (cells_at l.start [] xs) (spaces_of xs) → (ends_with_feed text ≡ true → Fed text l) → Facts text l
+blank_facts : (text : List ℕ) (l : Line) (xs : List ℕ) → bytes_between text l.start l.end ≡ xs → IsPlain xs → length xs + 3 < 2 ^ 64 → is_blank xs ≡ true → (has_label_end text ≡ true → begins_with 91 (line_ink (declared text l)) ≡ false) → (has_label_end text ≡ false → has_label_end (line_ink (declared text l)) ≡ false) → IsPlain text → CodeFacts text l (cells_at l.start [] xs) (spaces_of xs) → (ends_with_feed text ≡ true → Fed text l) → Facts text l
 unfolding container_in container_at definition_start note_start leaf_at beginning
-blank_facts text l xs same h fits blank bracket code fed =
+blank_facts text l xs same h fits blank bracket clear plain code fed =
     record {
       spaces = spaces_of xs;
       columns = cells_at l.start [] xs;
@@ -337,8 +339,9 @@ blank_facts text l xs same h fits blank bracket code fed =
       under = λ e. absurd (true≢false e);
       ink = λ e. absurd (true≢false e);
       some = λ e. absurd (true≢false e);
-      first = λ e. absurd (true≢false e);
       bracket = bracket;
+      clear = clear;
+      plain = plain;
       heads = λ x e. absurd cc;
       infos = λ x e. absurd cc;
       code = code;
@@ -563,13 +566,14 @@ info_facts text l xs b bs i z x y e same =
 near_facts : (text : List ℕ) (l : Line) (xs : List ℕ) (b : ℕ) (bs : List ℕ) → Inked text l xs b bs → is_blank xs ≡ false
     → nat_le 4 (indent (part_of xs)) ≡ false
     → is_leaf (ends_with_feed text) (near_beginning (part_of xs) (b ∷ bs) (cells (b ∷ bs))) ≡ true
-    → (b == 91) ≡ false
-    → begins_with 91 (line_ink (declared text l)) ≡ false
+    → (has_label_end text ≡ true → begins_with 91 (line_ink (declared text l)) ≡ false)
+    → (has_label_end text ≡ false → has_label_end (line_ink (declared text l)) ≡ false)
+    → IsPlain text
     → CodeFacts text l (cells_at l.start [] xs) (spaces_of xs)
     → (ends_with_feed text ≡ true → Fed text l)
     → Facts text l
 unfolding container_in container_at item_at definition_start note_start leaf_at mark_at html_at underline_in rule_at beginning first_cursor
-near_facts text l xs b bs i blank near leaf no_bracket bracket code fed =
+near_facts text l xs b bs i blank near leaf bracket clear plain code fed =
     record {
       spaces = n;
       columns = whole;
@@ -595,8 +599,9 @@ near_facts text l xs b bs i blank near leaf no_bracket bracket code fed =
           ∙ ap (λ ys. underlined texts (underline_at (cells ys) 0)) i.inked;
       ink = λ e. i.rested ∙ sym ink_is;
       some = λ e. ap (λ k. nat_lt k l.next) i.placed ∙ i.before_next;
-      first = λ e. ap (λ k. byte_at text k == 91) i.placed ∙ ap (λ k. k == 91) i.byte ∙ no_bracket;
       bracket = bracket;
+      clear = clear;
+      plain = plain;
       heads = λ x e. subst (λ (ys : List ℕ). HeadingFacts text l whole n x ys) (sym ink_is) (heading_facts text l xs b bs i x
           (near_heading (part_of xs) (b == 62) (heading_at rest 0) (fence_at rest (first_cursor rest)) (html_if (b == 60) (b ∷ bs)) (is_rule rest (tail_of rest) 0) (marker_at rest 0) x e));
       infos = λ x e. subst (λ (ys : List ℕ). InfoFacts text l whole n x ys) (sym ink_is) (info_from x
@@ -667,13 +672,14 @@ near_facts text l xs b bs i blank near leaf no_bracket bracket code fed =
 far_facts : (text : List ℕ) (l : Line) (xs : List ℕ) (b : ℕ) (bs : List ℕ) → Inked text l xs b bs → is_blank xs ≡ false
     → nat_le 4 (indent (part_of xs)) ≡ true
     → is_leaf (ends_with_feed text) CodeLine ≡ true
-    → (b == 91) ≡ false
-    → begins_with 91 (line_ink (declared text l)) ≡ false
+    → (has_label_end text ≡ true → begins_with 91 (line_ink (declared text l)) ≡ false)
+    → (has_label_end text ≡ false → has_label_end (line_ink (declared text l)) ≡ false)
+    → IsPlain text
     → CodeFacts text l (cells_at l.start [] xs) (spaces_of xs)
     → (ends_with_feed text ≡ true → Fed text l)
     → Facts text l
 unfolding container_in container_at definition_start note_start leaf_at beginning
-far_facts text l xs b bs i blank far leaf no_bracket bracket code fed =
+far_facts text l xs b bs i blank far leaf bracket clear plain code fed =
     record {
       spaces = n;
       columns = whole;
@@ -692,8 +698,9 @@ far_facts text l xs b bs i blank far leaf no_bracket bracket code fed =
           ∙ ap (λ k. if k then None else underlined texts (underline_at (cells (drop n xs)) 0)) far;
       ink = λ e. i.rested ∙ sym ink_is;
       some = λ e. ap (λ k. nat_lt k l.next) i.placed ∙ i.before_next;
-      first = λ e. ap (λ k. byte_at text k == 91) i.placed ∙ ap (λ k. k == 91) i.byte ∙ no_bracket;
       bracket = bracket;
+      clear = clear;
+      plain = plain;
       heads = λ x e. absurd cc;
       infos = λ x e. absurd cc;
       code = code;
@@ -716,7 +723,7 @@ far_facts text l xs b bs i blank far leaf no_bracket bracket code fed =
     wide = grind (arith, deep, nat_tests)
 
 -- the facts of a line that begins a leaf
-pub leaf_facts : (text : List ℕ) (l : Line) → IsPlain text → length text + 3 < 2 ^ 64 → Sound text l → IsLeafLine (ends_with_feed text) (declared text l) → (ends_with_feed text ≡ true → Fed text l) → Facts text l
+pub leaf_facts : (text : List ℕ) (l : Line) → IsPlain text → length text + 3 < 2 ^ 64 → Sound text l → IsLeafLine (ends_with_feed text) (has_label_end text) (declared text l) → (ends_with_feed text ≡ true → Fed text l) → Facts text l
 unfolding beginning
 leaf_facts text l h fits sound leaf fed = by (is_blank xs) (nat_le 4 (indent (part_of xs))) refl refl
   where
@@ -725,6 +732,12 @@ leaf_facts text l h fits sound leaf fed = by (is_blank xs) (nat_le 4 (indent (pa
 
     inner : IsPlain xs
     inner = between_plain text l.start l.end h
+
+    bracket : has_label_end text ≡ true → begins_with 91 (line_ink (declared text l)) ≡ false
+    bracket e = sym (ap (λ k. k && begins_with 91 (line_ink (declared text l))) e) ∙ leaf.bracket
+
+    clear : has_label_end text ≡ false → has_label_end (line_ink (declared text l)) ≡ false
+    clear e = clear_rest (spaces_of xs) xs (clear_between text l.start l.end e)
 
     code : CodeFacts text l (cells_at l.start [] xs) (spaces_of xs)
     code = code_facts text l inner fits sound
@@ -749,13 +762,11 @@ leaf_facts text l h fits sound leaf fed = by (is_blank xs) (nat_le 4 (indent (pa
     inked : (far : Bool) → is_blank xs ≡ false → nat_le 4 (indent (part_of xs)) ≡ far → (b : ℕ) × (bs : List ℕ) × (drop (spaces_of xs) xs ≡ b ∷ bs) × (is_blank_byte b ≡ false) → Facts text l
     inked true blank near (b, bs, e, no_blank) = far_facts text l xs b bs (inked_line text l xs refl inner fits sound blank b bs e no_blank) blank near
         (begins_so true blank near)
-        (sym (ap (begins_with 91) e) ∙ leaf.bracket)
-        leaf.bracket code fed
+        bracket clear h code fed
     inked false blank near (b, bs, e, no_blank) = near_facts text l xs b bs (inked_line text l xs refl inner fits sound blank b bs e no_blank) blank near
         (sym (ap (λ ys. is_leaf (ends_with_feed text) (near_beginning (part_of xs) ys (cells ys))) e) ∙ begins_so false blank near)
-        (sym (ap (begins_with 91) e) ∙ leaf.bracket)
-        leaf.bracket code fed
+        bracket clear h code fed
 
     by : (k far : Bool) → is_blank xs ≡ k → nat_le 4 (indent (part_of xs)) ≡ far → Facts text l
-    by true far blank near = blank_facts text l xs refl inner short blank leaf.bracket code fed
+    by true far blank near = blank_facts text l xs refl inner short blank bracket clear h code fed
     by false far blank near = inked far blank near (ink_first xs blank)

@@ -121,20 +121,3 @@ paragraph_told text ps q qs texts start end h later = block_told text kind.Parag
 pub heading_told : (text : List ℕ) (level : HeadingLevel) (ps qs : List Piece) (words : List ℕ) (start end : ℕ) → leaf_text text qs ≡ words → (later : List Piece)
     → leaf_as text ((ps ++ qs) ++ later) (record { depth = 0; kind = kind.Heading level None; start = start; end = end; first = length ps; last = length (ps ++ qs); loose = false; list = None; task = None }) ≡ Some (Heading level words)
 heading_told text level ps qs words start end h later = block_told text (kind.Heading level None) ps qs start end later ∙ ap (λ t. Some (Heading level t)) h
-
--- no definition begins without a bracket
-
-no_definition : (b : ℕ) (bs : List ℕ) → (b == 91) ≡ false → definition_at (b ∷ bs) 0 ≡ None
-unfolding definition_at defined_label label
-no_definition b bs h = rw h refl
-
-define_none : (b : ℕ) (bs : List ℕ) → (b == 91) ≡ false → define_once (b ∷ bs) 0 [] ≡ ([], None)
-unfolding define_once
-define_none b bs h = rw (no_definition b bs h) refl
-
-none_in : (b : ℕ) (bs : List ℕ) → (b == 91) ≡ false → definitions_in (b ∷ bs) ≡ ([], 0)
-none_in b bs h = ap (counted (b ∷ bs)) (repeated_stop (define_once (b ∷ bs)) (suc (length bs)) 0 [] [] (omega arith) (sym (define_none b bs h)))
-
-pub definitions_none : (t : List ℕ) (ts : List (List ℕ)) → begins_with 91 t ≡ false → definitions (t ∷ ts) ≡ ([], 0)
-definitions_none [] ts h = none_in 10 (with_feeds ts) refl
-definitions_none (b ∷ bs) ts h = none_in b ((bs ++ 10 ∷ []) ++ with_feeds ts) h

@@ -1,5 +1,5 @@
 -- The reader and the declaration say the same of texts without containers.
-use Rattle.std.specs.Prelude.{ℕ, ◌+◌, ◌^◌, ◌<◌, ◌≡◌, Bool, true, false, ◌==◌, ◌||◌, List, length, reverse}
+use Rattle.std.specs.Prelude.{ℕ, ◌+◌, ◌^◌, ◌<◌, ◌≡◌, Bool, true, false, ◌==◌, ◌&&◌, ◌||◌, List, [], ◌∷◌, length, reverse}
 use Rattle.std.specs.List.{AllByRecursion, list_any}
 use Rattle.tocmark_read_scan.specs.declared.syntax.TheConstants.{CORE}
 use Rattle.tocmark_read_blocks.specs.Blocks.{BlocksView, blocks_in}
@@ -41,11 +41,16 @@ is_leaf fed RuleLine = true
 is_leaf fed TextLine = true
 is_leaf fed b = false
 
--- such a line, which begins with no bracket, and so no definition
-pub record IsLeafLine (fed : Bool) (l : Line) : Type 0 where
+-- a bracket and a colon, as after the label of each definition
+abbrev pub has_label_end : List ℕ → Bool
+has_label_end [] = false
+has_label_end (b ∷ bs) = ((b == 93) && begins_with 58 bs) || has_label_end bs
+
+-- such a line, which begins with no bracket if the text may have definitions
+pub record IsLeafLine (fed labels : Bool) (l : Line) : Type 0 where
   pub begins : is_leaf fed (beginning l) ≡ true
-  pub bracket : begins_with 91 (line_ink l) ≡ false
+  pub bracket : (labels && begins_with 91 (line_ink l)) ≡ false
 
 -- of texts of such lines the reader and the declaration say the same
 abbrev pub LeavesAreDeclared : Type 0
-LeavesAreDeclared = (text : List ℕ) → length text + 3 < 2 ^ 64 → IsPlain text → AllByRecursion (IsLeafLine (ends_with_feed text)) (lines_of text) → Agrees text
+LeavesAreDeclared = (text : List ℕ) → length text + 3 < 2 ^ 64 → IsPlain text → AllByRecursion (IsLeafLine (ends_with_feed text) (has_label_end text)) (lines_of text) → Agrees text
