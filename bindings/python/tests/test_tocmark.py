@@ -170,10 +170,11 @@ class Writing(unittest.TestCase):
     def test_a_document_is_checked(self):
         note = [{"Start": {"FootnoteDefinition": "1"}}, {"End": "FootnoteDefinition"}]
         items = [{"Start": {"List": None}}, {"Start": "Item"}, {"Text": "a"}, {"End": "Item"}, {"End": {"List": False}}]
-        tocmark.write(note + items)
-        error = self.refused(tocmark.Changed, -16, note + items, check_document=True)
+        tocmark.write(note + items, check_document=False)
+        error = self.refused(tocmark.Changed, -16, note + items)
         self.assertEqual((error.event, error.lines), (1, None))
-        self.assertEqual(tocmark.write(PARAGRAPH, check_document=True), "a")
+        self.refused(tocmark.Changed, -16, [{"Text": "a"}])
+        self.assertEqual(tocmark.write([{"Text": "a"}], check_document=False), "a")
 
     def test_what_is_no_json(self):
         for event, error, what in (({"Text": b"a"}, TypeError, "event 1: JSON has no bytes"),
@@ -189,8 +190,8 @@ class Writing(unittest.TestCase):
     def test_texts_come_back(self):
         for text in examples():
             events = tocmark.read(text)
-            written = tocmark.write(events, text)
-            self.assertEqual([event for event, _ in tocmark.read(tocmark.write(tocmark.read(written), written))],
+            written = tocmark.write(events, text, check_document=False)
+            self.assertEqual([event for event, _ in tocmark.read(tocmark.write(tocmark.read(written), written, check_document=False))],
                              [event for event, _ in tocmark.read(written)], text)
 
 
@@ -228,15 +229,15 @@ class Dumping(unittest.TestCase):
             for given, source in ((events, text), (alone, ""), ([list(pair) for pair in events], text),
                                   ([(event, place if at % 2 else None) for at, (event, place) in enumerate(events)], text)):
                 with mock.patch("tocmark._calls._json_of", side_effect=AssertionError):
-                    found = tocmark.write(given, source, syntax="all")
+                    found = tocmark.write(given, source, syntax="all", check_document=False)
                 with mock.patch("tocmark._calls._dumped", lambda items: None):
-                    self.assertEqual(tocmark.write(given, source, syntax="all"), found, text)
+                    self.assertEqual(tocmark.write(given, source, syntax="all", check_document=False), found, text)
 
     def answers_as_json(self, events):
         """What `write` answers, which has to be the same by way of JSON."""
         def answer():
             try:
-                return tocmark.write(events, syntax="all")
+                return tocmark.write(events, syntax="all", check_document=False)
             except (TypeError, ValueError) as error:
                 return type(error), str(error)
         found = answer()
@@ -787,7 +788,7 @@ class Commands(unittest.TestCase):
         self.assertEqual(self.run_module("rewrite", "--source", self.path, "--in-place", given=changed), "")
         with open(self.path, encoding="utf-8") as file:
             self.assertEqual(file.read(), ODD.replace("/old", "/new"))
-        self.assertEqual(self.run_module("write", "--check-document", given='["Rule"]'), "---\n")
+        self.assertEqual(self.run_module("write", "--unchecked", given='["Rule"]'), "---\n")
         short = "|a|b|\n|-|-|\n|1|\n"
         self.assertEqual([event for event, _ in json.loads(self.run_module("read", given=short))], [event for event, _ in tocmark.read(short)])
         self.run_module("rewrite", "--source", self.path, given='["Rule", 1]', status=1)
@@ -909,11 +910,11 @@ class Imports(unittest.TestCase):
 class Threads(unittest.TestCase):
     def test_two_threads_answer_the_same(self):
         texts = examples()
-        wanted = [tocmark.write(tocmark.read(text), text) for text in texts]
+        wanted = [tocmark.write(tocmark.read(text), text, check_document=False) for text in texts]
         found = [[], []]
 
         def work(answers):
-            answers.extend(tocmark.write(tocmark.read(text), text) for text in texts)
+            answers.extend(tocmark.write(tocmark.read(text), text, check_document=False) for text in texts)
 
         threads = [threading.Thread(target=work, args=(answers,)) for answers in found]
         for thread in threads:

@@ -44,7 +44,7 @@ def _read(words: argparse.Namespace) -> int:
 
 def _write(words: argparse.Namespace) -> int:
     source = read_file(words.source) if words.source else ""
-    _print(write(json.loads(_read_input()), source, check_document=words.check_document, **_syntax_of(words)) + "\n")
+    _print(write(json.loads(_read_input()), source, check_document=not words.unchecked, **_syntax_of(words)) + "\n")
     return 0
 
 
@@ -90,7 +90,7 @@ def _parser() -> argparse.ArgumentParser:
 
     one = commands.add_parser("write", help="print the Markdown of events on standard input")
     one.add_argument("--source", metavar="FILE", help="text that the ranges refer to")
-    one.add_argument("--check-document", action="store_true", help="refuse a text that has other events")
+    one.add_argument("--unchecked", action="store_true", help="also write a text that has other events")
     one.set_defaults(run=_write)
 
     one = commands.add_parser("rewrite", help="print a file with its events replaced by those on standard input")

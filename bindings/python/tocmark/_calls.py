@@ -180,15 +180,15 @@ def read(text: str, *, syntax: str = "gfm", extensions: Iterable[str] = ()) -> L
 
 
 def write(events: Iterable[Given], source: str = "", *, syntax: str = "gfm", extensions: Iterable[str] = (),
-          check_document: bool = False, **options: "Unpack[Options]") -> str:
+          check_document: bool = True, **options: "Unpack[Options]") -> str:
     """Returns the Markdown of events, with or without ranges. The text has no line feed at its end.
 
     To change a text, call `rewrite`, which keeps all other lines. `write` gives all blocks one layout.
 
     `source` is the text that the ranges refer to; without it, they are dropped. Paragraphs, headings and the like have to parse
-    back under `syntax` and `extensions`. `options` are those of the writer, such as `list_token="-"`. With `check_document`, the
-    whole text is parsed and refused unless it has just these events: pass it for events that you made. Texts side by side count
-    as one.
+    back under `syntax` and `extensions`. `options` are those of the writer, such as `list_token="-"`. The whole text is parsed and
+    refused unless it has just these events; texts side by side count as one. `check_document=False` skips that, which is faster,
+    and also writes lists that are no document.
 
     >>> import tocmark
     >>> tocmark.write(["Rule"])
