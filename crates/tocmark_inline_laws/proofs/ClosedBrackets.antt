@@ -76,9 +76,6 @@ target_said z texts targets further t = by z
     there : slice_get ((targets ++ t ∷ []) ++ further) (length targets) ≡ Some t
     there = ap (λ (ts : List Target). slice_get ts (length targets)) (append_assoc targets (t ∷ []) further) ∙ get_here targets further t
 
-    none : Target
-    none = record { link_type = link.Inline; destination = nowhere; title = nowhere; id = nowhere }
-
     by : (z : Bool) → tag_said texts ((targets ++ t ∷ []) ++ further) (span_at z (length targets)) ≡ (if z then view.Image t.link_type (words texts t.destination) (words texts t.title) (words texts t.id) else view.Link t.link_type (words texts t.destination) (words texts t.title) (words texts t.id))
     by true = ap (λ (o : Option Target). said.image_said texts (unwrap_or o (record { link_type = link.Inline; destination = nowhere; title = nowhere; id = nowhere }))) there
     by false = ap (λ (o : Option Target). said.link_said texts (unwrap_or o (record { link_type = link.Inline; destination = nowhere; title = nowhere; id = nowhere }))) there
@@ -323,9 +320,6 @@ links bytes ahead defs labels p s done part before b o plain inner fits is found
     w : ℕ
     w = bracket_width b.is_image
 
-    n : ℕ
-    n = length bytes
-
     end : ℕ
     end = l.as_declared.end
 
@@ -334,9 +328,6 @@ links bytes ahead defs labels p s done part before b o plain inner fits is found
 
     x : Bracket
     x = bracket_of b o.nested (length (kept_of before))
-
-    number : ℕ
-    number = length s.targets
 
     started : (0 < w) × (w ≤ 2)
     started = of b.is_image
@@ -392,12 +383,6 @@ links bytes ahead defs labels p s done part before b o plain inner fits is found
         i : Inline
         i = declared.linked b.is_image l.as_declared (emphasized (reverse part ++ []))
 
-        ahead_roles : List Role
-        ahead_roles = k.first
-
-        after_roles : List Role
-        after_roles = replicate (length bytes - p) role.Plain
-
         cut : k.first ≡ k.trail.0 ++ replicate w role.Plain
         cut = k.trail.2 ∙ ap (λ rs. k.trail.0 ++ rs) (k.trail.3.0)
 
@@ -419,9 +404,6 @@ links bytes ahead defs labels p s done part before b o plain inner fits is found
         m = lead_emphasizes (beside bytes s) k.first k.mid (replicate (length bytes - p) role.Plain) (reverse part ++ []) (kept_of part) lead
             (let q : weight (runs_of (reverse part ++ [])) ≡ weight (runs_of part) + 0 = weight_turned part [] in let v : weight (runs_of (part ++ Opening b ∷ before)) ≤ p = o.sim.light in omega (arith, q, v, weighs))
             (omega (arith, front_long))
-
-        count : ℕ
-        count = l.as_declared.end - suc p
 
         seg : List Role
         seg = start_roles b.is_image (role.Open (span_at b.is_image (length s.targets)) l.as_declared.end) ++ (m.roles ++ role.Close l.as_declared.end ∷ replicate (l.as_declared.end - suc p) role.Plain)

@@ -24,7 +24,7 @@ use Rattle.tocmark_inline_laws.proofs.Stack.{is_star, all_first, all_second, all
 use Rattle.tocmark_inline_laws.proofs.Places.{set_here}
 use Rattle.tocmark_inline_laws.proofs.Held.{placed, with_opener, with_kept, Held, Lead, held_shows, Caught, Search, searched}
 
--- the declaration and the reader at a place between atoms: what is ahead of the roles stays, and what is behind them
+-- the declaration and the reader at a place between atoms; what is before these roles stays, and so does what is after them
 pub record Meets (e : Beside) (ahead tail : List Role) (total : ℕ) (done rest : List Atom) (u : reader.State) (runs : List Run) : Type 0 where
   pub front : List Role
   pub back : List Role
@@ -62,10 +62,6 @@ pub record Settles (e : Beside) (ahead tail : List Role) (total : ℕ) (atoms : 
 fits_placed : (o c : Run) (p : ℕ) → reader.fits o (placed p c) ≡ reader.fits o c
 unfolding reader.fits reader.emphasis_fits
 fits_placed o c p = refl
-
-class_placed : (c : Run) (p : ℕ) → reader.class_of (placed p c) ≡ reader.class_of c
-unfolding reader.class_of
-class_placed c p = refl
 
 missed_placed : (c : Run) (p q : ℕ) (runs : List Run) → Missed c q runs → Missed (placed p c) q runs
 missed_placed c p q runs h = all_map (λ o. (q ≤ o.place) × (reader.fits o c ≡ false) × (can_match o c ≡ false)) (λ o. (q ≤ o.place) × (reader.fits o (placed p c) ≡ false) × (can_match o (placed p c) ≡ false)) runs (λ o k. ((k.0), (fits_placed o c p ∙ k.1), (k.2))) h
@@ -176,7 +172,7 @@ stack_short e base front (Delimiters d ∷ done) stack h =
 shortened_left : (under upper : List Run) (o : Run) (n left : ℕ) → o.count - n ≡ suc left → length under + 1 < 2 ^ 64 → reader.shortened (length under) o n (under ++ o ∷ upper) ≡ under ++ reader.with_count (suc left) o ∷ []
 shortened_left under upper o n left is fits =
     ap (λ m. if m == 0 then take (length under) (under ++ o ∷ upper) else slice_set (take (plus (length under) 1) (under ++ o ∷ upper)) (length under) (reader.with_count m o)) is
-    ∙ ap (λ (z : Bool). if z then take (length under) (under ++ o ∷ upper) else slice_set (take (plus (length under) 1) (under ++ o ∷ upper)) (length under) (reader.with_count (suc left) o)) (let doesnt : (suc left == 0) ≡ false = grind (arith, nat_tests) in doesnt)
+    ∙ ap (λ (z : Bool). if z then take (length under) (under ++ o ∷ upper) else slice_set (take (plus (length under) 1) (under ++ o ∷ upper)) (length under) (reader.with_count (suc left) o)) (let not_so : (suc left == 0) ≡ false = grind (arith, nat_tests) in not_so)
     ∙ ap (λ rs. slice_set rs (length under) (reader.with_count (suc left) o)) cut
     ∙ set_here under [] o (reader.with_count (suc left) o) (length under) refl
   where
@@ -218,7 +214,7 @@ left_of n c = record c { place = plus c.place n; count = c.count - n }
 once_matches : (u : reader.State) (c o : Run) (under upper : List Run) (z : Bool) → (nat_le 2 o.count && nat_le 2 c.count) ≡ z → is_star c.byte ≡ true → 0 < c.count → u.stack ≡ under ++ o ∷ upper → reader.found u.stack c (bottom u.bottoms (reader.class_of c)) (length u.stack) ≡ Some (length under) → reader.once c u ≡ (after_match (width_by z) (span_by z) (length under) o c u, Some (left_of (width_by z) c))
 unfolding reader.once reader.matched reader.width_of
 once_matches u c o under upper z wide star some stack found =
-    ap (λ (y : Bool). if y then (u, None) else reader.once_at (reader.found u.stack c (bottom u.bottoms (reader.class_of c)) (length u.stack)) c u) (let doesnt : (c.count == 0) ≡ false = grind (arith, nat_tests) in doesnt)
+    ap (λ (y : Bool). if y then (u, None) else reader.once_at (reader.found u.stack c (bottom u.bottoms (reader.class_of c)) (length u.stack)) c u) (let not_so : (c.count == 0) ≡ false = grind (arith, nat_tests) in not_so)
     ∙ ap (λ (x : Option ℕ). reader.once_at x c u) found
     ∙ ap (λ (x : Option Run). reader.once_on x (length under) c u) (ap (λ (rs : List Run). slice_get rs (length under)) stack ∙ get_here under upper o)
     ∙ ap (λ (y : Bool). (after_match (width_by y) (reader.span_of (width_by y) c) (length under) o c u, Some (left_of (width_by y) c))) wide
@@ -227,12 +223,12 @@ once_matches u c o under upper z wide star some stack found =
 once_fails : (u : reader.State) (c : Run) → 0 < c.count → reader.found u.stack c (bottom u.bottoms (reader.class_of c)) (length u.stack) ≡ None → reader.once c u ≡ (reader.barred c u, None)
 unfolding reader.once
 once_fails u c some found =
-    ap (λ (y : Bool). if y then (u, None) else reader.once_at (reader.found u.stack c (bottom u.bottoms (reader.class_of c)) (length u.stack)) c u) (let doesnt : (c.count == 0) ≡ false = grind (arith, nat_tests) in doesnt)
+    ap (λ (y : Bool). if y then (u, None) else reader.once_at (reader.found u.stack c (bottom u.bottoms (reader.class_of c)) (length u.stack)) c u) (let not_so : (c.count == 0) ≡ false = grind (arith, nat_tests) in not_so)
     ∙ ap (λ (x : Option ℕ). reader.once_at x c u) found
 
 once_done : (u : reader.State) (c : Run) → c.count ≡ 0 → reader.once c u ≡ (u, None)
 unfolding reader.once
-once_done u c none = ap (λ (y : Bool). if y then (u, None) else reader.once_at (reader.found u.stack c (bottom u.bottoms (reader.class_of c)) (length u.stack)) c u) (let does : (c.count == 0) ≡ true = grind (arith, nat_tests) in does)
+once_done u c none = ap (λ (y : Bool). if y then (u, None) else reader.once_at (reader.found u.stack c (bottom u.bottoms (reader.class_of c)) (length u.stack)) c u) (let so : (c.count == 0) ≡ true = grind (arith, nat_tests) in so)
 
 repeated_done : (n : ℕ) (u : reader.State) (c : Run) → c.count ≡ 0 → repeated reader.once n c u ≡ (u, c)
 unfolding repeated
@@ -314,9 +310,6 @@ match_held e base n prior seg o before under upper i opens run held fits shows =
 match_bars : (bs : List ℕ) (n : ℕ) (o : Run) (under upper : List Run) → length under + 1 < 2 ^ 64 → Bars bs (under ++ o ∷ upper) → Bars bs (reader.shortened (length under) o n (under ++ o ∷ upper))
 match_bars bs n o under upper fits h c star = by (o.count - n) refl (h c star)
   where
-    P : Run → Type 0
-    P x = can_match x c ≡ true → bottom bs (reader.class_of c) ≤ x.place
-
     by : (m : ℕ) → o.count - n ≡ m → AllByRecursion (λ x. can_match x c ≡ true → bottom bs (reader.class_of c) ≤ x.place) (under ++ o ∷ upper) → AllByRecursion (λ x. can_match x c ≡ true → bottom bs (reader.class_of c) ≤ x.place) (reader.shortened (length under) o n (under ++ o ∷ upper))
     by zero is k = subst (λ (rs : List Run). AllByRecursion (λ x. can_match x c ≡ true → bottom bs (reader.class_of c) ≤ x.place) rs) (sym (shortened_none under upper o n is)) (all_first (λ x. can_match x c ≡ true → bottom bs (reader.class_of c) ≤ x.place) under (o ∷ upper) k)
     by (suc left) is k =
@@ -468,17 +461,17 @@ emphasis_opening fuel done rest b = refl
 
 emphasis_run : (fuel : ℕ) (done rest : List Atom) (d : Run) → d.closes ≡ false → emphasis (suc fuel) done (Delimiters d ∷ rest) ≡ emphasis fuel (Delimiters d ∷ done) rest
 unfolding emphasis
-emphasis_run fuel done rest d doesnt = ap (λ (z : Bool). closed_or (λ x y. emphasis fuel x y) done (Delimiters d) rest (if z then Some d else None)) doesnt
+emphasis_run fuel done rest d not_so = ap (λ (z : Bool). closed_or (λ x y. emphasis fuel x y) done (Delimiters d) rest (if z then Some d else None)) not_so
 
 emphasis_closes : (fuel : ℕ) (done rest : List Atom) (d : Run) (found : Option Match) → d.closes ≡ true → nearest d [] done ≡ found → emphasis (suc fuel) done (Delimiters d ∷ rest) ≡ matched (λ x y. emphasis fuel x y) done rest d found
 unfolding emphasis
-emphasis_closes fuel done rest d found does is =
-    ap (λ (z : Bool). closed_or (λ x y. emphasis fuel x y) done (Delimiters d) rest (if z then Some d else None)) does
+emphasis_closes fuel done rest d found so is =
+    ap (λ (z : Bool). closed_or (λ x y. emphasis fuel x y) done (Delimiters d) rest (if z then Some d else None)) so
     ∙ ap (λ (x : Option Match). matched (λ x y. emphasis fuel x y) done rest d x) is
 
 emphasis_match : (fuel : ℕ) (done rest : List Atom) (d : Run) (before between : List Atom) (o : Run) (z : Bool) → d.closes ≡ true → nearest d [] done ≡ Some (record { before = before; opening = o; between = between }) → (nat_le 2 o.count && nat_le 2 d.count) ≡ z → emphasis (suc fuel) done (Delimiters d ∷ rest) ≡ emphasis fuel (Whole (emphasis_by z (inlines_of between)) ∷ run_left (width_by z) o ++ before) (run_left (width_by z) d ++ rest)
-emphasis_match fuel done rest d before between o z does is wide =
-    emphasis_closes fuel done rest d (Some (record { before = before; opening = o; between = between })) does is
+emphasis_match fuel done rest d before between o z so is wide =
+    emphasis_closes fuel done rest d (Some (record { before = before; opening = o; between = between })) so is
     ∙ ap (λ (y : Bool). emphasized_with (λ x y. emphasis fuel x y) rest d (record { before = before; opening = o; between = between }) (width_by y)) wide
     ∙ by z
   where
@@ -489,20 +482,20 @@ emphasis_match fuel done rest d before between o z does is wide =
 -- the steps of the reader
 kept_closes : (u : reader.State) (r : Run) (others : List Run) → r.closes ≡ true → fold reader.run_step u (with_kept r others) ≡ fold reader.run_step (reader.stacked (repeated reader.once r.count r u)) others
 unfolding reader.run_step
-kept_closes u r others does = by r.opens r.closes does
+kept_closes u r others so = by r.opens r.closes so
   where
     by : (x y : Bool) → y ≡ true → fold reader.run_step u (if x || y then r ∷ others else others) ≡ fold reader.run_step (reader.stacked (repeated reader.once r.count r u)) others
-    by true true k = ap (λ (z : Bool). fold reader.run_step (reader.stacked (if z then repeated reader.once r.count r u else (u, r))) others) does
-    by false true k = ap (λ (z : Bool). fold reader.run_step (reader.stacked (if z then repeated reader.once r.count r u else (u, r))) others) does
+    by true true k = ap (λ (z : Bool). fold reader.run_step (reader.stacked (if z then repeated reader.once r.count r u else (u, r))) others) so
+    by false true k = ap (λ (z : Bool). fold reader.run_step (reader.stacked (if z then repeated reader.once r.count r u else (u, r))) others) so
     by x false k = absurd (true≢false (sym k))
 
 kept_passes : (u : reader.State) (r : Run) (others : List Run) → r.closes ≡ false → 0 < r.count → fold reader.run_step u (with_kept r others) ≡ fold reader.run_step (record u { stack = with_opener u.stack r }) others
 unfolding reader.run_step
-kept_passes u r others doesnt some = by r.opens r.closes refl doesnt
+kept_passes u r others not_so some = by r.opens r.closes refl not_so
   where
     by : (x y : Bool) → r.opens ≡ x → y ≡ false → fold reader.run_step u (if x || y then r ∷ others else others) ≡ fold reader.run_step (record u { stack = with_opener u.stack r }) others
     by true false e k =
-        ap (λ (z : Bool). fold reader.run_step (reader.stacked (if z then repeated reader.once r.count r u else (u, r))) others) doesnt
+        ap (λ (z : Bool). fold reader.run_step (reader.stacked (if z then repeated reader.once r.count r u else (u, r))) others) not_so
         ∙ ap (λ (v : reader.State). fold reader.run_step v others) (stacked_is u r some)
     by false false e k = sym (ap (λ (x : Bool). fold reader.run_step (record u { stack = if x then u.stack ++ r ∷ [] else u.stack }) others) e)
     by x true e k = absurd (true≢false k)
@@ -657,12 +650,12 @@ all_settle e ahead tail total fuel all each done (Delimiters d ∷ rest) u runs 
     some = m.lead.4.some
 
     by : (y : Bool) → d.closes ≡ y → Settles e ahead tail total (emphasis (suc fuel) done (Delimiters d ∷ rest)) (fold reader.run_step u runs).roles
-    by true does =
-        subst (λ (v : reader.State). Settles e ahead tail total (emphasis (suc fuel) done (Delimiters d ∷ rest)) v.roles) (sym (ap (fold reader.run_step u) (m.lead.3) ∙ kept_closes u (placed p d) others does))
-        (each done d rest u others p d.count facing some does (omega arith) (omega arith))
-    by false doesnt =
-        subst (λ (xs : List Atom). Settles e ahead tail total xs (fold reader.run_step u runs).roles) (sym (emphasis_run fuel done rest d doesnt))
-        (subst (λ (v : reader.State). Settles e ahead tail total (emphasis fuel (Delimiters d ∷ done) rest) v.roles) (sym (ap (fold reader.run_step u) (m.lead.3) ∙ kept_passes u (placed p d) others doesnt some))
+    by true so =
+        subst (λ (v : reader.State). Settles e ahead tail total (emphasis (suc fuel) done (Delimiters d ∷ rest)) v.roles) (sym (ap (fold reader.run_step u) (m.lead.3) ∙ kept_closes u (placed p d) others so))
+        (each done d rest u others p d.count facing some so (omega arith) (omega arith))
+    by false not_so =
+        subst (λ (xs : List Atom). Settles e ahead tail total xs (fold reader.run_step u runs).roles) (sym (emphasis_run fuel done rest d not_so))
+        (subst (λ (v : reader.State). Settles e ahead tail total (emphasis fuel (Delimiters d ∷ done) rest) v.roles) (sym (ap (fold reader.run_step u) (m.lead.3) ∙ kept_passes u (placed p d) others not_so some))
         (all (Delimiters d ∷ done) rest (record u { stack = with_opener u.stack (placed p d); bottoms = u.bottoms }) others (run_passed e ahead tail total done d rest u others p u.bottoms some facing m.bars m.low) (omega arith)))
 
 both : (e : Beside) (ahead tail : List Role) (total : ℕ) → length ahead + total + 1 < 2 ^ 64 → (fuel : ℕ) → Both e ahead tail total fuel

@@ -217,9 +217,6 @@ opened_so : (image : Bool) (width : ℕ) (s : State) → opened image width s �
 unfolding opened
 opened_so image width s = refl
 
-clean_bracket : (b : ℕ) → b ≡ 91 → (b == 32) ≡ false
-clean_bracket b is = ap (λ c. c == 32) is
-
 pub bracket_goes : (bytes : List ℕ) (ahead : Known) (defs : List ℕ → Option Entry) (z : Bool) (p b : ℕ) (s : State) (done : List Atom) → Sim bytes p s done → p + bracket_width z ≤ length bytes → length bytes + 2 < 2 ^ 64 → byte_at bytes p ≡ b → is_mark b ≡ true → looked_all bytes ahead defs b s ≡ opened z (bracket_width z) s → ((i : ℕ) → i < bracket_width z → byte_at bytes (p + i) ≡ byte_at (bracket_text z) i) → Goes bytes ahead defs p s done (opening z (p + bracket_width z))
 bracket_goes bytes ahead defs z p b s done a in_it fits is mark looked here =
     goes_atom bytes ahead defs p end b s t done (replicate width role.Plain) (Opening bracket) a
@@ -235,7 +232,7 @@ bracket_goes bytes ahead defs z p b s done a in_it fits is mark looked here =
       runs = refl;
     })
     (let w : weight (runs_of done) ≤ p = a.light in omega arith)
-    (clean_after bytes last end (omega (arith, some)) (clean_bracket (byte_at bytes last) bracket_is))
+    (clean_after bytes last end (omega (arith, some)) (ap (λ c. c == 32) bracket_is))
     ((k.brackets), false, new_is, active, (λ e. absurd (true≢false (sym e))), inr refl, k.opens)
     (let f : s.inactive ≤ length s.brackets = a.few in let l : length t.brackets ≡ length k.brackets + 1 = length-append k.brackets (new ∷ []) in let m : length k.brackets ≡ length s.brackets = k.long in omega arith)
     (omega (arith, some)) in_it (omega arith) is

@@ -8,7 +8,7 @@ use Rattle.tocmark_read_tokens.specs.Word.{stops, ends_enclosed, escapes, enclos
 use Rattle.tocmark_read_tokens.specs.declared.word.Enclosure.TheVariants.{Bracketed}
 use Rattle.tocmark_inline_laws.proofs.Stretches.{drop_length, first_left, none}
 
--- the first such bracket from a place on, behind an escaping backslash or not
+-- the first such bracket from a place on, after an escaping backslash or not
 abbrev pub bracket_from : List ℕ → Bool → ℕ → ℕ
 bracket_from bytes escaped p = enclosed_end Bracketed escaped p (drop p bytes)
 

@@ -123,12 +123,6 @@ two_at bytes p v w h is = by (drop (suc p) bytes) refl
         ∙ ap (λ b. b == w) (sym (byte_dropped bytes (suc p) c cs e) ∙ ap (λ m. byte_at bytes m) (sym one))
         ∙ sym (ap (λ (z : Bool). z && (byte_at bytes (p + 1) == w)) yes)
 
--- a byte of a content in which no byte passes a test
-pub no_byte : (g : ℕ → Bool) (bytes : List ℕ) (p : ℕ) → list_any g bytes ≡ false → p < length bytes → g (byte_at bytes p) ≡ false
-no_byte g [] p h l = absurd (omega arith)
-no_byte g (x ∷ xs) zero h l = (both_false (g x) (list_any g xs) h).0
-no_byte g (x ∷ xs) (suc p) h l = no_byte g xs p ((both_false (g x) (list_any g xs) h).1) (omega arith)
-
 -- a byte of a content passes a test, so some byte does
 pub any_byte : (g : ℕ → Bool) (bytes : List ℕ) (p : ℕ) → p < length bytes → g (byte_at bytes p) ≡ true → list_any g bytes ≡ true
 any_byte g [] p l h = absurd (omega arith)

@@ -178,9 +178,6 @@ found_top c bottom under upper o fits low h =
     ap (reader.found (under ++ o ∷ upper) c bottom) (length-append under (o ∷ upper) ∙ (let k : length under + suc (length upper) ≡ suc (length under + length upper) = omega arith in k))
     ∙ down (length upper) (omega arith)
   where
-    stack : List Run
-    stack = under ++ o ∷ upper
-
     reached : (p : ℕ) → o.place ≤ p → nat_lt p bottom ≡ false
     reached p l = grind (arith, nat_tests)
 

@@ -104,9 +104,6 @@ inline_closes : (bytes : List ℕ) (q : ℕ) (found : InlineTarget) → q < 2 ^ 
 unfolding inline_target target_from inline_end
 inline_closes bytes q found h e = by (byte_at bytes q == 40) e
   where
-    from : ℕ
-    from = run_end bytes (plus q 1) White
-
     begun : Climbs q (run_end bytes (plus q 1) White)
     begun = climbed q (plus q 1) (run_end bytes (plus q 1) White) (one_climbs q h) (run_climbs bytes (plus q 1) White (omega arith))
 
