@@ -1,5 +1,5 @@
 -- When two texts are the same for a call.
-use Rattle.std.specs.Prelude.{ℕ, ◌×◌, List}
+use Rattle.std.specs.Prelude.{ℕ, List}
 use Rattle.tocmark_event.specs.Reading.{ReadingView}
 use Rattle.tocmark_event.specs.declared.event.flags.ParserOptions.{ParserOptions}
 use Rattle.tocmark_judge.specs.LinkDefinitions.{DefinedLink}

@@ -1,6 +1,6 @@
 //! What became of pairs of files, and the status of a call.
 
-ghost use Rattle.std.specs.Prelude.{◌≡◌, ◌↔◌, ◌×◌, IfOk, IsTrue, []};
+ghost use Rattle.std.specs.Prelude.{◌≡◌, ◌↔◌, IfOk, IsTrue, []};
 ghost use Rattle.std.specs.List.{list_any};
 ghost use Rattle.tocmark_differences.specs.Said.{HaveSameLetters, SayTheSame};
 ghost use Rattle.tocmark_compare_program.specs.Measures.{AreTheSame};
