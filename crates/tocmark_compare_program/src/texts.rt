@@ -1,6 +1,5 @@
 //! Texts, and the files below folders.
 
-use crate::COMPARE;
 use crate::arguments::{Place, Text};
 use crate::fault::Fault;
 use std::alloc::{AllocError, Global};
@@ -35,7 +34,6 @@ pub fn is_folder(rt: &HostRuntime, text: Text<'_>) -> bool {
 fn bytes_of(rt: &HostRuntime, place: Place<'_>) -> io::Result<Vec<u8>> {
     match place {
         Place::Input => {
-            COMPARE.note_at_terminal(rt, "reading Markdown from the terminal; end it with Ctrl-D");
             let mut bytes = Vec::new(rt.alloc());
             rt.stdin().read_to_end(&mut bytes)?;
             Ok(bytes)
