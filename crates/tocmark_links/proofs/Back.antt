@@ -1,5 +1,5 @@
 -- A relative path leads back to the place that it was made for.
-use Rattle.std.proofs.Common.{◌≡◌, refl, sym, ◌∙◌, ap, subst, ℕ, zero, suc, ◌<◌, ◌≤◌, ◌+◌, ◌-◌, ◌==◌, Bool, true, false, List, [], ◌∷◌, ◌++◌, length, map, take, drop, arith, Option, None, Some, unwrap_or, codes, if◌then◌else◌, append_assoc, append-nil, true≢false, take_all, take-take, length-drop, length-map}
+use Rattle.std.proofs.Common.{◌≡◌, refl, sym, ◌∙◌, ap, subst, ℕ, zero, suc, ◌<◌, ◌≤◌, ◌+◌, ◌-◌, ◌==◌, Bool, true, false, List, [], ◌∷◌, ◌++◌, length, map, take, drop, arith, Option, None, Some, unwrap_or, codes, if◌then◌else◌, append_assoc, append-nil, true≢false, take_all, take-take, length-drop}
 use Rattle.std.specs.List.{fold}
 use Rattle.std.specs.Option.{option_map}
 use Rattle.std.specs.Str.{bytes_eq}

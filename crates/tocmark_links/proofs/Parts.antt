@@ -1,9 +1,10 @@
 -- Parts of paths: what stands between slashes, and how loops over parts go on.
-use Rattle.std.proofs.Common.{◌≡◌, refl, sym, ◌∙◌, ap, ℕ, suc, ◌<◌, ◌+◌, ◌≢◌, ◌==◌, Bool, true, false, List, [], ◌∷◌, ◌++◌, length, get_or, map, drop, arith, Option, None, Some, rules, if◌then◌else◌, append_assoc, drop-drop, Bor}
+use Rattle.std.proofs.Common.{◌≡◌, refl, sym, not, true≢false, ◌∙◌, ap, ℕ, suc, ◌<◌, ◌+◌, ◌≢◌, ◌==◌, Bool, true, false, List, [], ◌∷◌, ◌++◌, length, get_or, map, drop, arith, Option, None, Some, rules, if◌then◌else◌, append_assoc, drop-drop, Bor}
 use Rattle.std.specs.List.{fold}
 use Rattle.std.specs.Str.{bytes_eq}
-use Rattle.std.proofs.lemmas.List.{map-append, drop_more}
-use Rattle.tocmark_links.specs.Paths.{parts_of, begun, gone, is_next, common}
+use Rattle.std.proofs.lemmas.List.{map-append, drop_more, drop-map}
+use Rattle.std.specs.Option.{option_map}
+use Rattle.tocmark_links.specs.Paths.{parts_of, begun, gone, is_next, common, joined, led, begins_at_root, resolved}
 
 -- out of the root leads nowhere back
 pub gone-none : (parts : List (List ℕ)) → fold gone None parts ≡ None
@@ -72,3 +73,24 @@ common_less one others i whole d within h next =
     ap (λ ps. common (map (λ p. p.now) ps) (drop i others)) (drop_more one i d within)
     ∙ ap (λ b. if b then suc (common (map (λ p. p.now) (drop (i + 1) one)) (drop 1 (drop i others))) else 0) next in
     omega (arith, h, e)
+
+-- a step that leads out of the root
+pub out-when : {A : Type 0} (stays : Bool) (o : Option A) (x : A) → o ≡ (if stays then Some x else None) → not stays ≡ true → o ≡ None
+out-when true o x e h = absurd (true≢false (sym h))
+out-when false o x e h = e
+
+-- a folder out of the root
+pub resolved-out : (folder path : List ℕ) → begins_at_root path ≡ false → led folder ≡ None → None ≡ resolved folder path
+resolved-out folder path b e =
+    sym
+    (
+    ap (λ s. option_map joined (fold gone (if s then Some [] else led folder) (parts_of path))) b
+    ∙ ap (λ o. option_map joined (fold gone o (parts_of path))) e
+    ∙ ap (option_map joined) (gone-none (parts_of path))
+    )
+
+-- the first of the parts from a place on
+pub next-at : (part : List ℕ) (rest other : List (Bor (List ℕ))) (count i : ℕ) (found : Bool) → found ≡ is_next part (map (λ p. p.now) rest) → rest ≡ drop count other → count ≡ i → is_next part (drop i (map (λ p. p.now) other)) ≡ found
+next-at part rest other count i found e r s =
+    ap (is_next part) (drop-map (λ p. p.now) i other)
+    ∙ sym (e ∙ ap (λ ps. is_next part (map (λ p. p.now) ps)) (r ∙ ap (λ n. drop n other) s))

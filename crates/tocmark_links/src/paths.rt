@@ -142,7 +142,6 @@ fn is_next(part: &str, parts: &[&str]) -> bool
 }
 
 /// How many parts two places have in common at their front.
-#[tactic(auto, using(crate::proofs::Parts::common_more, crate::proofs::Parts::common_less))]
 fn common(one: &[&str], other: &[&str]) -> usize
     ensures { result ≡ common (map (λ p. p.now) one.now) (map (λ p. p.now) other.now) }
 {

@@ -11,7 +11,7 @@ loop-c-init c =
     let rest = ap chars_rest c.into_iter-c-iterator.ensures.into_iter_gives ∙ c.chars-c-items.ensures.rest in
     record {
       is_text = search rules;
-      same = first_of (rw (c.new-kept.ensures.bytes, rest) refl, search rules, grind rules);
+      same = rw (c.new-kept.ensures.bytes, rest) refl;
     }
 
 pub loop-c-preserved : goal.loop-c-preserved
