@@ -28,3 +28,4 @@ pub mod OpenBrackets
 pub mod TargetEnds
 pub mod Outcomes
 pub mod ClosedBrackets
+pub mod LabelsLead

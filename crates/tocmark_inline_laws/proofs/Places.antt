@@ -7,7 +7,7 @@ use Rattle.std.specs.List.{AllByRecursion, list_any, starts_with}
 use Rattle.tocmark_read_scan.specs.Basic.{byte_at, starts_at}
 use Rattle.tocmark_read_scan.specs.Repeat.{iterated, going_on}
 use Rattle.tocmark_read_scan.proofs.PlainPlaces.{byte_dropped}
-use Rattle.tocmark_read_scan.proofs.PlainTests.{eq_of, both_false, or_first, or_second}
+use Rattle.tocmark_read_scan.proofs.PlainTests.{eq_of, or_first, or_second}
 use Rattle.tocmark_read_inlines.specs.Scan.{before_space}
 use Rattle.tocmark_read_spans.specs.declared.role.Role.TheVariants as role
 use Rattle.tocmark_inline_laws.proofs.Sim.{Clean}

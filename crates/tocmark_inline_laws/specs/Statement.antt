@@ -1,10 +1,14 @@
 -- What the reader makes of a content is what CommonMark declares.
-use Rattle.std.specs.Prelude.{◌≡◌, ℕ, ◌+◌, ◌^◌, ◌<◌, List, ◌++◌, length, Option, Some, None, ⊤}
+use Rattle.std.specs.Prelude.{◌≡◌, ℕ, ◌+◌, ◌^◌, ◌<◌, false, List, ◌++◌, length, Option, Some, None, ⊤}
+use Rattle.std.specs.List.{AllByRecursion}
 use Rattle.tocmark_read_spans.specs.declared.definitions.Entry.{Entry}
 use Rattle.tocmark_read_spans.specs.declared.role.Stretch.{Stretch}
 use Rattle.tocmark_read_spans.specs.declared.role.Target.{Target}
 use Rattle.tocmark_commonmark.specs.Inlines.{inlines}
-use Rattle.tocmark_commonmark.specs.Links.{Destination, first_of}
+use Rattle.tocmark_read_page.specs.Definitions.{DefinitionView}
+use Rattle.tocmark_read_scan.specs.declared.syntax.Names.TheVariants.{All}
+use Rattle.tocmark_reader.specs.Reading.{collected_in, first_entry}
+use Rattle.tocmark_commonmark.specs.Links.{Destination, destinations, first_of}
 use Rattle.tocmark_inline_laws.specs.Said.{words, said, declared}
 
 -- an entry among texts, also when more are added, says what a label leads to
@@ -36,3 +40,13 @@ InlinesAreLocal =
     (targets other_targets : List Target) (texts other_texts : List ℕ) (missed other_missed : List Stretch)
     → LeadAlike texts definitions labels → LeadAlike other_texts others labels
     → said bytes definitions targets texts missed ≡ said bytes others other_targets other_texts other_missed
+
+-- a destination and a title of fewer than 2 ^ 64 - 2 bytes
+abbrev pub IsShort : DefinitionView → Type 0
+IsShort d = (length d.destination + 2 < 2 ^ 64) × (length d.title + 2 < 2 ^ 64)
+
+-- 4.7: what the reader collects of definitions leads to what they are declared to say
+abbrev pub DefinitionsLeadAsDeclared : Type 0
+DefinitionsLeadAsDeclared =
+    (all : List DefinitionView) → AllByRecursion IsShort all
+    → LeadAlike (collected_in All all).texts (first_entry false (collected_in All all).keys (collected_in All all).entries) (destinations all)
