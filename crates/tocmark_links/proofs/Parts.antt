@@ -1,5 +1,5 @@
 -- Parts of paths: what stands between slashes, and how loops over parts go on.
-use Rattle.std.proofs.Common.{◌≡◌, refl, sym, not, true≢false, ◌∙◌, ap, ℕ, suc, ◌<◌, ◌+◌, ◌≢◌, ◌==◌, Bool, true, false, List, [], ◌∷◌, ◌++◌, length, get_or, map, drop, arith, Option, None, Some, rules, if◌then◌else◌, append_assoc, drop-drop, Bor}
+use Rattle.std.proofs.Common.{◌≡◌, refl, sym, true≢false, ◌∙◌, ap, ℕ, suc, ◌<◌, ◌+◌, ◌≢◌, ◌==◌, Bool, true, false, List, [], ◌∷◌, ◌++◌, length, get_or, map, drop, arith, Option, None, Some, rules, if◌then◌else◌, append_assoc, drop-drop, Bor}
 use Rattle.std.specs.List.{fold}
 use Rattle.std.specs.Str.{bytes_eq}
 use Rattle.std.proofs.lemmas.List.{map-append, drop_more, drop-map}
@@ -75,8 +75,8 @@ common_less one others i whole d within h next =
     omega (arith, h, e)
 
 -- a step that leads out of the root
-pub out-when : {A : Type 0} (stays : Bool) (o : Option A) (x : A) → o ≡ (if stays then Some x else None) → not stays ≡ true → o ≡ None
-out-when true o x e h = absurd (true≢false (sym h))
+pub out-when : {A : Type 0} (stays : Bool) (o : Option A) (x : A) → o ≡ (if stays then Some x else None) → stays ≡ false → o ≡ None
+out-when true o x e h = absurd (true≢false h)
 out-when false o x e h = e
 
 -- a folder out of the root
