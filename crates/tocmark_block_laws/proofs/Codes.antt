@@ -1,15 +1,13 @@
 -- Lines in code and HTML: what the reader keeps of them, and the fences that end code.
-use Rattle.std.proofs.Common.{◌≡◌, ℕ, zero, suc, ◌+◌, ◌-◌, ◌^◌, ◌<◌, ◌≤◌, Bool, true, false, not, ◌==◌, ◌&&◌, ◌||◌, cond, if◌then◌else◌, nat_lt, nat_le, min, List, [], ◌∷◌, ◌++◌, length, take, drop, reverse, replicate, refl, ap, sym, subst, ◌∙◌, arith, append_assoc, append-nil, length-append, length-drop, length-take, true≢false}
-use Rattle.std.specs.Prelude.{take_while}
-use Rattle.std.specs.List.{AllByRecursion, prefix_len}
+use Rattle.std.proofs.Common.{◌≡◌, ℕ, zero, suc, ◌+◌, ◌-◌, ◌^◌, ◌<◌, ◌≤◌, Bool, true, false, not, ◌==◌, ◌&&◌, if◌then◌else◌, nat_lt, nat_le, min, List, [], ◌∷◌, ◌++◌, length, take, drop, reverse, refl, ap, sym, ◌∙◌, arith, append_assoc, append-nil, length-append, length-drop, true≢false}
+use Rattle.std.specs.List.{AllByRecursion}
 use Rattle.std.proofs.lemmas.Bool.Decides.{nat_tests}
 use Rattle.std.proofs.lemmas.List.{length-reverse, reverse-append}
-use Rattle.std.proofs.lemmas.List.Folds.{length-prefix_len}
 use Rattle.tocmark_read_scan.specs.Basic.{plus, bytes_between}
 use Rattle.tocmark_read_scan.proofs.PlainPieces.{piece_between}
 use Rattle.tocmark_read_scan.proofs.PlainTests.{eq_of}
-use Rattle.tocmark_read_lines.specs.Cells.{cells_at, cell_place, run_of, ink_from, first_cursor, is_blank_at, indent_of}
-use Rattle.tocmark_read_lines.specs.Lines.{ends_here, line, lines_from, lines_of}
+use Rattle.tocmark_read_lines.specs.Cells.{cells_at, cell_place, ink_from, first_cursor, is_blank_at}
+use Rattle.tocmark_read_lines.specs.Lines.{line, lines_from, lines_of}
 use Rattle.tocmark_read_lines.specs.Html.{html_ends}
 use Rattle.tocmark_read_lines.specs.declared.html.HtmlKind.{HtmlKind}
 use Rattle.tocmark_read_lines.specs.Marks.{closes_fence}
@@ -20,7 +18,7 @@ use Rattle.tocmark_read_lines.specs.declared.line.Line.{Line}
 use Rattle.tocmark_read_lines.proofs.Columns.{length_kept, plain_cells, place_kept}
 use Rattle.tocmark_read_page.specs.Pieces.{piece_of, is_split, code_piece, keeps_line}
 use Rattle.tocmark_read_page.specs.declared.leaf.Leaf.TheVariants as leaf
-use Rattle.tocmark_commonmark.specs.Lines.{Part, line_ink, is_blank_byte, is_blank, tab_width, indent, spelled, without_columns, without_column, without_blank, cells}
+use Rattle.tocmark_commonmark.specs.Lines.{Part, line_ink, is_blank, tab_width, indent, spelled, without_columns, cells}
 use Rattle.tocmark_commonmark.specs.Leaves.{code_line, closes}
 use Rattle.tocmark_commonmark.specs.Beginnings.{begins_with}
 use Rattle.tocmark_block_laws.specs.Leaves.{IsPlain, ends_with_feed}

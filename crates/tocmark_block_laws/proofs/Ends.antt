@@ -1,40 +1,20 @@
 -- What is read of lines, after the blocks so far.
-use Rattle.std.proofs.Common.{◌≡◌, ℕ, zero, suc, ◌+◌, ◌^◌, ◌<◌, ◌≤◌, Bool, true, false, ◌==◌, if◌then◌else◌, nat_lt, List, [], ◌∷◌, ◌++◌, length, map, drop, refl, ap, sym, subst, ◌∙◌, arith, append-nil, length-append, true≢false}
-use Rattle.std.specs.Prelude.{Option, Some, None}
+use Rattle.std.proofs.Common.{◌≡◌, ℕ, zero, suc, ◌+◌, ◌^◌, ◌<◌, ◌≤◌, List, [], ◌∷◌, ◌++◌, length, map, refl, ap, sym, subst, ◌∙◌}
 use Rattle.std.specs.List.{AllByRecursion, fold}
-use Rattle.std.proofs.lemmas.Bool.Decides.{nat_tests}
-use Rattle.std.proofs.lemmas.List.{length-map, map-append}
-use Rattle.tocmark_event.specs.declared.event.HeadingLevel.{HeadingLevel}
-use Rattle.tocmark_read_scan.specs.Basic.{byte_at}
-use Rattle.tocmark_read_lines.specs.Cells.{cell_place}
-use Rattle.tocmark_read_lines.specs.Lines.{lines_of}
-use Rattle.tocmark_read_lines.specs.Marks.{tail_of}
-use Rattle.tocmark_read_lines.specs.declared.beginnings.Heading.{Heading as HeadingMark}
-use Rattle.tocmark_read_lines.specs.declared.cell.Cell.{Cell}
 use Rattle.tocmark_read_lines.specs.declared.line.Line.{Line}
 use Rattle.tocmark_read_page.specs.Definitions.{DefinitionView}
 use Rattle.tocmark_read_page.specs.Pages.{State, closed_to}
-use Rattle.tocmark_read_page.specs.Pieces.{heading_piece}
 use Rattle.tocmark_read_page.specs.declared.page.Block.{Block as ReadBlock}
-use Rattle.tocmark_read_page.specs.declared.page.BlockKind.TheVariants as kind
 use Rattle.tocmark_read_page.specs.declared.piece.Piece.{Piece}
-use Rattle.tocmark_read_constructs.specs.Metadata.{known_of}
-use Rattle.tocmark_read_blocks.specs.Blocks.{line_taken, page_in, blocks_in, started}
-use Rattle.tocmark_read_blocks.specs.declared.leaf.LeafStart.{LeafStart}
-use Rattle.tocmark_read_blocks.specs.declared.leaf.LeafStart.TheVariants as start
-use Rattle.tocmark_commonmark.specs.Lines.{Line as DeclaredLine, without_last_blanks, line_bytes, line_ink, cells, lines_of as declared_lines}
-use Rattle.tocmark_commonmark.specs.Tree.{Blocks, none, more, Rule, Heading, Paragraph, Found, ended, unended, tree, defined, defined_in, Taken}
-use Rattle.tocmark_commonmark.specs.Beginnings.{Beginning, BlankLine, CodeLine, QuoteLine, HeadingLine, FenceLine, HtmlLine, RuleLine, ItemLine, TextLine, LazyLine, beginning, interrupts, begins_with, heading_text}
-use Rattle.tocmark_commonmark.specs.Leaves.{definitions, text_of, underline, underlined, Turn, GoesOn, Stops, Underlines, turn_of, turn, turned, paragraph_lines, paragraph_with, paragraph_of}
-use Rattle.tocmark_commonmark.specs.Blocks.{first_block, and_rest, blocks_from, size, blocks, blocks_of}
-use Rattle.tocmark_block_laws.specs.Trees.{told, told_before, line_text, leaf_text, tree_of, placed_in}
-use Rattle.tocmark_block_laws.specs.Leaves.{IsPlain, ends_with_feed, is_leaf, IsLeafLine, LeavesAreDeclared}
-use Rattle.tocmark_block_laws.proofs.TextLines.{declared, lines_same, Sound, lines_sound, lines_few}
-use Rattle.tocmark_block_laws.proofs.Marks.{heading_later}
-use Rattle.tocmark_block_laws.proofs.Texts.{between_none}
-use Rattle.tocmark_block_laws.proofs.Starts.{start_as, is_blank_kind, may_underline, HeadingFacts, Facts, leaf_facts}
-use Rattle.tocmark_block_laws.proofs.Pages.{here, closed, paragraph_page, rule_block, ended_block, piece_in, closed_begins, open_begins, nothing_ends, blank_passes, rule_comes, text_begins, text_goes_on, paragraph_ends, paragraph_shuts, closes_first, same_start, underline_comes, piece_if, has_words, words, heading_comes}
-use Rattle.tocmark_block_laws.proofs.Told.{also, also_none, also_more, Holds, holds_none, holds_more, holds_read, paragraph_told, heading_told}
+use Rattle.tocmark_read_blocks.specs.Blocks.{line_taken}
+use Rattle.tocmark_commonmark.specs.Lines.{Line as DeclaredLine}
+use Rattle.tocmark_commonmark.specs.Tree.{Blocks, none, more, Found, tree, defined, defined_in, Taken}
+use Rattle.tocmark_commonmark.specs.Blocks.{and_rest, blocks_from}
+use Rattle.tocmark_block_laws.specs.Trees.{told, told_before, tree_of, placed_in}
+use Rattle.tocmark_block_laws.proofs.TextLines.{declared}
+use Rattle.tocmark_block_laws.proofs.Starts.{Facts}
+use Rattle.tocmark_block_laws.proofs.Pages.{closed, nothing_ends}
+use Rattle.tocmark_block_laws.proofs.Told.{also, also_none, also_more, Holds, holds_read}
 
 -- a page at the end
 abbrev pub final : List ℕ → State → List Line → State

@@ -1,43 +1,19 @@
 -- The front of a line without tabs, and parts of it.
-use Rattle.std.proofs.Common.{◌≡◌, ◌⊎◌, inl, inr, ℕ, zero, suc, ◌+◌, ◌-◌, ◌^◌, ◌<◌, ◌≤◌, Bool, true, false, not, ◌==◌, ◌&&◌, ◌||◌, cond, if◌then◌else◌, nat_lt, nat_le, List, [], ◌∷◌, ◌++◌, length, take, drop, reverse, refl, ap, sym, subst, ◌∙◌, arith, length-drop, length-take, true≢false}
-use Rattle.std.specs.Prelude.{take_while, unwrap_or, Option, Some, None, is_some}
-use Rattle.std.specs.List.{fold, list_any, prefix_len}
-use Rattle.std.specs.Char.{is_ascii_digit}
-use Rattle.std.specs.Option.{option_map, option_and_then}
+use Rattle.std.proofs.Common.{◌≡◌, ℕ, zero, suc, ◌+◌, ◌-◌, ◌^◌, ◌<◌, ◌≤◌, Bool, true, false, ◌==◌, ◌&&◌, ◌||◌, cond, if◌then◌else◌, nat_le, List, [], ◌∷◌, ◌++◌, length, take, drop, refl, ap, sym, ◌∙◌, arith, length-drop, true≢false}
+use Rattle.std.specs.Prelude.{take_while}
+use Rattle.std.specs.List.{fold, prefix_len}
 use Rattle.std.proofs.lemmas.Bool.Decides.{nat_tests}
-use Rattle.std.proofs.lemmas.List.{drop-drop, drop-take, take-take, length-map, length-take-le, take-append-drop}
+use Rattle.std.proofs.lemmas.List.{drop-drop, drop-take, take-take, length-take-le, take-append-drop}
 use Rattle.std.proofs.lemmas.List.Folds.{length-prefix_len}
-use Rattle.tocmark_event.specs.declared.event.HeadingLevel.{HeadingLevel}
 use Rattle.tocmark_read_scan.specs.Basic.{plus, byte_at, bytes_between}
-use Rattle.tocmark_read_scan.specs.declared.syntax.TheConstants.{CORE}
-use Rattle.tocmark_read_scan.proofs.PlainTests.{both_false, eq_of, one_of_four}
-use Rattle.tocmark_read_lines.specs.Cells.{bytes_of, cells_at, cells_of, cell_byte, cell_place, run_of, trailing, first_cursor}
-use Rattle.tocmark_read_lines.specs.Containers.{container_at, container_in, item_at, item_from}
-use Rattle.tocmark_read_lines.specs.DefinitionLists.{definition_start}
-use Rattle.tocmark_read_lines.specs.Notes.{note_start}
-use Rattle.tocmark_read_lines.specs.Html.{html_kind}
-use Rattle.tocmark_read_lines.specs.Marks.{level_of, is_behind, heading_at, is_fence_byte, fence_at, tail_of, is_rule_byte, is_rule, is_underline_byte, underline_at, digit_count, bullet_at, ordered_at, marker_at}
-use Rattle.tocmark_read_lines.specs.declared.beginnings.Heading.{Heading}
-use Rattle.tocmark_read_lines.specs.declared.beginnings.Fence.{Fence}
-use Rattle.tocmark_read_lines.specs.declared.beginnings.Marker.{Marker}
-use Rattle.tocmark_read_lines.specs.declared.html.HtmlKind.{HtmlKind}
-use Rattle.tocmark_read_lines.specs.declared.cell.Cell.{Cell}
+use Rattle.tocmark_read_lines.specs.Cells.{bytes_of, cells_at, run_of, first_cursor}
 use Rattle.tocmark_read_lines.specs.declared.cell.Cursor.{Cursor}
-use Rattle.tocmark_read_lines.specs.declared.container.ItemStart.{ItemStart}
-use Rattle.tocmark_read_lines.specs.declared.container.ContainerStart.TheVariants as begins
-use Rattle.tocmark_read_lines.specs.declared.line.Line.{Line}
-use Rattle.tocmark_read_lines.proofs.Columns.{bytes_kept, length_kept, plain_cells, byte_asked, run_asked, digits_asked, trailing_asked}
-use Rattle.tocmark_read_blocks.specs.Leaves.{leaf_at, mark_at, html_at, interrupting, underline_in, rule_at}
-use Rattle.tocmark_read_blocks.specs.declared.leaf.LeafStart.{LeafStart}
-use Rattle.tocmark_read_blocks.specs.declared.leaf.LeafStart.TheVariants as start
-use Rattle.tocmark_commonmark.specs.Lines.{Part, is_blank_byte, is_blank, column_after, indent, line_ink, without_last_blanks, cells, document_line}
-use Rattle.tocmark_commonmark.specs.Beginnings.{Beginning, BlankLine, CodeLine, QuoteLine, HeadingLine, FenceLine, HtmlLine, RuleLine, ItemLine, TextLine, LazyLine, html_if, begins_with, first_of_these, near_beginning, beginning_of, beginning, heading_text}
-use Rattle.tocmark_commonmark.specs.Leaves.{underlined, underline}
-use Rattle.tocmark_block_laws.specs.Leaves.{IsPlain, is_leaf, IsLeafLine}
-use Rattle.tocmark_block_laws.proofs.Columns.{Behind, byte_on, between_on, le_on, front_low, plus_low, plus_zero}
-use Rattle.tocmark_block_laws.proofs.Marks.{heading_later, heading_on, fence_indented, fence_on, underline_on, marker_on, back_stops, rule_on}
-use Rattle.tocmark_block_laws.proofs.Texts.{front_same, between_is, between_length, Trimmed, heading_text_trimmed, place_there, place_here}
-use Rattle.tocmark_block_laws.proofs.TextLines.{Plain, plain_head, no_tab, declared, Sound, drop_plain, front_plain, between_plain}
+use Rattle.tocmark_read_lines.proofs.Columns.{bytes_kept, length_kept, plain_cells, run_asked}
+use Rattle.tocmark_commonmark.specs.Lines.{Part, is_blank_byte, is_blank, column_after, indent, cells}
+use Rattle.tocmark_block_laws.specs.Leaves.{IsPlain}
+use Rattle.tocmark_block_laws.proofs.Columns.{Behind, le_on, front_low, plus_zero}
+use Rattle.tocmark_block_laws.proofs.Texts.{front_same, between_is, between_length}
+use Rattle.tocmark_block_laws.proofs.TextLines.{Plain, plain_head, no_tab, drop_plain, front_plain}
 
 -- the spaces in front of bytes
 abbrev pub spaces_of : List ℕ → ℕ

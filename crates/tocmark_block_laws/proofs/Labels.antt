@@ -137,7 +137,7 @@ defines_none text t ts bracket clear = by (has_label_end text) refl
 
 -- parts of bytes without them
 
-clear_drop : (n : ℕ) (xs : List ℕ) → has_label_end xs ≡ false → has_label_end (drop n xs) ≡ false
+pub clear_drop : (n : ℕ) (xs : List ℕ) → has_label_end xs ≡ false → has_label_end (drop n xs) ≡ false
 clear_drop zero xs h = h
 clear_drop (suc n) [] h = refl
 clear_drop (suc n) (x ∷ xs) h = clear_drop n xs ((both_false ((x == 93) && begins_with 58 xs) (has_label_end xs) h).1)
@@ -164,9 +164,6 @@ clear_between text from to h = by (nat_le from to && nat_le to (length text))
     by : (k : Bool) → has_label_end (if k then take (to - from) (drop from text) else []) ≡ false
     by true = clear_take (to - from) (drop from text) (clear_drop from text h)
     by false = refl
-
-pub clear_rest : (n : ℕ) (xs : List ℕ) → has_label_end xs ≡ false → has_label_end (drop n xs) ≡ false
-clear_rest n xs h = clear_drop n xs h
 
 -- the reader looks for definitions in the same content
 

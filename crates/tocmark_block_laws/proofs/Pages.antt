@@ -1,10 +1,10 @@
 -- A page without open containers, and what a line makes of it.
-use Rattle.std.proofs.Common.{◌≡◌, ℕ, zero, suc, ◌+◌, ◌-◌, ◌^◌, ◌<◌, Bool, true, false, ◌==◌, nat_lt, nat_le, List, [], ◌∷◌, ◌++◌, length, take, slice_get, refl, ap, sym, ◌∙◌, arith, append_assoc, append-nil, length-append, true≢false, if◌then◌else◌, Option, Some, None}
+use Rattle.std.proofs.Common.{◌≡◌, ℕ, zero, suc, ◌+◌, ◌-◌, ◌^◌, ◌<◌, Bool, true, false, nat_lt, nat_le, List, [], ◌∷◌, ◌++◌, length, take, slice_get, refl, ap, sym, ◌∙◌, arith, append_assoc, append-nil, length-append, true≢false, if◌then◌else◌, Option, Some, None}
 use Rattle.std.proofs.Math.Seq.{take-length}
 use Rattle.std.specs.Prelude.{slice_set}
 use Rattle.std.proofs.lemmas.Bool.Decides.{nat_tests}
 use Rattle.tocmark_event.specs.declared.event.HeadingLevel.{HeadingLevel}
-use Rattle.tocmark_read_scan.specs.Basic.{plus, byte_at, bytes_between}
+use Rattle.tocmark_read_scan.specs.Basic.{plus, bytes_between}
 use Rattle.tocmark_read_scan.specs.Repeat.{repeated}
 use Rattle.tocmark_read_scan.specs.declared.syntax.TheConstants.{CORE}
 use Rattle.tocmark_read_scan.proofs.PlainContent.{get_behind}
@@ -450,15 +450,16 @@ pub takes_kept : (text : List ℕ) (cells : List Cell) (l : Line) (c at : ℕ) (
     ≡ html_ended (bytes_between text at l.end) (leaf_page lf k bs first (ps ++ piece_of 0 at l.end l.next ∷ []) (length (ps ++ piece_of 0 at l.end l.next ∷ [])) start l.end l.number)
 unfolding code_taken piece_taken
 takes_kept text cells l c at lf k bs first ps kept start end number h some keeps =
-    let s : State = leaf_page lf k bs first ps kept start end number in
-    ap (λ (q : Piece). html_ended (bytes_between text q.start q.end) (piece_taken q l (keeps_line cells c lf) s)) h
-    ∙ ap (λ x. html_ended (bytes_between text at l.end) (piece_taken (piece_of 0 at l.end l.next) l x s)) keeps
-    ∙ ap (html_ended (bytes_between text at l.end)) (ap (λ (x : Bool). with_piece x) some)
+    ap (λ (q : Piece). html_ended (bytes_between text q.start q.end) (piece_taken q l (keeps_line cells c lf) page)) h
+    ∙ ap (λ y. html_ended (bytes_between text at l.end) (piece_taken (piece_of 0 at l.end l.next) l y page)) keeps
+    ∙ ap (λ (y : Bool). html_ended (bytes_between text at l.end) (with_piece y)) some
   where
+    page : State
+    page = leaf_page lf k bs first ps kept start end number
+
     with_piece : Bool → State
-    with_piece x =
-        let s : State = leaf_page lf k bs first ps kept start end number in
-        let t : State = if x then record s { pieces = ps ++ piece_of 0 at l.end l.next ∷ [] } else s in
+    with_piece y =
+        let t : State = if y then record page { pieces = ps ++ piece_of 0 at l.end l.next ∷ [] } else page in
         record t { kept = length t.pieces; end = l.end; line = l.number }
 
 -- a line goes into code, and isn't kept yet

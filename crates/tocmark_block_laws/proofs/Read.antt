@@ -1,11 +1,11 @@
 -- Of a text without containers the reader finds the blocks that are declared.
-use Rattle.std.proofs.Common.{◌≡◌, ℕ, zero, suc, ◌+◌, ◌^◌, ◌<◌, ◌≤◌, Bool, true, false, not, ◌==◌, ◌||◌, if◌then◌else◌, min, nat_le, nat_lt, List, [], ◌∷◌, ◌++◌, length, map, drop, refl, ap, sym, subst, ◌∙◌, arith, append-nil, length-append, true≢false}
+use Rattle.std.proofs.Common.{◌≡◌, ℕ, zero, suc, ◌+◌, ◌^◌, ◌<◌, ◌≤◌, Bool, true, false, not, ◌||◌, if◌then◌else◌, min, nat_le, nat_lt, List, [], ◌∷◌, ◌++◌, length, map, drop, refl, ap, sym, subst, ◌∙◌, arith, append-nil, length-append, true≢false}
 use Rattle.std.specs.Prelude.{Option, Some, None}
 use Rattle.std.specs.List.{AllByRecursion, fold}
 use Rattle.std.proofs.lemmas.Bool.Decides.{nat_tests}
 use Rattle.std.proofs.lemmas.List.{length-map, map-append}
 use Rattle.tocmark_event.specs.declared.event.HeadingLevel.{HeadingLevel}
-use Rattle.tocmark_read_scan.specs.Basic.{plus, byte_at, bytes_between}
+use Rattle.tocmark_read_scan.specs.Basic.{plus, bytes_between}
 use Rattle.tocmark_read_lines.specs.Cells.{cell_place, first_cursor}
 use Rattle.tocmark_read_lines.specs.Lines.{lines_of}
 use Rattle.tocmark_read_lines.specs.Marks.{heading_at, fence_at, tail_of, is_rule, marker_at}
@@ -29,24 +29,24 @@ use Rattle.tocmark_read_blocks.specs.Blocks.{line_taken, page_in, blocks_in, sta
 use Rattle.tocmark_read_blocks.specs.declared.leaf.LeafStart.{LeafStart}
 use Rattle.tocmark_read_blocks.specs.declared.leaf.LeafStart.TheVariants as start
 use Rattle.tocmark_commonmark.specs.Lines.{Line as DeclaredLine, Part, is_blank, indent, ink, without_last_blanks, line_bytes, line_ink, cells, lines_of as declared_lines}
-use Rattle.tocmark_commonmark.specs.Tree.{Blocks, none, more, Rule, Heading, Paragraph, Found, ended, unended, tree, defined, defined_in, Taken}
+use Rattle.tocmark_commonmark.specs.Tree.{Blocks, none, more, Rule, Heading, Paragraph, Found, ended, unended}
 use Rattle.tocmark_commonmark.specs.Beginnings.{Beginning, BlankLine, CodeLine, QuoteLine, HeadingLine, FenceLine, HtmlLine, RuleLine, ItemLine, TextLine, LazyLine, first_of_these, html_if, beginning_of, beginning, interrupts, begins_with, heading_text}
-use Rattle.tocmark_commonmark.specs.Leaves.{indented_code, fenced_code, html_block, definitions, text_of, underline, underlined, Turn, GoesOn, Stops, Underlines, turn_of, turn, turned, paragraph_lines, paragraph_with, paragraph_of}
-use Rattle.tocmark_commonmark.specs.Blocks.{first_block, and_rest, blocks_from, size, blocks, blocks_of}
-use Rattle.tocmark_block_laws.specs.Trees.{told, told_before, line_text, leaf_text, tree_of, placed_in}
+use Rattle.tocmark_commonmark.specs.Leaves.{indented_code, fenced_code, html_block, definitions, text_of, underline, underlined, Turn, turn_of, turn, turned, paragraph_lines, paragraph_with, paragraph_of}
+use Rattle.tocmark_commonmark.specs.Blocks.{first_block, blocks_from, size, blocks, blocks_of}
+use Rattle.tocmark_block_laws.specs.Trees.{line_text, leaf_text}
 use Rattle.tocmark_block_laws.specs.Leaves.{IsPlain, ends_with_feed, is_leaf, has_label_end, IsLeafLine, LeavesAreDeclared}
 use Rattle.tocmark_block_laws.proofs.TextLines.{declared, lines_same, Sound, lines_sound, lines_few}
 use Rattle.tocmark_block_laws.proofs.Marks.{heading_later}
 use Rattle.tocmark_block_laws.proofs.Texts.{between_none}
-use Rattle.tocmark_block_laws.proofs.ReadHtml.{HtmlOpen, html_next, html_read}
+use Rattle.tocmark_block_laws.proofs.ReadHtml.{html_next, html_read}
 use Rattle.tocmark_block_laws.proofs.Starts.{html_start, start_as, is_blank_kind, may_underline, HeadingFacts, Facts, leaf_facts}
-use Rattle.tocmark_block_laws.proofs.Pages.{here, closed, paragraph_page, rule_block, ended_block, piece_in, closed_begins, open_begins, nothing_ends, blank_passes, rule_comes, text_begins, text_goes_on, paragraph_ends, paragraph_shuts, closes_first, same_start, underline_comes, piece_if, has_words, words, heading_comes, leaf_page, takes_kept, fence_comes, indented_comes, interrupts_first, html_comes}
+use Rattle.tocmark_block_laws.proofs.Pages.{here, closed, paragraph_page, rule_block, ended_block, piece_in, closed_begins, open_begins, blank_passes, rule_comes, text_begins, text_goes_on, paragraph_ends, paragraph_shuts, closes_first, same_start, underline_comes, piece_if, has_words, words, heading_comes, leaf_page, takes_kept, fence_comes, indented_comes, interrupts_first, html_comes}
 use Rattle.tocmark_block_laws.proofs.Ends.{final, Ends, ends_cons, ends_closed, no_blocks, Goal, from_there}
-use Rattle.tocmark_block_laws.proofs.ReadCodes.{all_append, says_at, same_column, fence_read, CodeOpen, code_read}
+use Rattle.tocmark_block_laws.proofs.ReadCodes.{all_append, says_at, same_column, fence_read, code_read}
 use Rattle.tocmark_block_laws.proofs.Labels.{AreClear, defines_none, reads_none}
 use Rattle.tocmark_block_laws.proofs.Codes.{Fed, Taken as LineTaken, lines_fed}
 use Rattle.tocmark_block_laws.proofs.Fronts.{part_of}
-use Rattle.tocmark_block_laws.proofs.Told.{also, also_none, also_more, Holds, holds_none, holds_more, holds_read, paragraph_told, heading_told}
+use Rattle.tocmark_block_laws.proofs.Told.{also, also_none, Holds, holds_none, holds_more, holds_read, paragraph_told, heading_told}
 
 -- paragraphs: what a line is to the one above it
 

@@ -1,46 +1,43 @@
 -- Of code the reader keeps the lines that are declared.
-use Rattle.std.proofs.Common.{◌≡◌, ℕ, zero, suc, ◌+◌, ◌-◌, ◌^◌, ◌<◌, ◌≤◌, Bool, true, false, not, ◌==◌, ◌&&◌, ◌||◌, cond, min, if◌then◌else◌, nat_lt, nat_le, List, [], ◌∷◌, ◌++◌, length, map, take, drop, reverse, refl, ap, sym, subst, ◌∙◌, arith, append_assoc, append-nil, length-append, true≢false}
+use Rattle.std.proofs.Common.{◌≡◌, ℕ, suc, ◌+◌, ◌-◌, ◌^◌, ◌<◌, ◌≤◌, Bool, true, false, not, ◌||◌, cond, min, if◌then◌else◌, nat_le, List, [], ◌∷◌, ◌++◌, length, map, take, drop, reverse, refl, ap, sym, subst, ◌∙◌, arith, append_assoc, append-nil, length-append}
 use Rattle.std.proofs.Math.Seq.{take-length}
-use Rattle.std.specs.Prelude.{take_while, Option, Some, None}
-use Rattle.std.specs.List.{AllByRecursion, fold, flat_map, prefix_len}
+use Rattle.std.specs.Prelude.{take_while, Some}
+use Rattle.std.specs.List.{AllByRecursion, fold}
 use Rattle.std.proofs.lemmas.Bool.Decides.{nat_tests}
-use Rattle.std.proofs.lemmas.List.{length-map, length-reverse, map-append, reverse-append}
+use Rattle.std.proofs.lemmas.List.{length-reverse, map-append, reverse-append}
 use Rattle.std.proofs.lemmas.List.Concat.{flat_map-append}
 use Rattle.std.proofs.lemmas.List.Sums.{take_while-cons}
-use Rattle.tocmark_event.specs.declared.event.HeadingLevel.{HeadingLevel}
 use Rattle.tocmark_read_scan.specs.Basic.{plus, bytes_between}
 use Rattle.tocmark_read_scan.proofs.PlainContent.{take_front}
 use Rattle.tocmark_read_scan.proofs.PlainPieces.{drop_behind}
-use Rattle.tocmark_read_scan.proofs.PlainTests.{both_false}
-use Rattle.tocmark_read_lines.specs.Cells.{cell_place, is_blank_at, indent_of}
+use Rattle.tocmark_read_lines.specs.Cells.{is_blank_at}
 use Rattle.tocmark_read_lines.specs.Marks.{tail_of}
 use Rattle.tocmark_read_lines.specs.declared.beginnings.Fence.{Fence}
 use Rattle.tocmark_read_lines.specs.declared.cell.Cell.{Cell}
 use Rattle.tocmark_read_lines.specs.declared.line.Line.{Line}
 use Rattle.tocmark_read_page.specs.Leaves.{is_paragraph}
 use Rattle.tocmark_read_page.specs.Pages.{State, closed_to}
-use Rattle.tocmark_read_page.specs.Pieces.{piece_of, code_piece, keeps_line}
+use Rattle.tocmark_read_page.specs.Pieces.{piece_of, keeps_line}
 use Rattle.tocmark_read_page.specs.declared.page.Block.{Block as ReadBlock}
-use Rattle.tocmark_read_page.specs.declared.page.BlockKind.{BlockKind}
 use Rattle.tocmark_read_page.specs.declared.page.BlockKind.TheVariants as kind
 use Rattle.tocmark_read_page.specs.declared.piece.Piece.{Piece}
 use Rattle.tocmark_read_page.specs.declared.leaf.Leaf.TheVariants as leaf
-use Rattle.tocmark_read_blocks.specs.Blocks.{line_taken, started, leaf_ended}
-use Rattle.tocmark_read_blocks.specs.Codes.{code_taken, html_ended}
+use Rattle.tocmark_read_blocks.specs.Blocks.{line_taken, started}
+use Rattle.tocmark_read_blocks.specs.Codes.{html_ended}
 use Rattle.tocmark_read_blocks.specs.Leaves.{leaf_turn}
 use Rattle.tocmark_read_blocks.specs.declared.leaf.Turn.TheVariants as turn
-use Rattle.tocmark_commonmark.specs.Lines.{Line as DeclaredLine, Part, is_blank, is_blank_line, indent, line_ink, with_feeds}
-use Rattle.tocmark_commonmark.specs.Tree.{Block, Blocks, none, more, IndentedCode, FencedCode, Found, ended}
-use Rattle.tocmark_commonmark.specs.Beginnings.{Beginning, BlankLine, beginning, beginning_of}
+use Rattle.tocmark_commonmark.specs.Lines.{Line as DeclaredLine, Part, is_blank, is_blank_line, indent, with_feeds}
+use Rattle.tocmark_commonmark.specs.Tree.{Block, Blocks, none, more, IndentedCode, FencedCode, ended}
+use Rattle.tocmark_commonmark.specs.Beginnings.{BlankLine, beginning, beginning_of}
 use Rattle.tocmark_commonmark.specs.Leaves.{is_code_line, without_blank_end, code_line, indented_code_of, indented_code, closes, info, fenced_code_of, fenced_code}
 use Rattle.tocmark_commonmark.specs.Blocks.{blocks_from}
 use Rattle.tocmark_block_laws.specs.Leaves.{ends_with_feed}
-use Rattle.tocmark_block_laws.specs.Trees.{whole_text, code_text, block_as}
+use Rattle.tocmark_block_laws.specs.Trees.{whole_text, code_text}
 use Rattle.tocmark_block_laws.proofs.TextLines.{declared}
 use Rattle.tocmark_block_laws.proofs.Codes.{Taken, CodeFacts}
 use Rattle.tocmark_block_laws.proofs.Fronts.{part_of, at_ink}
 use Rattle.tocmark_block_laws.proofs.Starts.{start_as, Facts}
-use Rattle.tocmark_block_laws.proofs.Pages.{here, block, closed, leaf_page, closed_begins, nothing_ends, blank_passes, passes_start, page_shuts, page_turns, code_passes, takes_kept, takes_blank, fence_ends}
+use Rattle.tocmark_block_laws.proofs.Pages.{here, block, closed, leaf_page, closed_begins, blank_passes, passes_start, page_shuts, page_turns, code_passes, takes_kept, takes_blank, fence_ends}
 use Rattle.tocmark_block_laws.proofs.Told.{also, Holds, holds_more, block_told}
 use Rattle.tocmark_block_laws.proofs.Ends.{final, Ends, ends_cons, Goal, from_there}
 

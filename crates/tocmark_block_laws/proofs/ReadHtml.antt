@@ -1,15 +1,12 @@
 -- Of HTML blocks the reader keeps the lines that are declared.
-use Rattle.std.proofs.Common.{◌≡◌, ℕ, zero, suc, ◌+◌, ◌-◌, ◌^◌, ◌<◌, ◌≤◌, Bool, true, false, not, ◌&&◌, min, if◌then◌else◌, List, [], ◌∷◌, ◌++◌, length, map, take, drop, refl, ap, sym, subst, ◌∙◌, arith, append_assoc, append-nil, length-append, true≢false}
+use Rattle.std.proofs.Common.{◌≡◌, ℕ, suc, ◌+◌, ◌-◌, ◌^◌, ◌<◌, ◌≤◌, Bool, true, false, not, ◌&&◌, min, if◌then◌else◌, List, [], ◌∷◌, ◌++◌, length, map, take, drop, refl, ap, sym, subst, ◌∙◌, arith, append_assoc, append-nil, length-append, true≢false}
 use Rattle.std.proofs.Math.Seq.{take-length}
-use Rattle.std.specs.Prelude.{take_while, Option, Some, None}
-use Rattle.std.specs.List.{AllByRecursion, fold}
-use Rattle.std.proofs.lemmas.List.{length-map}
+use Rattle.std.specs.Prelude.{take_while, Some}
+use Rattle.std.specs.List.{AllByRecursion}
 use Rattle.tocmark_read_scan.specs.Basic.{bytes_between}
 use Rattle.tocmark_read_scan.proofs.PlainContent.{take_front}
 use Rattle.tocmark_read_scan.proofs.PlainPieces.{drop_behind}
-use Rattle.tocmark_read_lines.specs.Cells.{is_blank_at}
 use Rattle.tocmark_read_lines.specs.Html.{html_ends}
-use Rattle.tocmark_read_lines.specs.Marks.{tail_of}
 use Rattle.tocmark_read_lines.specs.declared.html.HtmlKind.{HtmlKind}
 use Rattle.tocmark_read_lines.specs.declared.html.HtmlKind.TheVariants as html
 use Rattle.tocmark_read_lines.specs.declared.line.Line.{Line}
@@ -20,20 +17,20 @@ use Rattle.tocmark_read_page.specs.declared.page.Block.{Block as ReadBlock}
 use Rattle.tocmark_read_page.specs.declared.page.BlockKind.TheVariants as kind
 use Rattle.tocmark_read_page.specs.declared.piece.Piece.{Piece}
 use Rattle.tocmark_read_page.specs.declared.leaf.Leaf.TheVariants as leaf
-use Rattle.tocmark_read_blocks.specs.Blocks.{line_taken, started}
+use Rattle.tocmark_read_blocks.specs.Blocks.{line_taken}
 use Rattle.tocmark_read_blocks.specs.Codes.{code_taken, html_ended}
 use Rattle.tocmark_read_blocks.specs.Leaves.{goes_past_blank, leaf_turn}
 use Rattle.tocmark_read_blocks.specs.declared.leaf.Turn.TheVariants as turn
 use Rattle.tocmark_commonmark.specs.Lines.{Line as DeclaredLine, Written, Lazy, is_blank, is_blank_line, line_ink, line_spelled, with_feeds}
-use Rattle.tocmark_commonmark.specs.Tree.{Block, Blocks, none, more, Html, Found, ended}
+use Rattle.tocmark_commonmark.specs.Tree.{Blocks, none, more, Html, ended}
 use Rattle.tocmark_commonmark.specs.Leaves.{code_line, html_count, html_block_of, html_block}
 use Rattle.tocmark_commonmark.specs.Blocks.{blocks_from}
 use Rattle.tocmark_block_laws.specs.Leaves.{ends_with_feed}
 use Rattle.tocmark_block_laws.proofs.TextLines.{declared}
 use Rattle.tocmark_block_laws.proofs.Codes.{Taken, CodeFacts}
 use Rattle.tocmark_block_laws.proofs.Fronts.{at_ink}
-use Rattle.tocmark_block_laws.proofs.Starts.{start_as, Facts}
-use Rattle.tocmark_block_laws.proofs.Pages.{here, block, closed, leaf_page, page_finished, closed_begins, nothing_ends, passes_start, page_shuts, page_turns, html_passes, takes_kept}
+use Rattle.tocmark_block_laws.proofs.Starts.{Facts}
+use Rattle.tocmark_block_laws.proofs.Pages.{block, closed, leaf_page, page_finished, closed_begins, passes_start, page_shuts, page_turns, html_passes, takes_kept}
 use Rattle.tocmark_block_laws.proofs.Told.{also, Holds, holds_more, block_told}
 use Rattle.tocmark_block_laws.proofs.Ends.{final, Ends, ends_cons, Goal, from_there}
 use Rattle.tocmark_block_laws.proofs.ReadCodes.{all_append, Pass, while_whole, while_front, Says, says_append, says_at}

@@ -1,12 +1,11 @@
 -- What a line without tabs begins: the reader sees at its column what the declaration sees in its bytes.
-use Rattle.std.proofs.Common.{◌≡◌, ◌⊎◌, inl, inr, ℕ, zero, suc, ◌+◌, ◌-◌, ◌^◌, ◌<◌, ◌≤◌, Bool, true, false, not, ◌==◌, ◌&&◌, ◌||◌, cond, if◌then◌else◌, nat_lt, nat_le, List, [], ◌∷◌, ◌++◌, length, take, drop, reverse, refl, ap, sym, subst, ◌∙◌, arith, length-drop, length-take, true≢false}
+use Rattle.std.proofs.Common.{◌≡◌, ◌⊎◌, inl, inr, ℕ, suc, ◌+◌, ◌-◌, ◌^◌, ◌<◌, ◌≤◌, Bool, true, false, not, ◌==◌, ◌&&◌, ◌||◌, cond, if◌then◌else◌, nat_lt, nat_le, List, [], ◌∷◌, length, take, drop, reverse, refl, ap, sym, subst, ◌∙◌, arith, length-drop, true≢false}
 use Rattle.std.specs.Prelude.{take_while, unwrap_or, Option, Some, None, is_some}
-use Rattle.std.specs.List.{fold, list_any, prefix_len}
+use Rattle.std.specs.List.{prefix_len}
 use Rattle.std.specs.Char.{is_ascii_digit}
 use Rattle.std.specs.Option.{option_map, option_and_then}
 use Rattle.std.proofs.lemmas.Bool.Decides.{nat_tests}
-use Rattle.std.proofs.lemmas.List.{take_all, drop-drop, drop-take, take-take, length-map, length-take-le, take-append-drop}
-use Rattle.std.proofs.lemmas.List.Folds.{length-prefix_len}
+use Rattle.std.proofs.lemmas.List.{take_all, drop-drop, length-map}
 use Rattle.tocmark_event.specs.declared.event.HeadingLevel.{HeadingLevel}
 use Rattle.tocmark_read_scan.specs.Basic.{plus, byte_at, bytes_between}
 use Rattle.tocmark_read_scan.specs.declared.syntax.TheConstants.{CORE}
@@ -30,19 +29,19 @@ use Rattle.tocmark_read_lines.proofs.Columns.{bytes_kept, length_kept, plain_cel
 use Rattle.tocmark_read_blocks.specs.Leaves.{leaf_at, mark_at, html_at, interrupting, underline_in, rule_at}
 use Rattle.tocmark_read_blocks.specs.declared.leaf.LeafStart.{LeafStart}
 use Rattle.tocmark_read_blocks.specs.declared.leaf.LeafStart.TheVariants as start
-use Rattle.tocmark_commonmark.specs.Lines.{Part, is_blank_byte, is_blank, column_after, indent, line_ink, without_last_blanks, cells, document_line}
+use Rattle.tocmark_commonmark.specs.Lines.{Part, is_blank_byte, is_blank, indent, line_ink, without_last_blanks, cells, document_line}
 use Rattle.tocmark_commonmark.specs.Beginnings.{Beginning, BlankLine, CodeLine, QuoteLine, HeadingLine, FenceLine, HtmlLine, RuleLine, ItemLine, TextLine, LazyLine, html_if, begins_with, first_of_these, near_beginning, beginning_of, beginning, heading_text}
 use Rattle.tocmark_commonmark.specs.Leaves.{info, underlined, underline}
 use Rattle.tocmark_block_laws.specs.Leaves.{IsPlain, ends_with_feed, is_leaf, has_label_end, IsLeafLine}
 use Rattle.tocmark_read_blocks.specs.Codes.{info_of}
 use Rattle.tocmark_read_page.specs.declared.page.BlockKind.TheVariants as block_kind
-use Rattle.tocmark_block_laws.proofs.Columns.{length_on, ink_on, run_low, ink_low, Behind, byte_on, between_on, le_on, front_low, plus_low, plus_zero}
+use Rattle.tocmark_block_laws.proofs.Columns.{length_on, ink_on, run_low, ink_low, Behind, byte_on, between_on, plus_low}
 use Rattle.tocmark_block_laws.proofs.Marks.{trimmed_on, heading_later, heading_on, fence_indented, fence_on, underline_on, marker_on, back_stops, rule_on}
 use Rattle.tocmark_block_laws.proofs.Fronts.{spaces_of, part_of, at_ink, indent_same, spaces_low, blank_same, cursor_same, behind_at, between_further, ink_first, byte_first, between_in}
-use Rattle.tocmark_block_laws.proofs.Labels.{clear_between, clear_rest}
+use Rattle.tocmark_block_laws.proofs.Labels.{clear_between, clear_drop}
 use Rattle.tocmark_block_laws.proofs.Codes.{Fed, CodeFacts, code_facts}
-use Rattle.tocmark_block_laws.proofs.Texts.{blanks_same, trimmed_high, trimmed_text, front_same, between_is, between_length, Trimmed, heading_text_trimmed, place_there, place_here}
-use Rattle.tocmark_block_laws.proofs.TextLines.{Plain, plain_head, no_tab, declared, Sound, drop_plain, front_plain, between_plain}
+use Rattle.tocmark_block_laws.proofs.Texts.{blanks_same, trimmed_high, trimmed_text, between_is, between_length, Trimmed, heading_text_trimmed, place_there, place_here}
+use Rattle.tocmark_block_laws.proofs.TextLines.{no_tab, declared, Sound, drop_plain, between_plain}
 
 -- what a line begins, to the reader: in a paragraph or not, and with these columns in front
 
@@ -737,7 +736,7 @@ leaf_facts text l h fits sound leaf fed = by (is_blank xs) (nat_le 4 (indent (pa
     bracket e = sym (ap (λ k. k && begins_with 91 (line_ink (declared text l))) e) ∙ leaf.bracket
 
     clear : has_label_end text ≡ false → has_label_end (line_ink (declared text l)) ≡ false
-    clear e = clear_rest (spaces_of xs) xs (clear_between text l.start l.end e)
+    clear e = clear_drop (spaces_of xs) xs (clear_between text l.start l.end e)
 
     code : CodeFacts text l (cells_at l.start [] xs) (spaces_of xs)
     code = code_facts text l inner fits sound

@@ -1,25 +1,24 @@
 -- Texts within a line: the reader cuts them by columns, the declaration by bytes.
-use Rattle.std.proofs.Common.{◌≡◌, ℕ, zero, suc, ◌+◌, ◌-◌, ◌^◌, ◌<◌, ◌≤◌, Bool, true, false, not, ◌==◌, ◌&&◌, ◌||◌, cond, if◌then◌else◌, nat_lt, nat_le, List, [], ◌∷◌, ◌++◌, length, take, drop, reverse, refl, ap, sym, subst, ◌∙◌, arith, length-drop, length-take, true≢false}
+use Rattle.std.proofs.Common.{◌≡◌, ℕ, suc, ◌+◌, ◌-◌, ◌^◌, ◌<◌, ◌≤◌, Bool, true, false, not, ◌==◌, ◌&&◌, ◌||◌, cond, if◌then◌else◌, nat_lt, nat_le, List, [], ◌∷◌, ◌++◌, length, take, drop, reverse, refl, ap, sym, subst, ◌∙◌, arith, length-drop, length-take}
 use Rattle.std.specs.Prelude.{take_while, Option, Some, None}
 use Rattle.std.specs.List.{list_any, prefix_len}
 use Rattle.std.specs.Option.{option_map}
 use Rattle.std.proofs.lemmas.Bool.Decides.{nat_tests}
-use Rattle.std.proofs.lemmas.List.{drop-drop, take-take, length-take-le, take-append-drop, length-reverse, reverse-append, reverse-reverse}
+use Rattle.std.proofs.lemmas.List.{take-take, take-append-drop, length-reverse, reverse-append, reverse-reverse}
 use Rattle.std.proofs.lemmas.List.Folds.{length-prefix_len}
-use Rattle.std.proofs.lemmas.List.Sums.{prefix_len-le-length}
 use Rattle.tocmark_event.specs.declared.event.HeadingLevel.{HeadingLevel}
-use Rattle.tocmark_read_scan.specs.Basic.{plus, byte_at, bytes_between}
+use Rattle.tocmark_read_scan.specs.Basic.{plus, bytes_between}
 use Rattle.tocmark_read_scan.proofs.PlainPieces.{drop_behind}
 use Rattle.tocmark_read_scan.proofs.PlainTests.{both_false}
 use Rattle.tocmark_read_lines.specs.Cells.{bytes_of, cells_at, cell_byte, cell_place, run_of, ink_from, part, trailing, trimmed}
 use Rattle.tocmark_read_lines.specs.Marks.{level_of, is_behind, heading_end_before, heading_from, heading_at}
 use Rattle.tocmark_read_lines.specs.declared.beginnings.Heading.{Heading}
 use Rattle.tocmark_read_lines.specs.declared.cell.Cell.{Cell}
-use Rattle.tocmark_read_lines.proofs.Columns.{bytes_kept, length_kept, plain_cells, place_kept, run_asked, part_trailing}
+use Rattle.tocmark_read_lines.proofs.Columns.{plain_cells, place_kept, part_trailing}
 use Rattle.tocmark_commonmark.specs.Lines.{is_blank_byte, without_first_blanks, without_last_blanks, cells}
 use Rattle.tocmark_block_laws.specs.Leaves.{is_special, IsPlain}
-use Rattle.tocmark_block_laws.proofs.Columns.{front_low, run_low, plus_low, plus_zero, ink_low}
-use Rattle.tocmark_block_laws.proofs.TextLines.{Plain, plain_head, no_tab, drop_plain, front_plain, between_plain}
+use Rattle.tocmark_block_laws.proofs.Columns.{front_low, run_low, plus_low, ink_low}
+use Rattle.tocmark_block_laws.proofs.TextLines.{Plain, plain_head, no_tab, between_plain}
 
 -- spaces are all the blanks of such a text
 

@@ -1,21 +1,16 @@
 -- The blocks of a page without containers, as the declaration has them.
-use Rattle.std.proofs.Common.{◌≡◌, ℕ, suc, false, ◌==◌, nat_lt, List, [], ◌∷◌, ◌++◌, length, map, take, drop, refl, ap, sym, ◌∙◌, arith, append_assoc, append-nil}
+use Rattle.std.proofs.Common.{◌≡◌, ℕ, false, nat_lt, List, [], ◌∷◌, ◌++◌, length, map, take, drop, refl, ap, sym, ◌∙◌, append_assoc, append-nil}
 use Rattle.std.specs.Prelude.{take_while, Option, Some, None}
 use Rattle.std.specs.List.{AllByRecursion}
 use Rattle.tocmark_event.specs.declared.event.HeadingLevel.{HeadingLevel}
 use Rattle.tocmark_read_scan.proofs.PlainContent.{take_front}
 use Rattle.tocmark_read_scan.proofs.PlainPieces.{drop_behind}
-use Rattle.tocmark_read_scan.proofs.Repeats.{repeated_stop}
-use Rattle.tocmark_read_tokens.specs.Word.{label, defined_label, definition_at}
-use Rattle.tocmark_read_page.specs.Definitions.{define_once}
 use Rattle.tocmark_read_page.specs.declared.page.Block.{Block as ReadBlock}
 use Rattle.tocmark_read_page.specs.declared.page.BlockKind.{BlockKind}
 use Rattle.tocmark_read_page.specs.declared.page.BlockKind.TheVariants as kind
 use Rattle.tocmark_read_page.specs.declared.piece.Piece.{Piece}
 use Rattle.tocmark_commonmark.specs.Tree.{Block, Blocks, none, more, Heading, Paragraph}
-use Rattle.tocmark_commonmark.specs.Lines.{with_feeds}
-use Rattle.tocmark_commonmark.specs.Beginnings.{begins_with}
-use Rattle.tocmark_commonmark.specs.Leaves.{counted, definitions_in, definitions, text_of}
+use Rattle.tocmark_commonmark.specs.Leaves.{text_of}
 use Rattle.tocmark_block_laws.specs.Trees.{line_text, leaf_text, block_as, Placed, more_if, tree_of, pieces_of, put, placed_in}
 
 -- blocks before others
