@@ -110,7 +110,8 @@ fn begin(rt: &HostRuntime, path: &str, text: &str) -> Result<(), Fault> {
         Err(error) if error.kind() == io::ErrorKind::AlreadyExists => {
             let said = fs::read_to_string(rt, path);
             let text = match &said {
-                Ok(said) => said.as_str().trim_end(),
+                Ok(said) if said.as_str().ends_with('\n') => said.as_str().trim_end(),
+                Ok(_) => "nothing was changed yet",
                 Err(_) => "it cannot be read",
             };
             let text = String::from_str(rt.alloc(), text)?;
