@@ -3,7 +3,7 @@
 ghost use Rattle.std.specs.Prelude.{◌≡◌, if◌then◌else◌, ◌++◌, drop, map, IfOk, IfSome, IfNone, OnOk, string_bytes, Some, None};
 ghost use Rattle.std.specs.Option.{option_map};
 ghost use Rattle.std.specs.List.{fold};
-ghost use Rattle.tocmark_links.specs.Paths.{parts_of, followed, joined, is_up, is_here, gone, begins_at_root, climbed, common, is_next, resolved, place, between, relative, IsPlace};
+ghost use Rattle.tocmark_links.specs.Paths.{parts_of, followed, joined, is_up, is_here, gone, begins_at_root, climbed, common, is_next, resolved, place, or_here, between, relative, IsPlace};
 
 use std::alloc::{AllocError, Global};
 
@@ -173,6 +173,17 @@ fn climb<'p>(path: &mut Vec<&'p str>, parts: &[&'p str]) -> Result<(), AllocErro
     Ok(())
 }
 
+/// No parts become the part that leads nowhere else.
+fn or_here<'p>(parts: &mut Vec<&'p str>) -> Result<(), AllocError>
+    ensures { OnOk result (map (λ p. p.now) parts.new.items
+        ≡ or_here (map (λ p. p.now) parts.old.items)) }
+{
+    if parts.is_empty() {
+        parts.push(".")?;
+    }
+    Ok(())
+}
+
 /// The parts that lead from one place to another.
 fn between<'p>(alloc: Global, from: &[&'p str], to: &[&'p str]) -> Result<Vec<&'p str>, AllocError>
     ensures { IfOk result (λ parts. map (λ p. p.now) parts.items
@@ -182,9 +193,7 @@ fn between<'p>(alloc: Global, from: &[&'p str], to: &[&'p str]) -> Result<Vec<&'
     let mut parts = Vec::new(alloc);
     climb(&mut parts, rest(from, shared))?;
     parts.extend_from_slice(rest(to, shared))?;
-    if parts.is_empty() {
-        parts.push(".")?;
-    }
+    or_here(&mut parts)?;
     Ok(parts)
 }
 
