@@ -1,10 +1,10 @@
 -- Parts of paths: what stands between slashes, and how loops over parts go on.
-use Rattle.std.proofs.Common.{◌≡◌, refl, sym, true≢false, ◌∙◌, ap, ℕ, suc, ◌<◌, ◌+◌, ◌≢◌, ◌==◌, Bool, true, false, List, [], ◌∷◌, ◌++◌, length, get_or, map, drop, arith, Option, None, Some, rules, if◌then◌else◌, append_assoc, drop-drop, Bor}
+use Rattle.std.proofs.Common.{◌≡◌, refl, sym, true≢false, ◌∙◌, ap, ℕ, suc, ◌<◌, ◌+◌, ◌≢◌, ◌==◌, Bool, true, false, List, [], ◌∷◌, ◌++◌, length, get_or, map, drop, arith, Option, None, Some, rules, if◌then◌else◌, append_assoc, drop-drop, codes, Bor}
 use Rattle.std.specs.List.{fold}
 use Rattle.std.specs.Str.{bytes_eq}
 use Rattle.std.proofs.lemmas.List.{map-append, drop_more, drop-map}
 use Rattle.std.specs.Option.{option_map}
-use Rattle.tocmark_links.specs.Paths.{parts_of, begun, gone, is_next, common, joined, led, begins_at_root, resolved}
+use Rattle.tocmark_links.specs.Paths.{parts_of, begun, gone, is_next, common, climbed, or_here, between, joined, led, begins_at_root, resolved}
 
 -- out of the root leads nowhere back
 pub gone-none : (parts : List (List ℕ)) → fold gone None parts ≡ None
@@ -94,3 +94,34 @@ pub next-at : (part : List ℕ) (rest other : List (Bor (List ℕ))) (count i : 
 next-at part rest other count i found e r s =
     ap (is_next part) (drop-map (λ p. p.now) i other)
     ∙ sym (e ∙ ap (λ ps. is_next part (map (λ p. p.now) ps)) (r ∙ ap (λ n. drop n other) s))
+
+-- one more part of the way up
+pub climb-more : (done new : List (Bor (List ℕ))) (up : Bor (List ℕ)) (parts : List (Bor (List ℕ))) (i : ℕ) (whole : List (List ℕ)) → i < length parts → new ≡ done ++ (up ∷ []) → up.now ≡ codes ".." → map (λ p. p.now) done ++ climbed (map (λ p. p.now) (drop i parts)) ≡ whole → map (λ p. p.now) new ++ climbed (map (λ p. p.now) (drop (i + 1) parts)) ≡ whole
+climb-more done new up parts i whole within e u h =
+    let left : List (List ℕ) = climbed (map (λ p. p.now) (drop (i + 1) parts)) in
+    ap (λ ps. map (λ p. p.now) ps ++ left) e
+    ∙ ap (λ ps. ps ++ left) (map-append (λ p. p.now) done (up ∷ []))
+    ∙ append_assoc (map (λ p. p.now) done) (up.now ∷ []) left
+    ∙ ap (λ part. map (λ p. p.now) done ++ (part ∷ left)) u
+    ∙ ap (λ ps. map (λ p. p.now) done ++ climbed (map (λ p. p.now) ps)) (sym (drop_more parts i up within))
+    ∙ h
+
+-- the way between two places, step by step
+pub between-is : (new whole way done up down from to : List (Bor (List ℕ))) (shared : ℕ) → map (λ p. p.now) new ≡ or_here (map (λ p. p.now) whole) → whole ≡ way ++ down → map (λ p. p.now) way ≡ map (λ p. p.now) done ++ climbed (map (λ p. p.now) up) → done ≡ [] → up ≡ drop shared from → down ≡ drop shared to → shared ≡ common (map (λ p. p.now) from) (map (λ p. p.now) to) → map (λ p. p.now) new ≡ between (map (λ p. p.now) from) (map (λ p. p.now) to)
+between-is new whole way done up down from to shared n w c d u t s =
+    let rise : map (λ p. p.now) way ≡ climbed (drop shared (map (λ p. p.now) from)) =
+    c
+    ∙ ap (λ ps. map (λ p. p.now) ps ++ climbed (map (λ p. p.now) up)) d
+    ∙ ap (λ ps. climbed (map (λ p. p.now) ps)) u
+    ∙ ap climbed (sym (drop-map (λ p. p.now) shared from)) in
+    let fall : map (λ p. p.now) down ≡ drop shared (map (λ p. p.now) to) =
+    ap (λ ps. map (λ p. p.now) ps) t ∙ sym (drop-map (λ p. p.now) shared to) in
+    n
+    ∙ ap (λ ps. or_here (map (λ p. p.now) ps)) w
+    ∙ ap or_here
+    (
+    map-append (λ p. p.now) way down
+    ∙ ap (λ ps. ps ++ map (λ p. p.now) down) rise
+    ∙ ap (λ ps. climbed (drop shared (map (λ p. p.now) from)) ++ ps) fall
+    ∙ ap (λ k. climbed (drop k (map (λ p. p.now) from)) ++ drop k (map (λ p. p.now) to)) s
+    )
