@@ -1,13 +1,12 @@
 -- A relative path leads back to the place that it was made for.
-use Rattle.std.proofs.Common.{◌≡◌, refl, sym, ◌∙◌, ap, subst, ℕ, zero, suc, ◌<◌, ◌≤◌, ◌+◌, ◌-◌, ◌==◌, Bool, true, false, List, [], ◌∷◌, ◌++◌, length, map, take, drop, arith, Option, None, Some, unwrap_or, codes, if◌then◌else◌, append_assoc, append-nil, true≢false, take_all, take-take, length-drop}
+use Rattle.std.proofs.Common.{◌≡◌, refl, sym, ◌∙◌, ap, subst, ℕ, zero, suc, ◌<◌, ◌≤◌, ◌+◌, ◌-◌, ◌==◌, Bool, true, false, List, [], ◌∷◌, ◌++◌, length, take, drop, arith, Option, None, Some, unwrap_or, codes, if◌then◌else◌, append_assoc, append-nil, true≢false, take_all, take-take, length-drop}
 use Rattle.std.specs.List.{fold}
 use Rattle.std.specs.Option.{option_map}
-use Rattle.std.specs.Str.{bytes_eq}
 use Rattle.std.proofs.lemmas.List.{take-append-drop, length-take-le}
 use Rattle.std.proofs.lemmas.List.Sums.{fold-append}
 use Rattle.std.proofs.lemmas.Slice.Eq.{bytes_eq-Decides}
 use Rattle.tocmark_links.specs.Paths.{parts_of, begun, followed, joined, is_up, is_here, above, gone, begins_at_root, led, start_of, resolved, place, is_next, common, climbed, or_here, between, relative, IsPlace}
-use Rattle.tocmark_links.proofs.Parts.{Lacks, gone-none, parts-slash, parts-whole}
+use Rattle.tocmark_links.proofs.Parts.{Lacks, gone-none, parts-whole}
 
 -- ---- what parts of a path are
 

@@ -1,10 +1,10 @@
 -- Parts of paths: what stands between slashes, and how loops over parts go on.
-use Rattle.std.proofs.Common.{◌≡◌, refl, sym, true≢false, ◌∙◌, ap, ℕ, suc, ◌<◌, ◌+◌, ◌≢◌, ◌==◌, Bool, true, false, List, [], ◌∷◌, ◌++◌, length, get_or, map, drop, arith, Option, None, Some, rules, if◌then◌else◌, append_assoc, drop-drop, codes, Bor}
+use Rattle.std.proofs.Common.{◌≡◌, refl, sym, true≢false, ◌∙◌, ap, ℕ, suc, ◌<◌, ◌+◌, ◌≢◌, ◌==◌, Bool, true, false, List, [], ◌∷◌, ◌++◌, length, get_or, map, drop, arith, Option, None, Some, if◌then◌else◌, append_assoc, drop-drop, codes, Bor}
 use Rattle.std.specs.List.{fold}
 use Rattle.std.specs.Str.{bytes_eq}
 use Rattle.std.proofs.lemmas.List.{map-append, drop_more, drop-map}
 use Rattle.std.specs.Option.{option_map}
-use Rattle.tocmark_links.specs.Paths.{parts_of, begun, gone, is_next, common, climbed, or_here, between, joined, led, begins_at_root, resolved}
+use Rattle.tocmark_links.specs.Paths.{parts_of, gone, is_next, common, climbed, or_here, between, joined, led, begins_at_root, resolved}
 
 -- out of the root leads nowhere back
 pub gone-none : (parts : List (List ℕ)) → fold gone None parts ≡ None

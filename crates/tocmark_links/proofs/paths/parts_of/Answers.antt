@@ -1,4 +1,4 @@
-use Rattle.std.proofs.Common.{rules, arith, ◌++◌, ◌∷◌, [], Some, None}
+use Rattle.std.proofs.Common.{rules, arith, Some, None}
 use Rattle.std.proofs.lemmas.Str.Pattern.{split_parts}
 use Rattle.tocmark_links.proofs.Parts.{parts-step, parts-end, lacks}
 use Rattle.tocmark_links.proofs.paths.parts_of.Goals as goal

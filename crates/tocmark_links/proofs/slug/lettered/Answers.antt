@@ -1,8 +1,7 @@
-use Rattle.std.proofs.Common.{◌∙◌, ap, refl, ◌++◌, chars, encode_utf8_all, string_bytes, rules}
-use Rattle.std.specs.List.{flat_map}
+use Rattle.std.proofs.Common.{◌∙◌, ap, refl, rules}
 use Rattle.std.specs.Str.Iter.{chars_rest}
 use Rattle.std.proofs.lemmas.Str.{IsUtf8-past_char}
-use Rattle.tocmark_links.specs.Slug.{letters_of, lettered}
+use Rattle.tocmark_links.specs.Slug.{letters_of}
 use Rattle.tocmark_links.proofs.Letters.{more, none}
 use Rattle.tocmark_links.proofs.slug.lettered.Goals as goal
 
