@@ -415,6 +415,33 @@ fn escaped(alloc: Global, words: &str) -> Result<String, AllocError> {
     Ok(text)
 }
 
+/// Leaves the headings that one of this level doesn't stand under.
+fn leave(levels: &mut Vec<usize>, level: usize) {
+    for _ in 0..levels.len() {
+        if levels.last().copied().unwrap_or(0) < level {
+            return;
+        }
+        levels.pop();
+    }
+}
+
+/// Adds a heading to a list, under so many others.
+fn list_heading(
+    alloc: Global,
+    list: &mut String,
+    heading: &Anchor,
+    depth: usize,
+) -> Result<(), AllocError> {
+    for _ in 0..depth {
+        list.push_str("  ")?;
+    }
+    let words = escaped(alloc, heading.words.as_str())?;
+    let name = heading.name.as_str();
+    let destination = spelled(alloc, format!(in alloc; "#{name}")?.as_str(), false)?;
+    list.push_str(format!(in alloc; "- [{words}]({destination})\n")?.as_str())?;
+    Ok(())
+}
+
 /// A list of headings, each under the one before it that has fewer `#`.
 fn contents(alloc: Global, page: &Page, after: usize) -> Result<String, AllocError> {
     let mut list = String::new(alloc);
@@ -425,20 +452,9 @@ fn contents(alloc: Global, page: &Page, after: usize) -> Result<String, AllocErr
             None => false,
         };
         if is_listed {
-            while let Some(level) = levels.pop() {
-                if level < anchor.level {
-                    levels.push(level)?;
-                    break;
-                }
-            }
-            for _ in &levels {
-                list.push_str("  ")?;
-            }
+            leave(&mut levels, anchor.level);
+            list_heading(alloc, &mut list, anchor, levels.len())?;
             levels.push(anchor.level)?;
-            let words = escaped(alloc, anchor.words.as_str())?;
-            let destination = format!(in alloc; "#{}", anchor.name)?;
-            let destination = spelled(alloc, destination.as_str(), false)?;
-            list.push_str(format!(in alloc; "- [{words}]({destination})\n")?.as_str())?;
         }
     }
     Ok(list)

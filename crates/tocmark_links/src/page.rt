@@ -432,8 +432,8 @@ impl<'t> Collecting<'t> {
         }
     }
 
-    fn events(&mut self, part: &Reading) -> Result<(), AllocError> {
-        for (event, range) in &part.events {
+    fn events(&mut self, found: &Reading) -> Result<(), AllocError> {
+        for (event, range) in &found.events {
             self.event(event, *range)?;
         }
         Ok(())
@@ -519,10 +519,9 @@ impl Page {
         slugs: Slugs,
     ) -> Result<Page, AllocError> {
         let mut collecting = Collecting::new(alloc, text, slugs);
-        let (mut blocks, definitions) = READER.blocks_and_definitions(alloc, text, flags)?;
-        while let Some(part) = blocks.next_events()? {
-            collecting.events(&part)?;
-        }
+        let (blocks, definitions) = READER.blocks_and_definitions(alloc, text, flags)?;
+        let found = blocks.rest()?;
+        collecting.events(&found)?;
         collecting.add_definitions(&definitions)?;
         let Collecting {
             links,
