@@ -1,7 +1,7 @@
 -- What new destinations leave of a page's events.
 use Rattle.std.specs.Prelude.{ℕ, List, [], map, ◌≡◌}
 use Rattle.tocmark_event.specs.Merged.{merged}
-use Rattle.tocmark_event.specs.View.{EventView, TagView, Start, End, Leaf, Link, Image, Html, InlineHtml}
+use Rattle.tocmark_event.specs.View.{EventView, TagView, Start, Leaf, Link, Image, Html, InlineHtml}
 use Rattle.tocmark_event.specs.declared.event.flags.ParserOptions.{ParserOptions}
 use Rattle.tocmark_compare.specs.Given.{found_events}
 use Rattle.tocmark_read_scan.specs.declared.syntax.Names.TheVariants.{All}
