@@ -28,6 +28,18 @@ fn kind_of(led: &Led) -> Option<Kind> {
     }
 }
 
+/// What is said of a link of this file that leads nowhere, with the destination that is near.
+fn broken<'n>(kind: Kind, file: &'n str, link: &'n Link, near: Option<&'n str>) -> Note<'n> {
+    Note {
+        kind,
+        file,
+        line: link.line,
+        column: link.column,
+        old: link.destination.as_str(),
+        new: near,
+    }
+}
+
 /// Whether a path in the tree is one of these, or in one of them. Of no paths, each is.
 fn is_asked(path: &str, asked: &[String]) -> bool {
     for folder in asked {
@@ -75,17 +87,8 @@ impl Site {
         };
         let near = self.nearest(alloc, path, &led)?;
         let shown = self.root.shown(alloc, path)?;
-        report.add(
-            alloc,
-            Note {
-                kind,
-                file: shown.as_str(),
-                line: link.line,
-                column: link.column,
-                old: link.destination.as_str(),
-                new: near.as_deref(),
-            },
-        )?;
+        let note = broken(kind, shown.as_str(), link, near.as_deref());
+        report.add(alloc, note)?;
         Ok(true)
     }
 

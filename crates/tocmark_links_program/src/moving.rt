@@ -26,12 +26,11 @@ fn moved_last(alloc: Global, edits: Vec<Edit>, old: &str) -> Result<Vec<Edit>, A
     let mut first = Vec::new(alloc);
     let mut last = Vec::new(alloc);
     for edit in edits {
-        let list = if within(edit.path.as_str(), old).is_some() {
-            &mut last
+        if within(edit.path.as_str(), old).is_some() {
+            last.push(edit)?;
         } else {
-            &mut first
-        };
-        list.push(edit)?;
+            first.push(edit)?;
+        }
     }
     for edit in last {
         first.push(edit)?;

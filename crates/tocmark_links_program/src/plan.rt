@@ -103,18 +103,24 @@ fn write_mark(rt: &HostRuntime, path: &str, text: &str) -> io::Result<()> {
     done
 }
 
+/// What the file of an earlier call says. Its line has an end once the call may change files.
+fn said_by(text: &str) -> &str {
+    if text.ends_with('\n') {
+        text.trim_end()
+    } else {
+        "nothing was changed yet"
+    }
+}
+
 /// Says what is being done in a file of the root, which has this path. It fails if that is there.
 fn begin(rt: &HostRuntime, path: &str, text: &str) -> Result<(), Fault> {
     match write_mark(rt, path, text) {
         Ok(()) => Ok(()),
         Err(error) if error.kind() == io::ErrorKind::AlreadyExists => {
-            let said = fs::read_to_string(rt, path);
-            let text = match &said {
-                Ok(said) if said.as_str().ends_with('\n') => said.as_str().trim_end(),
-                Ok(_) => "nothing was changed yet",
-                Err(_) => "it cannot be read",
+            let text = match fs::read_to_string(rt, path) {
+                Ok(said) => String::from_str(rt.alloc(), said_by(said.as_str()))?,
+                Err(_error) => String::from_str(rt.alloc(), "it cannot be read")?,
             };
-            let text = String::from_str(rt.alloc(), text)?;
             Err(Fault::Running(in_quotes(rt.alloc(), path)?, text))
         }
         Err(error) => {

@@ -132,17 +132,9 @@ impl Walk {
             is_folder: found.is_dir(),
         };
         let is_left_out = self.leaves_out(rt.alloc(), folder.level, rules_entry)?;
-        if !found.is_dir() {
-            let is_page = found.is_file() && is_markdown(name) && !is_left_out;
-            let list = if is_page {
-                &mut self.files.pages
-            } else {
-                &mut self.files.others
-            };
-            list.push(path)?;
-            return Ok(());
-        }
-        if is_left_out || is_passed_by(name) {
+        if found.is_file() && is_markdown(name) && !is_left_out {
+            self.files.pages.push(path)?;
+        } else if !found.is_dir() || is_left_out || is_passed_by(name) {
             self.files.others.push(path)?;
         } else {
             self.todo.push(Folder {
