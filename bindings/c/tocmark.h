@@ -376,14 +376,14 @@ static inline ptrdiff_t tocmark_rewrite_(const uint8_t *json, size_t json_len, c
 
 static inline ptrdiff_t tocmark_format_(const uint8_t *text, size_t text_len, uint32_t flags,
                                         const struct tocmark_style *style, uint8_t *out, size_t out_len) {
-  static const struct tocmark_style plain = {sizeof plain, 0, 0, 0, 0, 0, 0, 0, 0, 0, 0, 0, 0};
+  static const struct tocmark_style plain = {sizeof plain, 0, 0, 0, 0, 0, 0, 0, 0, 0, 0, 0, 0, 0};
   return tocmark_format(tocmark_text_(text), text_len, flags, style ? style : &plain, tocmark_room_(out), out_len);
 }
 
 static inline ptrdiff_t tocmark_format_also_(const uint8_t *text, size_t text_len, uint32_t flags, const uint32_t *also,
                                              size_t also_len, const struct tocmark_style *style, uint8_t *out,
                                              size_t out_len) {
-  static const struct tocmark_style plain = {sizeof plain, 0, 0, 0, 0, 0, 0, 0, 0, 0, 0, 0, 0};
+  static const struct tocmark_style plain = {sizeof plain, 0, 0, 0, 0, 0, 0, 0, 0, 0, 0, 0, 0, 0};
   static const uint32_t none = 0; /* never read, since its length is 0 */
   return tocmark_format_also(tocmark_text_(text), text_len, flags, also ? also : &none, also_len, style ? style : &plain,
                              tocmark_room_(out), out_len);
