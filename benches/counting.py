@@ -1,4 +1,5 @@
 """What the benches share: a program is proved and built, run, and its instructions counted by valgrind."""
+import json
 import os
 import re
 import subprocess
@@ -7,7 +8,6 @@ import tempfile
 
 TOP = os.path.dirname(os.path.dirname(os.path.abspath(__file__)))
 NAME = f"benches/{os.path.basename(sys.argv[0])}"
-MEMCHECK = ["valgrind", "--tool=memcheck", "--leak-check=no", "--undef-value-errors=no"]
 CACHEGRIND = ["valgrind", "--tool=cachegrind", "--cache-sim=no", "--cachegrind-out-file=/dev/null"]
 CALLGRIND = ["valgrind", "--tool=callgrind", "--callgrind-out-file=/dev/null"]
 # What a whole reading is made by; and its parts, if the compiler made it a part of its callers. No part calls another one.
@@ -24,7 +24,8 @@ def built(crate):
     folder = f"{TOP}/crates/{crate}"
     program = f"{folder}/out/{crate}"
     words = []
-    if os.path.exists(f"{folder}/args"):
+    # A program with files of its own is run without its arguments, which name them.
+    if os.path.exists(f"{folder}/args") and not os.path.exists(f"{folder}/data"):
         with open(f"{folder}/args", encoding="utf-8") as file:
             words = file.read().split()
     command = ["rt", "run", "--", *words]
@@ -43,31 +44,38 @@ def run(words, text=""):
 
 
 def counted(words, text=""):
-    """The first line that a command wrote, and the number of instructions that it took."""
+    """What a command wrote, and the number of instructions that it took."""
     ran = run([*CACHEGRIND, *words], text)
     instructions = re.search(rb"I\s+refs:\s+([\d,]+)", ran.stderr)
-    return ran.stdout.split(b"\n")[0].decode(), int(instructions[1].replace(b",", b""))
+    return ran.stdout.decode(), int(instructions[1].replace(b",", b""))
 
 
-def counted_in_readings(words, text=""):
-    """The number of instructions that a command took in readings of the core reader."""
+def said_and_counted_in_readings(words, text=""):
+    """What a command wrote, and the number of instructions that it took in readings."""
     for names in WHOLE, PARTS:
         ran = run([*CALLGRIND, *(f"--toggle-collect={name}" for name in names), *words], text)
         count = int(re.search(rb"Collected : (\d+)", ran.stderr)[1])
         if count:
-            return count
+            return ran.stdout.decode(), count
     sys.exit(f"{NAME}: nothing is counted in {' and '.join(WHOLE + PARTS)}")
 
 
-def allocated(words, text=""):
-    """How often a command asked for memory; where a list grows, that is once for each time."""
-    ran = run([*MEMCHECK, *words], text)
-    return int(re.search(rb"total heap usage: ([\d,]+) allocs", ran.stderr)[1].replace(b",", b""))
+def counted_in_readings(words, text=""):
+    """The number of instructions that a command took in readings."""
+    return said_and_counted_in_readings(words, text)[1]
+
+
+def reading(program, text, flags=None):
+    """The number of events of a text, and the instructions of its reading. The program is `test_script`; with flags, as
+    hexadecimal digits, it reads their extensions."""
+    how = "" if flags is None else f"Reader extended\nFlags {flags}\n"
+    said, count = said_and_counted_in_readings([program], f"{how}CountRead {json.dumps(text, ensure_ascii=False)}\n")
+    return int(said.split()[0]), count
 
 
 def ended(words, file=None):
     """The status of a command, what it wrote on standard error, its seconds of processor time, and the bytes that it took
-    at most. A process begins with the memory of the one that starts it, so a small one stands between."""
+    at most. A process begins with the memory of the one that starts it, so a small one is between."""
     watch = (
         "import os, sys; p = os.spawnv(os.P_NOWAIT, sys.argv[2], sys.argv[2:]); _, s, u = os.wait4(p, 0);"
         "open(sys.argv[1], 'w').write(f'{os.waitstatus_to_exitcode(s)} {u.ru_utime + u.ru_stime} {u.ru_maxrss}')"

@@ -1,4 +1,4 @@
-"""Markdown that is meant to make a reader slow: each input is a name, a size and a text of that size. Beside it stand two
+"""Markdown that is meant to make a reader slow: each input is a name, a size and a text of that size. Beside it are two
 large texts as people write them."""
 import glob
 import json
@@ -54,7 +54,7 @@ def lines_in_quotes(size):
 
 
 def fading_quotes(size):
-    """Lines that stand in ever fewer quotes and go on with the innermost paragraph."""
+    """Lines that are in ever fewer quotes and go on with the innermost paragraph."""
     depth = int(size**0.5)
     return "".join("> " * at + "a\n" for at in range(depth, 0, -1))
 
@@ -243,7 +243,7 @@ INLINES = [
 
 
 def guides():
-    """The toolchain's guides one after the other, as whole files in the order of their names, from the first again behind
+    """The toolchain's guides one after the other, as whole files in the order of their names, from the first again after
     the last, up to 3 MB; nothing where the toolchain isn't there."""
     command = shutil.which("rt")
     kit = os.path.dirname(os.path.dirname(os.path.realpath(command))) if command else ""
@@ -272,9 +272,8 @@ def marked_paragraphs():
 
 def standard_examples():
     """The examples of the CommonMark standard one after the other with an empty line between, two hundred times."""
-    with open(f"{TOP}/crates/test_texts/stdin", encoding="utf-8") as file:
-        lines = file.read().split("\n%\n")[0].split("\n")
-    examples = [json.loads(line) for line in lines if line.startswith('"')]
+    with open(f"{TOP}/tools/texts/commonmark.txt", encoding="utf-8") as file:
+        examples = [json.loads(line) for line in file if line.startswith('"')]
     return "".join(f"{text}\n" for text in examples) * 200
 
 

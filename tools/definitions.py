@@ -37,7 +37,7 @@ def modules_below(folder, ending):
 
 
 class Source:
-    """The crates of a repository, where each definition and each type of theirs stands, and which crates hold examples."""
+    """The crates of a repository, where each definition and each type of theirs is, and which crates hold examples."""
 
     def __init__(self, repository, examples):
         self.examples = examples
@@ -69,7 +69,7 @@ def flags_of(name, text):
 
 
 def item_text(text, start):
-    """The type that begins here, up to its `;` or its closing bracket, without what stands before it."""
+    """The type that begins here, up to its `;` or its closing bracket, without what is before it."""
     depth = 0
     code = re.sub(r'//[^\n]*', lambda m: ' ' * len(m.group(0)), text)
     for at in range(start, len(code)):

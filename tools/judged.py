@@ -1,7 +1,7 @@
 """Judges whether a filter of tools/filters.py changed a page as it should, and nothing else. tools/recipes uses it.
 
 For each filter, a function lists the parts of the source that the edit may change: start, end, and the new bytes or a test of
-them. All bytes between these parts have to stay. A new block may stand in the white space between its neighbours, with a blank
+them. All bytes between these parts have to stay. A new block may be in the white space between its neighbours, with a blank
 line more on each side. The new page also has to mean the right thing to cmark-gfm: its XML is that of the source, with the same
 edit made in the XML.
 """

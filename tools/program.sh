@@ -43,7 +43,7 @@ fail() {
   exit 1
 }
 
-# rt answers Ctrl-C by a status of its own, behind which a script would go on.
+# rt answers Ctrl-C by a status of its own, after which a script would go on.
 trap 'say interrupted; trap - INT; kill -INT $$' INT
 
 ask_for_rt() {
@@ -51,7 +51,7 @@ ask_for_rt() {
     fail "rt isn't on PATH. Install the Rattle toolchain (README.md says which one), or install a release, which needs none"
 }
 
-# Sets crates: the named crate and those that it stands on, lowest first, as they stand in crates.txt.
+# Sets crates: the named crate and those that it uses, lowest first, as they are in crates.txt.
 find_crates() {
   local lines at crate needed=" $name "
   mapfile -t lines <"$top/crates.txt"

@@ -590,14 +590,14 @@ static void errors(void) {
   expect(writes("[[\"Rule\", {\"start\": 2, \"end\": 9}]]", "---", 0, ""), TOCMARK_INVALID_SOURCE_RANGE, "a range");
   expect(writes("[[\"Rule\", {\"start\": 2, \"end\": 9}]]", "", 0, ""), 3, "a range of no source");
   expect(writes("[]", "", 0, ""), 0, "no events");
-  /* A reference to a footnote, beside emphasis, with the definition behind it. */
+  /* A reference to a footnote, beside emphasis, with the definition after it. */
   static const char reference[] = "[{\"Start\": \"Paragraph\"}, {\"Start\": \"Emphasis\"}, {\"Text\": \"a\"},"
                                   " {\"End\": \"Emphasis\"}, {\"FootnoteReference\": \"1\"}, {\"End\": \"Paragraph\"},"
                                   " {\"Start\": {\"FootnoteDefinition\": \"1\"}}, {\"Start\": \"Paragraph\"},"
                                   " {\"Text\": \"b\"}, {\"End\": \"Paragraph\"}, {\"End\": \"FootnoteDefinition\"}]";
   expect(writes(reference, "", TOCMARK_GFM, ""), 16, "a reference to a footnote");
   expect(checks(reference), 16, "a reference to a footnote that is read again");
-  /* A list behind an empty definition of a footnote falls into it. */
+  /* A list after an empty definition of a footnote falls into it. */
   static const char note[] = "[{\"Start\": {\"FootnoteDefinition\": \"1\"}}, {\"End\": \"FootnoteDefinition\"},"
                              " {\"Start\": {\"List\": null}}, {\"Start\": \"Item\"}, {\"Text\": \"a\"},"
                              " {\"End\": \"Item\"}, {\"End\": {\"List\": false}}]";

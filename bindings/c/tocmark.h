@@ -140,7 +140,7 @@ ptrdiff_t tocmark_write_checked_at(const uint8_t *json, size_t json_len, const u
                                    uint32_t flags, const uint8_t *options, size_t options_len,
                                    struct tocmark_place *where, uint8_t *out, size_t out_len);
 
-/* Packed events: bytes that take less time than JSON. The events stand one behind the other, each behind its range.
+/* Packed events: bytes that take less time than JSON. The events are one after the other, each after its range.
  *
  *   number      8 bytes, the lowest first
  *   text        its length in bytes, a number, and its bytes, UTF-8

@@ -21,7 +21,7 @@ def position(end, text, offset):
 
 def main(name, texts):
     with open(texts, encoding="utf-8") as file:
-        lines = [json.loads(line) for line in file if line.startswith('"')][:652]
+        lines = [json.loads(line) for line in file if line.startswith('"')]
     wrong = 0
     for at, text in enumerate(lines):
         syntax = "all" if at % 2 else "commonmark"

@@ -137,7 +137,7 @@ def _parsed(text: str) -> List[Found]:
 
 
 def _loaded(data: Any) -> List[Found]:
-    """Returns the events of bytes for `marshal.loads`, which may have others behind them. `tocmark.h` has their form."""
+    """Returns the events of bytes for `marshal.loads`, which may have others after them. `tocmark.h` has their form."""
     _, events, starts, ends = marshal.loads(data)
     return list(zip(events, map(range, starts, ends)))
 

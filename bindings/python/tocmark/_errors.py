@@ -33,7 +33,7 @@ class InvalidOptions(Error, ValueError):
 
 
 class UnexpectedEvent(Error, ValueError):
-    """An End has no matching Start, a container is open at the end, or an event can't stand where it does."""
+    """An End has no matching Start, a container is open at the end, or an event isn't allowed where it is."""
 
 
 class Unrepresentable(Error, ValueError):

@@ -15,7 +15,7 @@ class Link(NamedTuple):
     """A link or an image, with its `range` in bytes of UTF-8.
 
     `text` is what the link says, or the description of the image. `kind` is its form: "Inline", "Reference", "Collapsed",
-    "Shortcut", "Autolink" or "Email", "WikiLink", or one of these with "Unknown" behind it. `label` is that of its definition, or
+    "Shortcut", "Autolink" or "Email", "WikiLink", or one of these with "Unknown" after it. `label` is that of its definition, or
     "" if it needs none.
     """
 

@@ -86,7 +86,7 @@ class Node:
 
     @property
     def value(self) -> Any:
-        """What stands below the name, such as the dictionary of a link or the text of a text; `None` if there is nothing."""
+        """What is below the name, such as the dictionary of a link or the text of a text; `None` if there is nothing."""
         return None if isinstance(self._content, str) else next(iter(self._content.values()))
 
     @property
@@ -101,12 +101,12 @@ class Node:
 
     @property
     def end_line(self) -> Optional[int]:
-        """The line of the place behind it, if the source is known."""
+        """The line of the place after it, if the source is known."""
         return self._position("stop")[0]
 
     @property
     def end_column(self) -> Optional[int]:
-        """The column of the place behind it, if the source is known."""
+        """The column of the place after it, if the source is known."""
         return self._position("stop")[1]
 
     def _position(self, end: str) -> Tuple[Optional[int], Optional[int]]:
@@ -159,7 +159,7 @@ def tree(events: Iterable[Given], source: Optional[str] = None) -> List[Node]:
     >>> tocmark.rewrite(source, heading.events() + paragraph.events())
     '# a\\n\\ncd\\n'
 
-    Raises `UnexpectedEvent` if a Start or an End stands alone.
+    Raises `UnexpectedEvent` if a Start or an End is alone.
     """
     top: List[Node] = []
     open_nodes: List[Tuple[Node, int]] = []

@@ -9,7 +9,7 @@ use std::fmt;
 pub enum Error {
     /// The writer refused the text.
     FormatFailed(fmt::Error),
-    /// An End has no matching Start, a container is open at the end, or an event can't stand where it does.
+    /// An End has no matching Start, a container is open at the end, or an event isn't allowed where it is.
     UnexpectedEvent,
     /// No spelling of a block parses back to its events.
     Unrepresentable,

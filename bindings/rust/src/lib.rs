@@ -200,7 +200,7 @@ where
 
 /// Writes events under options.
 ///
-/// It fails if an option is invalid, if an event can't stand where it does, if no spelling of a block parses back, if memory runs
+/// It fails if an option is invalid, if an event isn't allowed where it is, if no spelling of a block parses back, if memory runs
 /// out, or if the writer refuses the text.
 pub fn cmark_with_options<'a, I, E, F>(
     events: I,

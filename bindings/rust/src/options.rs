@@ -80,7 +80,7 @@ pub struct Options<'a> {
     pub code_block_token: char,
     /// The marker of a bullet list: `*`, `-` or `+`.
     pub list_token: char,
-    /// What stands behind the number of an ordered list: `.` or `)`.
+    /// What is after the number of an ordered list: `.` or `)`.
     pub ordered_list_token: char,
     /// Whether the numbers of an ordered list go up, or all are the first one.
     pub increment_ordered_list_bullets: bool,

@@ -94,7 +94,7 @@ impl State {
         taken
     }
 
-    /// Keeps the events. The sources of all calls stand one after the other, so that ranges move on.
+    /// Keeps the events. The sources of all calls are one after the other, so that ranges move on.
     fn take<'a, I, E>(&mut self, events_and_ranges: I, source: &str) -> Result<Progress, Error>
     where
         I: IntoIterator<Item = (E, Option<Range<usize>>)>,
@@ -173,7 +173,7 @@ impl State {
     }
 }
 
-/// A range of a source that stands behind so many bytes. An empty source is none, and its ranges are dropped.
+/// A range of a source that is after so many bytes. An empty source is none, and its ranges are dropped.
 fn moved(
     range: Option<Range<usize>>,
     source: &str,

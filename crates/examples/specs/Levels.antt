@@ -22,7 +22,7 @@ abbrev pub with_heading : Before → EventView → Before
 with_heading before (Start (Heading level id classes attrs)) = (level, level_behind before level) ∷ before
 with_heading before e = before
 
--- an event with the level that its heading gets; its end is behind the heading itself, which has no fewer `#`
+-- an event with the level that its heading gets; its end is after the heading itself, which has no fewer `#`
 abbrev pub mended_event : Before → EventView → EventView
 mended_event before (Start (Heading level id classes attrs)) = Start (Heading (level_behind before level) id classes attrs)
 mended_event before (End (end.Heading level)) = End (end.Heading (level_behind before level))

@@ -3,7 +3,7 @@
 //!
 //! A heading follows the last one before it that has fewer `#`, and gets one `#` more than that one gets; if there is
 //! none it stays. Each heading that is moved is reported on standard error, with the line and column, from 1, at which
-//! it stands in the input.
+//! it is in the input.
 //!
 //! Proved of `mend_text`, for every reader: the reader finds in the answer what it finds in the input with each heading
 //! at that level, and nothing else (`same`); `parts` and `kept` are as in `rewritten_slice`.
@@ -62,7 +62,7 @@ impl Levels {
         }
     }
 
-    /// Has a heading stand before what follows: those with more `#` get the level below the one that it gets.
+    /// Has a heading are before what follows: those with more `#` get the level below the one that it gets.
     fn note(&mut self, level: HeadingLevel)
         ensures { (before : Before) → self.old.all ≡ levels_behind before
             → self.new.all ≡ levels_behind ((level, level_behind before level) ∷ before) }

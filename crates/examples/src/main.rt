@@ -2,8 +2,8 @@
 //!
 //! The first argument names an example, which then reads standard input: `https-links`, `heading-levels`, `preprocessor`
 //! or `headings`. The second argument goes to the example. With `all` in place of a name, standard input has sections. A
-//! line `== NAME` or `== NAME WORD` begins one; between two sections stands an empty line. The answer to each section
-//! stands below the same line.
+//! line `== NAME` or `== NAME WORD` begins one; between two sections is an empty line. The answer to each section
+//! is below the same line.
 //!
 //! The status is 0 if all is well, 1 if `heading-levels` moved a heading, and 2 if there is no answer.
 #![tactic(auto)]

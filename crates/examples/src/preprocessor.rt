@@ -1,6 +1,6 @@
 //! A preprocessor of mdBook: moves each heading of each chapter one level down; all else stays byte for byte.
 //!
-//! The JSON `[context, book]` is read, and the book is written. Chapters stand below the key `Chapter` in the lists below
+//! The JSON `[context, book]` is read, and the book is written. Chapters are below the key `Chapter` in the lists below
 //! `items` or `sections` of the book and `sub_items` of a chapter, with their Markdown below `content`. All else is handed
 //! on, with the keys of an object in the order of their bytes. mdBook asks by the word `supports` whether the preprocessor
 //! is for a renderer: it reads nothing then, and the status 0 says so. Proved of `lowered`, for every reader: it finds in a

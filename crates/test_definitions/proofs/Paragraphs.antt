@@ -20,11 +20,11 @@ use Rattle.tocmark_spelling.specs.Closing.{closing}
 use Rattle.tocmark_spelling.specs.Stretch.{leaf_on}
 use Rattle.tocmark_spelling.specs.Spelling.{is_misplaced, spelling}
 use Rattle.tocmark_write_labels.specs.Definitions.{definitions_text}
-use Rattle.tocmark_render.specs.Candidates.{candidates}
-use Rattle.tocmark_render.specs.ReadsBack.{reads_back}
+use Rattle.tocmark_choose.specs.Candidates.{candidates}
+use Rattle.tocmark_choose.specs.ReadsBack.{reads_back}
 use Rattle.tocmark_write_pending.specs.Placeholder.{needs_placeholder}
 use Rattle.tocmark_write_labels.specs.Reserved.{reserved_label}
-use Rattle.tocmark_render.specs.Choice.{spelled, first_that_reads_back, document_after, choice}
+use Rattle.tocmark_choose.specs.Choice.{spelled, first_that_reads_back, document_after, choice}
 use Rattle.test_definitions.specs.Tried.{AreTried}
 use Rattle.test_definitions.specs.Paragraphs.{first_units, second_units, third_units}
 

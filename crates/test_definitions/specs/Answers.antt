@@ -8,7 +8,7 @@ use Rattle.tocmark_write_labels.specs.Definitions.{definitions_text}
 use Rattle.tocmark_write_labels.specs.Document.{DocumentView}
 use Rattle.tocmark_write_labels.specs.Ending.{holds_raw_block}
 use Rattle.tocmark_write_pending.specs.Units.{waits}
-use Rattle.tocmark_render.specs.Chosen.{chosen}
+use Rattle.tocmark_choose.specs.Chosen.{chosen}
 use Rattle.tocmark_state.specs.Ranges.{Pair}
 use Rattle.tocmark_state.specs.Walk.{Done, done, Kept, Rendering, Standing, walk, ended, script, nothing_yet}
 use Rattle.tocmark_state.specs.WorkView.{rendering_behind}
@@ -79,7 +79,7 @@ pub record CallsBehind : Type 0 where
   pub defined : List Reference
   pub calls : Calls
 
--- how units are written behind these definitions in a setting
+-- how units are written after these definitions in a setting
 abbrev pub written_behind : List Reference → Setting → Rendering
 written_behind defined s = rendering_behind defined s.options s.reading
 

@@ -60,7 +60,7 @@ inner_list = record {
   written = wrote ((codes "* a\n  * b") ∷ []);
 }
 
--- a list right behind the marker of an item changes its token
+-- a list right after the marker of an item changes its token
 abbrev pub list_behind_marker : Row
 list_behind_marker = record {
   setting = setting default_options 0 [];
@@ -98,7 +98,7 @@ quote_then_paragraph = record {
   written = wrote ((codes "\n > \n > a") ∷ (codes "\n\nb") ∷ []);
 }
 
--- a blank line stands between the items of a loose list
+-- a blank line is between the items of a loose list
 abbrev pub loose_list : Row
 loose_list = record {
   setting = setting default_options 0 [];
@@ -110,7 +110,7 @@ loose_list = record {
   written = wrote ((codes "* a\n\n* b") ∷ []);
 }
 
--- a quote right behind the marker of an item
+-- a quote right after the marker of an item
 abbrev pub quote_in_item : Row
 quote_in_item = record {
   setting = setting default_options 0 [];
@@ -120,7 +120,7 @@ quote_in_item = record {
   written = wrote ((codes "* > a") ∷ []);
 }
 
--- a thematic break right behind a hyphen
+-- a thematic break right after a hyphen
 abbrev pub rule_in_hyphen_list : Row
 rule_in_hyphen_list = record {
   setting = setting (record default_options { list_token = 45 }) 0 [];

@@ -16,7 +16,7 @@ checking = record default_options { check_plain_blocks = true }
 abbrev pub paragraph : List ℕ → Trees
 paragraph t = node Paragraph (text t empty) empty
 
--- a reader that reads nothing back, though no delimiter stands in the unit
+-- a reader that reads nothing back, though no delimiter is in the unit
 abbrev pub read_as_nothing : Row
 read_as_nothing = record {
   setting = setting checking 0 [];

@@ -181,7 +181,7 @@ emphasis_alone = record {
   written = wrote ((codes "*a*") ∷ []);
 }
 
--- behind a letter past ASCII the asterisk is taken
+-- after a letter past ASCII the asterisk is taken
 abbrev pub emphasis_behind_letter : Row
 emphasis_behind_letter = record {
   setting = setting
@@ -255,7 +255,7 @@ emphasis_in_strong = record {
   written = wrote ((codes "**_a_**") ∷ []);
 }
 
--- no spelling closes emphasis behind a space
+-- no spelling closes emphasis after a space
 abbrev pub space_before_closing : Row
 space_before_closing = record {
   setting = setting default_options 0

@@ -303,7 +303,7 @@ html_first_of_two_the_first_decides = record {
   written = wrote ((codes "<pre>\n") ∷ (codes "\na") ∷ []);
 }
 
--- html whose end stands before its beginning
+-- html whose end is before its beginning
 abbrev pub html_whose_end_stands_before_its_beginning : Row
 html_whose_end_stands_before_its_beginning = record {
   setting = setting default_options 0 [];

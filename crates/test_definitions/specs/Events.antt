@@ -190,7 +190,7 @@ ranges_beside_characters_of_two_three_and_four_bytes = record {
   answers = record { handed = ([]) ∷ ((encode_utf8_all (codes "é—😀")) ∷ []) ∷ []; error = None };
 }
 
--- a bad range behind a whole unit
+-- a bad range after a whole unit
 abbrev pub a_bad_range_behind_a_whole_unit : Calls
 a_bad_range_behind_a_whole_unit = record {
   setting = setting default_options 0 ([]);
@@ -200,7 +200,7 @@ a_bad_range_behind_a_whole_unit = record {
   answers = record { handed = ([]) ∷ ([]) ∷ []; error = Some InvalidSourceRange };
 }
 
--- a bad range behind a bad End
+-- a bad range after a bad End
 abbrev pub a_bad_range_behind_a_bad_end : Calls
 a_bad_range_behind_a_bad_end = record {
   setting = setting default_options 0 ([]);
@@ -433,7 +433,7 @@ a_code_block_before_the_last_unit_and_definitions = record {
   };
 }
 
--- a unit that can’t be represented behind another one
+-- a unit that can’t be represented after another one
 abbrev pub a_unit_that_can_t_be_represented_behind_another_one : Calls
 a_unit_that_can_t_be_represented_behind_another_one = record {
   setting = setting default_options 0 ([]);
@@ -445,7 +445,7 @@ a_unit_that_can_t_be_represented_behind_another_one = record {
   answers = record { handed = ([]) ∷ ((codes "a") ∷ []) ∷ ([]) ∷ []; error = Some Unrepresentable };
 }
 
--- an item in no list behind a paragraph
+-- an item in no list after a paragraph
 abbrev pub an_item_in_no_list_behind_a_paragraph : Calls
 an_item_in_no_list_behind_a_paragraph = record {
   setting = setting default_options 0 ([]);

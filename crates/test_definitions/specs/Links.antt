@@ -127,7 +127,7 @@ label_of_earlier_unit = record {
   written = wrote ((codes "[t][a]") ∷ (codes "\n\n\\[a\\]") ∷ (codes "\n\n[a]: /u") ∷ []);
 }
 
--- definitions stand before a last block of raw text
+-- definitions are before a last block of raw text
 abbrev pub definitions_before_code : Row
 definitions_before_code = record {
   setting = setting default_options 0
@@ -168,7 +168,7 @@ inline_link = record {
   written = wrote ((codes "[t](<a b> \"x\\\"y\")") ∷ []);
 }
 
--- a destination with a control character stands in brackets
+-- a destination with a control character is in brackets
 abbrev pub tab_in_destination : Row
 tab_in_destination = record {
   setting = setting default_options 0

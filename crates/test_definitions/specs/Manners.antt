@@ -8,7 +8,7 @@ use Rattle.tocmark_spelling.specs.Page.{Page}
 use Rattle.tocmark_spelling.specs.Plan.{Manner}
 use Rattle.tocmark_spelling.specs.declared.plan.Layout.TheVariants.{Preferred, Runs, Uniform, Shared, RuleThree}
 use Rattle.tocmark_spelling.specs.declared.plan.TextSpelling.TheVariants.{Escaped, Literal, Entities, LiteralEntities}
-use Rattle.tocmark_render.specs.Choice.{spelled}
+use Rattle.tocmark_choose.specs.Choice.{spelled}
 use Rattle.tocmark_write_labels.specs.Document.{first_document}
 use Rattle.test_definitions.specs.Script.{text, setting, Readings}
 
@@ -405,7 +405,7 @@ inner_disturbs = record {
   text = (codes "_a*b*c_");
 }
 
--- the edge of an empty text is none, though another text stands before it
+-- the edge of an empty text is none, though another text is before it
 abbrev pub empty_text_is_no_neighbour : Spelt
 empty_text_is_no_neighbour = record {
   flags = 0;

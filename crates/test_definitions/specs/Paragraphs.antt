@@ -99,7 +99,7 @@ strong_in_a_word = record {
       ++ (codes "a**b**c\na__b__c\na**b**c\na__b__c\n");
 }
 
--- Emphasis behind a letter
+-- Emphasis after a letter
 abbrev pub emphasis_behind_a_letter : Tried
 emphasis_behind_a_letter = record {
   setting = setting default_options 0 ([]);
@@ -587,7 +587,7 @@ strong_at_the_end_of_strong = record {
       ++ (codes "**a**b****\n__a__b____\n**a**b****\n__a__b____\n");
 }
 
--- Emphasis behind Emphasis
+-- Emphasis after Emphasis
 abbrev pub emphasis_behind_emphasis : Tried
 emphasis_behind_emphasis = record {
   setting = setting default_options 0 ([]);
@@ -611,7 +611,7 @@ emphasis_behind_emphasis = record {
       ++ (codes "*a*_b_\n*a*_b_\n_a_*b*\n_a_*b*\n");
 }
 
--- Strong behind Emphasis
+-- Strong after Emphasis
 abbrev pub strong_behind_emphasis : Tried
 strong_behind_emphasis = record {
   setting = setting default_options 0 ([]);
@@ -634,7 +634,7 @@ strong_behind_emphasis = record {
       ++ (codes "*a*__b__\n*a*__b__\n_a_**b**\n_a_**b**\n");
 }
 
--- Emphasis behind Strong
+-- Emphasis after Strong
 abbrev pub emphasis_behind_strong : Tried
 emphasis_behind_strong = record {
   setting = setting default_options 0 ([]);
@@ -657,7 +657,7 @@ emphasis_behind_strong = record {
       ++ (codes "**a**_b_\n__a__*b*\n**a**_b_\n__a__*b*\n");
 }
 
--- Strong behind Strong
+-- Strong after Strong
 abbrev pub strong_behind_strong : Tried
 strong_behind_strong = record {
   setting = setting default_options 0 ([]);
@@ -847,7 +847,7 @@ a_literal_asterisk_before_emphasis = record {
       ++ (codes "\\**a*\n\\**a*\n\\*_a_\n\\*_a_\n");
 }
 
--- a literal asterisk behind Emphasis
+-- a literal asterisk after Emphasis
 abbrev pub a_literal_asterisk_behind_emphasis : Tried
 a_literal_asterisk_behind_emphasis = record {
   setting = setting default_options 0 ([]);
@@ -893,7 +893,7 @@ a_literal_underscore_before_strong = record {
       ++ (codes "\\_**a**\n\\___a__\n\\_**a**\n\\___a__\n");
 }
 
--- a literal underscore behind Strong
+-- a literal underscore after Strong
 abbrev pub a_literal_underscore_behind_strong : Tried
 a_literal_underscore_behind_strong = record {
   setting = setting default_options 0 ([]);
@@ -1102,7 +1102,7 @@ emphasis_round_code = record {
       ++ (codes "*`a`*b\n*`a`*b\n_`a`_b\n_`a`_b\n");
 }
 
--- Emphasis behind a letter past ASCII
+-- Emphasis after a letter past ASCII
 abbrev pub emphasis_behind_a_letter_past_ascii : Tried
 emphasis_behind_a_letter_past_ascii = record {
   setting = setting default_options 0 ([]);
@@ -1154,7 +1154,7 @@ emphasis_before_a_quotation_mark_past_ascii = record {
       ++ (encode_utf8_all (codes "*b*”\n*b*”\n_b_”\n_b_”\n"));
 }
 
--- a second Strong in Emphasis behind the first
+-- a second Strong in Emphasis after the first
 abbrev pub a_second_strong_in_emphasis_behind_the_first : Tried
 a_second_strong_in_emphasis_behind_the_first = record {
   setting = setting default_options 0 ([]);
@@ -1178,7 +1178,7 @@ a_second_strong_in_emphasis_behind_the_first = record {
       ++ (codes "***a**__b__*\n***a**__b__*\n___a__**b**_\n___a__**b**_\n");
 }
 
--- Emphasis behind Emphasis in Strong
+-- Emphasis after Emphasis in Strong
 abbrev pub emphasis_behind_emphasis_in_strong : Tried
 emphasis_behind_emphasis_in_strong = record {
   setting = setting default_options 0 ([]);
@@ -1202,7 +1202,7 @@ emphasis_behind_emphasis_in_strong = record {
       ++ (codes "***a*_b_**\n___a_*b*__\n***a*_b_**\n___a_*b*__\n");
 }
 
--- Emphasis behind a run of three
+-- Emphasis after a run of three
 abbrev pub emphasis_behind_a_run_of_three : Tried
 emphasis_behind_a_run_of_three = record {
   setting = setting default_options 0 ([]);
@@ -1226,7 +1226,7 @@ emphasis_behind_a_run_of_three = record {
       ++ (codes "***a***_b_\n***a***_b_\n___a___*b*\n___a___*b*\n");
 }
 
--- Strong behind a run of three
+-- Strong after a run of three
 abbrev pub strong_behind_a_run_of_three : Tried
 strong_behind_a_run_of_three = record {
   setting = setting default_options 0 ([]);
@@ -1346,7 +1346,7 @@ code_at_the_beginning_of_emphasis_at_the_beginning_of_strong = record {
       ++ (codes "***`a`* b**\n___`a`_ b__\n***`a`* b**\n___`a`_ b__\n");
 }
 
--- Emphasis behind inline HTML that ends with a letter
+-- Emphasis after inline HTML that ends with a letter
 abbrev pub emphasis_behind_inline_html_that_ends_with_a_letter : Tried
 emphasis_behind_inline_html_that_ends_with_a_letter = record {
   setting = setting default_options 0 ([]);
@@ -1465,7 +1465,7 @@ a_space_at_the_beginning_of_emphasis_at_the_beginning_of_strong = record {
       ++ (codes "***&#32;a* b**\n___&#32;a_ b__\n***&#32;a* b**\n___&#32;a_ b__\n");
 }
 
--- Strong round Emphasis behind Strong
+-- Strong round Emphasis after Strong
 abbrev pub strong_round_emphasis_behind_strong : Tried
 strong_round_emphasis_behind_strong = record {
   setting = setting default_options 0 ([]);
@@ -1561,7 +1561,7 @@ strong_with_punctuation_at_the_end_of_emphasis_at_the_beginning_of_strong = reco
       ++ (codes "***a**b.***c**\n___a__b.___c__\n***a**b.***c**\n___a__b.___c__\n");
 }
 
--- a run of three behind a run of three
+-- a run of three after a run of three
 abbrev pub a_run_of_three_behind_a_run_of_three : Tried
 a_run_of_three_behind_a_run_of_three = record {
   setting = setting default_options 0 ([]);
@@ -1585,7 +1585,7 @@ a_run_of_three_behind_a_run_of_three = record {
       ++ (codes "***a***___b___\n***a***___b___\n___a___***b***\n___a___***b***\n");
 }
 
--- Emphasis behind Strikethrough
+-- Emphasis after Strikethrough
 abbrev pub emphasis_behind_strikethrough : Tried
 emphasis_behind_strikethrough = record {
   setting = setting default_options 0 ([]);
@@ -1609,7 +1609,7 @@ emphasis_behind_strikethrough = record {
       ++ (codes "~~a~~*b*\n~~a~~*b*\n~~a~~_b_\n~~a~~_b_\n");
 }
 
--- Emphasis behind Emphasis that ends with Emphasis
+-- Emphasis after Emphasis that ends with Emphasis
 abbrev pub emphasis_behind_emphasis_that_ends_with_emphasis : Tried
 emphasis_behind_emphasis_that_ends_with_emphasis = record {
   setting = setting default_options 0 ([]);
@@ -1657,7 +1657,7 @@ punctuation_at_the_beginning_of_emphasis_at_the_beginning_of_strong = record {
       ++ (codes "***(a)* b**\n___(a)_ b__\n***(a)* b**\n___(a)_ b__\n");
 }
 
--- a run of three behind Emphasis
+-- a run of three after Emphasis
 abbrev pub a_run_of_three_behind_emphasis : Tried
 a_run_of_three_behind_emphasis = record {
   setting = setting default_options 0 ([]);
@@ -1681,7 +1681,7 @@ a_run_of_three_behind_emphasis = record {
       ++ (codes "*a*___b___\n*a*___b___\n_a_***b***\n_a_***b***\n");
 }
 
--- Emphasis with punctuation behind a space in Emphasis before a letter
+-- Emphasis with punctuation after a space in Emphasis before a letter
 abbrev pub emphasis_with_punctuation_behind_a_space_in_emphasis_before_a_letter : Tried
 emphasis_with_punctuation_behind_a_space_in_emphasis_before_a_letter = record {
   setting = setting default_options 0 ([]);
@@ -1705,7 +1705,7 @@ emphasis_with_punctuation_behind_a_space_in_emphasis_before_a_letter = record {
       ++ (codes "*a _(b_c*\n*a _(b_c*\n_a *(b*c_\n_a *(b*c_\n");
 }
 
--- Emphasis with punctuation behind punctuation in Emphasis before a letter
+-- Emphasis with punctuation after punctuation in Emphasis before a letter
 abbrev pub emphasis_with_punctuation_behind_punctuation_in_emphasis_before_a_letter : Tried
 emphasis_with_punctuation_behind_punctuation_in_emphasis_before_a_letter = record {
   setting = setting default_options 0 ([]);

@@ -5,8 +5,8 @@ use Rattle.tocmark_event.specs.Options.{default_options}
 use Rattle.tocmark_event.specs.View.{Heading, BlockQuote, ListOf, Item, Table, TableHead, TableRow, TableCell}
 use Rattle.tocmark_event.specs.declared.event.HeadingLevel.TheVariants as level
 use Rattle.tocmark_spelling.specs.Body.{Trees}
-use Rattle.tocmark_render.specs.Candidates.{preferred_manner}
-use Rattle.tocmark_render.specs.Choice.{spelled}
+use Rattle.tocmark_choose.specs.Candidates.{preferred_manner}
+use Rattle.tocmark_choose.specs.Choice.{spelled}
 use Rattle.tocmark_write_labels.specs.Document.{first_document}
 use Rattle.test_definitions.specs.Script.{text, setting}
 

@@ -243,7 +243,7 @@ a_title_at_the_start_of_an_item = record {
   written = wrote ((codes "* t") ∷ []);
 }
 
--- a paragraph behind a rule in a definition
+-- a paragraph after a rule in a definition
 abbrev pub a_paragraph_behind_a_rule_in_a_definition : Row
 a_paragraph_behind_a_rule_in_a_definition = record {
   setting = setting default_options 0 ([]);

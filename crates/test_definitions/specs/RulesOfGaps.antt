@@ -6,7 +6,7 @@ use Rattle.tocmark_event.specs.View.{Indented, Fenced, Paragraph, BlockQuote, Co
 use Rattle.tocmark_event.specs.declared.event.Alignment.TheVariants as alignment
 use Rattle.test_definitions.specs.Script.{wrote, text, one, setting, Row}
 
--- a list behind a paragraph has the same token as the list before it
+-- a list after a paragraph has the same token as the list before it
 abbrev pub a_list_behind_a_paragraph_has_the_same_token_as_the_list_before_it : Row
 a_list_behind_a_paragraph_has_the_same_token_as_the_list_before_it = record {
   setting = setting default_options 0 ([]);
@@ -101,7 +101,7 @@ a_quote_in_a_loose_item_and_a_definition_list = record {
   written = wrote ((codes "* a\n  \n   > \n   > q\n  \n  t\n  : d\n") ∷ []);
 }
 
--- a definition list behind an inner list
+-- a definition list after an inner list
 abbrev pub a_definition_list_behind_an_inner_list : Row
 a_definition_list_behind_an_inner_list = record {
   setting = setting default_options 0 ([]);
@@ -111,7 +111,7 @@ a_definition_list_behind_an_inner_list = record {
   written = wrote ((codes "* a\n  * b\n  \n  t\n  : d\n") ∷ []);
 }
 
--- indented code behind an inner list that ends with code
+-- indented code after an inner list that ends with code
 abbrev pub indented_code_behind_an_inner_list_that_ends_with_code : Row
 indented_code_behind_an_inner_list_that_ends_with_code = record {
   setting = setting default_options 0 ([]);
@@ -138,7 +138,7 @@ two_paragraphs_in_a_definition = record {
   written = wrote ((codes "t\n\n: a\n  \n  b\n") ∷ []);
 }
 
--- two code blocks in a quote that stands directly in a tight list
+-- two code blocks in a quote that is directly in a tight list
 abbrev pub two_code_blocks_in_a_quote_that_stands_directly_in_a_tight_list : Row
 two_code_blocks_in_a_quote_that_stands_directly_in_a_tight_list = record {
   setting = setting default_options 0 ([]);
@@ -155,7 +155,7 @@ a_text_in_an_html_block = record {
   written = wrote ((codes "*a*") ∷ []);
 }
 
--- a table behind an inner list that ends with an inner list
+-- a table after an inner list that ends with an inner list
 abbrev pub a_table_behind_an_inner_list_that_ends_with_an_inner_list : Row
 a_table_behind_an_inner_list_that_ends_with_an_inner_list = record {
   setting = setting default_options 0 ([]);

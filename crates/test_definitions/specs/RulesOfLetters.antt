@@ -13,7 +13,7 @@ an_underscore_between_letters_past_ascii = record {
   written = wrote ((encode_utf8_all (codes "é_é")) ∷ []);
 }
 
--- an underscore behind a number past ASCII
+-- an underscore after a number past ASCII
 abbrev pub an_underscore_behind_a_number_past_ascii : Row
 an_underscore_behind_a_number_past_ascii = record {
   setting = setting default_options 0 ([]);
@@ -21,7 +21,7 @@ an_underscore_behind_a_number_past_ascii = record {
   written = wrote ((encode_utf8_all (codes "²_b")) ∷ []);
 }
 
--- an underscore behind punctuation past ASCII
+-- an underscore after punctuation past ASCII
 abbrev pub an_underscore_behind_punctuation_past_ascii : Row
 an_underscore_behind_punctuation_past_ascii = record {
   setting = setting default_options 0 ([]);
@@ -29,7 +29,7 @@ an_underscore_behind_punctuation_past_ascii = record {
   written = wrote ((encode_utf8_all (codes "«\\_b")) ∷ []);
 }
 
--- a caret behind a letter past ASCII
+-- a caret after a letter past ASCII
 abbrev pub a_caret_behind_a_letter_past_ascii : Row
 a_caret_behind_a_letter_past_ascii = record {
   setting = setting default_options 0 ([]);

@@ -44,7 +44,7 @@ a_space_beside_a_marker = record {
   text = (codes "a *b*");
 }
 
--- two texts behind a closing
+-- two texts after a closing
 abbrev pub two_texts_behind_a_closing : Spelt
 two_texts_behind_a_closing = record {
   flags = 0;
@@ -173,7 +173,7 @@ a_superscript_by_runs = record {
   text = (codes "^a^");
 }
 
--- Emphasis behind a quotation mark past ASCII where there are extensions
+-- Emphasis after a quotation mark past ASCII where there are extensions
 abbrev pub emphasis_behind_a_quotation_mark_past_ascii_where_there_are_extensions : Spelt
 emphasis_behind_a_quotation_mark_past_ascii_where_there_are_extensions = record {
   flags = 8;

@@ -334,7 +334,7 @@ a_rule_in_an_ordered_list_whose_token_is_a_hyphen = record {
   written = wrote ((codes "1- ---") ∷ []);
 }
 
--- a rule behind HTML
+-- a rule after HTML
 abbrev pub a_rule_behind_html : Row
 a_rule_behind_html = record {
   setting = setting default_options 0 ([]);

@@ -9,8 +9,8 @@ use Rattle.tocmark_event.specs.declared.event.flags.ParserOptions.{ParserOptions
 use Rattle.tocmark_spelling.specs.Plan.{Setting}
 use Rattle.tocmark_spelling.specs.Body.{Trees}
 use Rattle.tocmark_spelling.specs.Page.{front}
-use Rattle.tocmark_render.specs.Candidates.{some_tag}
-use Rattle.tocmark_render.specs.Choice.{Chosen, choice}
+use Rattle.tocmark_choose.specs.Candidates.{some_tag}
+use Rattle.tocmark_choose.specs.Choice.{Chosen, choice}
 use Rattle.tocmark_write_labels.specs.Definitions.{definitions_text}
 use Rattle.tocmark_write_labels.specs.Ending.{is_raw_block, last_texts}
 use Rattle.tocmark_write_labels.specs.Document.{DocumentView, first_document}

@@ -2,7 +2,7 @@
 //! and of calls with events and ranges (`calls`). The contract of each function is a table of them, and the definitions are
 //! computed on each; the functions do nothing.
 //!
-//! Below it stand `tocmark_render`, `tocmark_state` and `tocmark`.
+//! Below it are `tocmark_choose`, `tocmark_state` and `tocmark`.
 #![tactic(auto)]
 
 pub mod calls;

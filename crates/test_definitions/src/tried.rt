@@ -13,7 +13,7 @@ pub fn second_units_are_tried()
     ensures { AreTried second_units }
 {}
 
-/// Longer runs, literal markers, and what stands beside them.
+/// Longer runs, literal markers, and what is beside them.
 pub fn third_units_are_tried()
     ensures { AreTried third_units }
 {}

@@ -1,4 +1,4 @@
-//! Runs of one script again: with a clone of the state behind each event, and with a writer or a reader that fails.
+//! Runs of one script again: with a clone of the state after each event, and with a writer or a reader that fails.
 
 use crate::runs::{Refusals, RunAnswer, refusals_of, run_with};
 use crate::script::{Call, Script};
@@ -19,8 +19,8 @@ pub struct Again {
     readers: Tally,
 }
 
-/// Puts the calls of a call behind others: each of its events by itself, or the call itself where it takes none, and a
-/// clone behind each.
+/// Puts the calls of a call after others: each of its events by itself, or the call itself where it takes none, and a
+/// clone after each.
 fn push_cloned(calls: &mut Vec<Call>, call: Call) -> Result<(), AllocError> {
     let (start, end) = match call {
         Call::Process { start, end } => (start, end),
@@ -38,7 +38,7 @@ fn push_cloned(calls: &mut Vec<Call>, call: Call) -> Result<(), AllocError> {
     Ok(())
 }
 
-/// The answer where the state is cloned behind each event and each finish, and the clone goes on.
+/// The answer where the state is cloned after each event and each finish, and the clone goes on.
 fn cloned(alloc: Global, script: &Script<'static>) -> Result<String, AllocError> {
     let mut calls = Vec::new(alloc);
     for call in &script.calls {
@@ -64,7 +64,7 @@ fn line_count(text: &str) -> usize {
         .count()
 }
 
-/// How many first texts of a run an answer has, if behind them it has this last line alone.
+/// How many first texts of a run an answer has, if after them it has this last line alone.
 fn texts_before(answer: &str, last: &str, whole: &RunAnswer) -> Option<usize> {
     let texts = answer.strip_suffix(last)?;
     if whole.answer.as_str().starts_with(texts) {
@@ -133,7 +133,7 @@ impl Again {
         Ok(())
     }
 
-    /// A reader that finds no memory ends the run behind some first texts.
+    /// A reader that finds no memory ends the run after some first texts.
     fn run_readers(
         &mut self,
         alloc: Global,
@@ -156,7 +156,7 @@ impl Again {
         Ok(())
     }
 
-    /// Runs a script again, unless it asks questions or has too many events. A line behind its answer says which run
+    /// Runs a script again, unless it asks questions or has too many events. A line after its answer says which run
     /// isn't as it should be.
     pub fn run(
         &mut self,

@@ -1,4 +1,4 @@
-//! Whether two renderers stand alike.
+//! Whether two renderers are alike.
 
 ghost use Rattle.std.specs.Prelude.{◌≡◌};
 
@@ -105,7 +105,7 @@ fn difference_in_page(left: &Renderer<'_>, right: &Renderer<'_>) -> Option<&'sta
     }
 }
 
-/// What stands in one renderer otherwise than in another one, if anything. Runs of markers are compared
+/// What is in one renderer otherwise than in another one, if anything. Runs of markers are compared
 /// round the places from `start` on.
 pub fn difference(
     left: &mut Renderer<'_>,

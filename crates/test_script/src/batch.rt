@@ -5,11 +5,10 @@ use crate::fault::Fault;
 use crate::line_fault::{LineFault, NumberedFault};
 use crate::lines::ScriptLines;
 use crate::question::answers;
-use crate::rows::RowTrials;
 use crate::runs::run;
 use crate::script::Script;
 use std::alloc::{AllocError, Global};
-use std::io::{self, Write};
+use std::io::Write;
 
 /// Scripts whose lines come one after the other.
 #[derive(Drop)]
@@ -18,31 +17,20 @@ pub struct Batch {
     lines: ScriptLines,
     /// Whether each script so far has its answer.
     is_right: bool,
-    /// What is tried with each script beside its answer, where it is a stored row.
-    trials: Option<RowTrials>,
 }
 
 /// The answer of a whole script.
-fn answer_once(alloc: Global, script: &Script<'static>) -> Result<String, AllocError> {
+///
+/// # Errors
+///
+/// There is no memory for it.
+pub fn answer(alloc: Global, script: &Script<'static>) -> Result<String, AllocError> {
     if !script.questions.is_empty() {
         return answers(alloc, script);
     }
     let mut answer = run(alloc, script, &script.calls, script.shows_calls)?;
     if script.compares_cuts {
         write_cuts(alloc, &mut answer, script)?;
-    }
-    Ok(answer)
-}
-
-/// The answer of a whole script, with a line for each trial that failed.
-fn answer(
-    alloc: Global,
-    script: &Script<'static>,
-    trials: &mut Option<RowTrials>,
-) -> Result<String, AllocError> {
-    let mut answer = answer_once(alloc, script)?;
-    if let Some(trials) = trials {
-        trials.run(alloc, script, &mut answer)?;
     }
     Ok(answer)
 }
@@ -62,12 +50,11 @@ fn write_answer<O: Write>(output: &mut O, answer: &str, last: &str) -> Result<()
 
 impl Batch {
     /// No line yet.
-    pub fn new(alloc: Global, trials: Option<RowTrials>) -> Batch {
+    pub fn new(alloc: Global) -> Batch {
         Batch {
             alloc,
             lines: ScriptLines::new(alloc),
             is_right: true,
-            trials,
         }
     }
 
@@ -95,7 +82,7 @@ impl Batch {
         output: &mut O,
         faults: &mut F,
     ) -> Result<(), Fault> {
-        match answer(self.alloc, script, &mut self.trials) {
+        match answer(self.alloc, script) {
             Ok(answer) => write_answer(output, answer.as_str(), last),
             Err(_) => {
                 self.refuse_answer(faults);
@@ -141,20 +128,12 @@ impl Batch {
         Ok(())
     }
 
-    /// Writes what the trials came to.
-    fn write_trials<O: Write>(&self, output: &mut O) -> io::Result<()> {
-        if let Some(trials) = &self.trials {
-            trials.write(output)?;
-        }
-        output.flush()
-    }
-
     /// Takes the end of the input, where the last script needn't have a line `%`.
     fn end<O: Write, F: Write>(&mut self, output: &mut O, faults: &mut F) -> Result<(), Fault> {
         if self.lines.is_begun() {
             self.end_script("", output, faults)?;
         }
-        match self.write_trials(output) {
+        match output.flush() {
             Ok(()) => Ok(()),
             Err(_) => Err(Fault::Write),
         }

@@ -5,7 +5,7 @@ use crate::script::{Call, Script};
 use crate::tally::Tally;
 use std::alloc::{AllocError, Global};
 
-/// The answer where the events are cut in two, and a clone of the state takes those behind the cut.
+/// The answer where the events are cut in two, and a clone of the state takes those after the cut.
 fn in_two(alloc: Global, script: &Script<'static>, place: usize) -> Result<String, AllocError> {
     let end = script.events.len();
     let front = Call::Process {
@@ -21,7 +21,7 @@ fn in_two(alloc: Global, script: &Script<'static>, place: usize) -> Result<Strin
     )
 }
 
-/// The answer where each call but the last takes so many events, and a clone of the state goes on behind it.
+/// The answer where each call but the last takes so many events, and a clone of the state goes on after it.
 fn in_parts(alloc: Global, script: &Script<'static>, size: usize) -> Result<String, AllocError> {
     let events = script.events.len();
     let size = size.max(1);

@@ -67,7 +67,7 @@ fn count_made<T: Drop>(made: Result<Vec<T>, AllocError>) -> Result<usize, AllocE
     }
 }
 
-/// Adds copies of the events, without what stands beside them.
+/// Adds copies of the events, without what is beside them.
 fn add_plain<R>(
     alloc: Global,
     plain: &mut Vec<Event<'static>>,

@@ -5,7 +5,7 @@ use thiserror::Error;
 /// A fault of the program, shown as one line on standard error.
 #[derive(Debug, Drop, Error)]
 pub enum Fault {
-    #[error("usage: test_script [--rows]")]
+    #[error("usage: test_script [--rows FILE..]")]
     Usage,
     #[error("test_script: cannot read standard input")]
     Read,
@@ -13,4 +13,6 @@ pub enum Fault {
     NotUtf8,
     #[error("test_script: cannot write standard output")]
     Write,
+    #[error("test_script: cannot read a file of rows, or write standard output, or memory ran out")]
+    Rows,
 }

@@ -81,7 +81,7 @@ fn put_read<T: Drop>(place: &mut T, read: Result<T, LineFault>) -> Result<(), Li
     }
 }
 
-/// Has a value that was read stand in this place.
+/// Has a value that was read in this place.
 fn put_some<T: Drop>(place: &mut Option<T>, read: Result<T, LineFault>) -> Result<(), LineFault> {
     match read {
         Ok(value) => {
@@ -173,7 +173,7 @@ impl Gathering<'static> {
         add(&mut self.script.calls, Call::Process { start, end })
     }
 
-    /// Adds a call behind one that takes the events since the last one, if there are any.
+    /// Adds a call after one that takes the events since the last one, if there are any.
     fn call(&mut self, call: Call) -> Result<(), AllocError> {
         if self.called < self.script.events.len() {
             self.process()?;
@@ -273,7 +273,7 @@ impl Gathering<'static> {
         Ok(())
     }
 
-    /// Has a setting of this name hold, with the value behind the name.
+    /// Has a setting of this name hold, with the value after the name.
     fn set(&mut self, name: SettingName, words: &mut WordsLeft<'_>) -> Result<(), LineFault> {
         match name {
             SettingName::Flags => put_read(&mut self.script.flags, flags(words)),
@@ -377,7 +377,7 @@ impl Gathering<'static> {
         }
     }
 
-    /// Adds the calls behind the last line, and the table as the reader if the script gives one.
+    /// Adds the calls after the last line, and the table as the reader if the script gives one.
     fn complete(&mut self) -> Result<(), LineFault> {
         if self.reading.is_some() {
             return Err(LineFault::Wrong("no line End of reading stands behind this reading"));
@@ -394,7 +394,7 @@ impl Gathering<'static> {
         Ok(())
     }
 
-    /// Takes the whole script out, behind its last line.
+    /// Takes the whole script out, after its last line.
     ///
     /// # Errors
     ///

@@ -43,7 +43,7 @@ impl ScriptLines {
         self.line = self.line.saturating_add(1);
     }
 
-    /// Takes the next line of the script. Behind one with a fault the lines up to its end are passed over.
+    /// Takes the next line of the script. After one with a fault the lines up to its end are passed over.
     pub fn take<'l>(&mut self, line: &'l str) -> Result<(), NumberedFault<'l>> {
         self.pass();
         if self.is_faulty {
@@ -62,7 +62,7 @@ impl ScriptLines {
         }
     }
 
-    /// The script whose lines were taken, or nothing where one of them had a fault. Behind the last of them something
+    /// The script whose lines were taken, or nothing where one of them had a fault. After the last of them something
     /// can be missing.
     fn whole(&mut self) -> Result<Option<Script<'static>>, NumberedFault<'static>> {
         if self.is_faulty {

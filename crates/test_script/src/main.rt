@@ -1,5 +1,5 @@
 //! Runs scripts of events: reads them on standard input, and writes on standard output what each one is
-//! answered. The lines of scripts and of answers stand in `docs/SCRIPTS.md`.
+//! answered. The lines of scripts and of answers are in `docs/SCRIPTS.md`.
 //!
 //! A `script` is read line by line (`lines`, `gathering`). A line is an event in JSON (`event_line`), or words and
 //! strings (`words`, `strings`) of a `statement` or an `option`; `line_fault` has what is wrong with one. `readers` has
@@ -7,9 +7,9 @@
 //! extensions.
 //!
 //! A `batch` answers scripts in turn: it makes the calls of one (`runs`, `cuts`), or answers its questions
-//! (`question`, `events`, `readings`). With the argument `--rows` a line of an answer of more than 4,000 bytes is told
-//! by its length and digest (`short_lines`), and each script is also tried as a stored row (`rows`). Behind the answers
-//! stands what these trials came to.
+//! (`question`, `events`, `readings`). After the argument `--rows` are files of scripts with the lines that each is to be
+//! answered (`stored`), a line of more than 4,000 bytes by its length and digest (`short_lines`). Each is also tried in
+//! other ways (`rows`). The program writes the answers that aren't expected, and what the trials came to.
 #![tactic(auto)]
 
 mod again;
@@ -35,6 +35,7 @@ mod runs;
 mod script;
 mod short_lines;
 mod statement;
+mod stored;
 mod strings;
 mod tally;
 mod trials;
@@ -44,25 +45,38 @@ mod words;
 
 use crate::batch::Batch;
 use crate::fault::Fault;
-use crate::rows::RowTrials;
-use crate::short_lines::ShortLines;
-use std::env;
-use std::io::{ErrorKind, Read, Write};
+use crate::stored::StoredRows;
+use std::io::{self, ErrorKind, Read, Write};
 use std::process::ExitCode;
+use std::{env, fs};
 
-/// Whether the argument `--rows` stands there. An `Err` says that something else does.
-fn has_rows(rt: &HostRuntime) -> Result<bool, Fault> {
-    let Ok(words) = env::args(rt) else {
-        return Err(Fault::Usage);
+/// What the arguments ask for.
+#[derive(Clone, Copy)]
+enum Task<'a> {
+    /// To answer the scripts on standard input.
+    Answer,
+    /// To try the rows of these files.
+    TryRows(&'a [String]),
+}
+
+/// The words after the name of the program.
+fn words_of(rt: &HostRuntime) -> io::Result<Vec<String>> {
+    let mut words = Vec::new(rt.alloc());
+    for word in env::args(rt)?.skip(1) {
+        words.push(word)?;
+    }
+    Ok(words)
+}
+
+/// What the words ask for, or nothing where they are wrong.
+fn task_of(words: &[String]) -> Option<Task<'_>> {
+    let Some((first, files)) = words.split_first() else {
+        return Some(Task::Answer);
     };
-    let mut words = words.skip(1);
-    let Some(word) = words.next() else {
-        return Ok(false);
-    };
-    if word.as_str() == "--rows" && words.next().is_none() {
-        Ok(true)
+    if first.as_str() == "--rows" && !files.is_empty() {
+        Some(Task::TryRows(files))
     } else {
-        Err(Fault::Usage)
+        None
     }
 }
 
@@ -79,28 +93,41 @@ fn scripts(rt: &HostRuntime) -> Result<String, Fault> {
 /// Answers each script. False where some script has no answer.
 fn answer(rt: &HostRuntime) -> Result<bool, Fault> {
     let text = scripts(rt)?;
-    let mut batch = Batch::new(rt.alloc(), None);
+    let mut batch = Batch::new(rt.alloc());
     let is_right = batch.take_all(text.as_str(), &mut rt.stdout(), &mut rt.stderr());
     drop(batch);
     is_right
 }
 
-/// Answers each script in short lines, runs it again, and tries its units. False where some script has no answer.
-fn answer_rows(rt: &HostRuntime) -> Result<bool, Fault> {
-    let text = scripts(rt)?;
+/// Tries the rows of these files. False where one has another answer than is expected.
+fn try_rows(rt: &HostRuntime, files: &[String]) -> io::Result<bool> {
+    let mut rows = StoredRows::new(rt.alloc());
     let mut output = rt.stdout();
-    let mut lines = ShortLines::new(&mut output, Vec::new(rt.alloc()));
-    let mut batch = Batch::new(rt.alloc(), Some(RowTrials::new(rt.alloc())));
-    let is_right = batch.take_all(text.as_str(), &mut lines, &mut rt.stderr());
-    drop(batch);
-    is_right
+    for file in files {
+        let text = fs::read_to_string(rt, file.as_str())?;
+        rows.take_file(&mut output, file.as_str(), text.as_str())?;
+    }
+    rows.write_trials(&mut output)?;
+    Ok(rows.is_right())
+}
+
+fn perform(rt: &HostRuntime, task: Task<'_>) -> Result<bool, Fault> {
+    match task {
+        Task::Answer => answer(rt),
+        Task::TryRows(files) => match try_rows(rt, files) {
+            Ok(is_right) => Ok(is_right),
+            Err(_) => Err(Fault::Rows),
+        },
+    }
 }
 
 fn run(rt: &HostRuntime) -> Result<bool, Fault> {
-    if has_rows(rt)? {
-        answer_rows(rt)
-    } else {
-        answer(rt)
+    let Ok(words) = words_of(rt) else {
+        return Err(Fault::Usage);
+    };
+    match task_of(&words) {
+        Some(task) => perform(rt, task),
+        None => Err(Fault::Usage),
     }
 }
 

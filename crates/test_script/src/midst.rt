@@ -44,7 +44,7 @@ fn hold(renderer: &mut Renderer<'_>, alloc: Global) -> Result<(), AllocError> {
     Ok(())
 }
 
-/// Opens the container with this tag behind a quote. Where it is a paragraph, markers stand right before
+/// Opens the container with this tag after a quote. Where it is a paragraph, markers are right before
 /// its body, else a line feed.
 fn open<'u>(
     renderer: &mut Renderer<'u>,
@@ -62,7 +62,7 @@ fn open<'u>(
     renderer.push_frame(tag, Prefix::Quote, content_of(alloc, tag))
 }
 
-/// Has an empty renderer stand behind this event, if that is a Start: in a line with some text, behind a
+/// Has an empty renderer are after this event, if that is a Start: in a line with some text, after a
 /// definition, a quote line and a stretch of texts, and with its container open. These are there to come
 /// back to.
 pub fn enter<'u>(

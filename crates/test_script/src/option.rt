@@ -124,7 +124,7 @@ fn set_token(options: &mut Options<'_>, option: TokenOption, token: char) {
     }
 }
 
-/// Sets the option of a script that a line names to the value behind its name.
+/// Sets the option of a script that a line names to the value after its name.
 ///
 /// # Errors
 ///

@@ -120,7 +120,7 @@ fn write_error_texts(alloc: Global, answer: &mut String) -> Result<(), AllocErro
     Ok(())
 }
 
-/// Writes whether the core reader reads a text as it stands.
+/// Writes whether the core reader reads a text as it is.
 fn write_plain(answer: &mut String, text: &str) -> Result<(), AllocError> {
     let plain = is_plain(text);
     writeln!(answer, "{plain}")

@@ -7,13 +7,13 @@ use std::io::{self, Write};
 /// Which trial of a unit it is.
 #[derive(Clone, Copy)]
 pub struct TrialName {
-    /// How many of the unit's events stand before the mark.
+    /// How many of the unit's events are before the mark.
     pub first: usize,
     /// The number of the manner, counted from 1.
     pub manner: usize,
 }
 
-/// What is counted, and a line for each writing before or behind which something differs.
+/// What is counted, and a line for each writing before or after which something differs.
 #[derive(Drop)]
 pub struct Report {
     rows: usize,
@@ -26,7 +26,7 @@ pub struct Report {
     units_of_row: usize,
     /// How often a unit was written in some manner, not counting by the renderers of their own.
     writings: usize,
-    /// How many of these were refused, where a node stands where it may not.
+    /// How many of these were refused, where a node is where it may not.
     refused: usize,
     /// How many of these texts memory can't hold.
     too_long: usize,
@@ -85,7 +85,7 @@ impl Report {
         }
     }
 
-    /// What differs in a trial, if anything, before or behind its writing.
+    /// What differs in a trial, if anything, before or after its writing.
     pub fn note_difference(
         &mut self,
         place: TrialName,

@@ -2,13 +2,13 @@
 //! fail. And its units are written by renderers that go back.
 //!
 //! A row's events are cut into units. For a unit there is one renderer, which writes it in each manner in which
-//! units are tried, in order, and in the first one again, each time behind a mark, and goes back. The mark stands
-//! before the unit. Another renderer writes the unit's body, with the mark behind its Start: there the container is
+//! units are tried, in order, and in the first one again, each time after a mark, and goes back. The mark is
+//! before the unit. Another renderer writes the unit's body, with the mark after its Start: there the container is
 //! open, and some text, a definition, a quote line and a stretch of texts are there to come back to.
 //!
-//! Before and behind each writing that renderer is compared with one of its own that wrote the same and has never
+//! Before and after each writing that renderer is compared with one of its own that wrote the same and has never
 //! gone back: the text, the line feeds at its end, the definitions that it needs, what is carried along, the open
-//! containers and the runs of markers, and behind it also the quote line and the stretch.
+//! containers and the runs of markers, and after it also the quote line and the stretch.
 
 use crate::again::Again;
 use crate::report::Report;
@@ -25,7 +25,7 @@ use tocmark_write_pending::pending::Pending;
 use tocmark_write_unit::block::KnownUnit;
 use tocmark_write_unit::findings::findings_of;
 
-/// What stands in the source for an event with a range.
+/// What is in the source for an event with a range.
 fn spelling<'s>(source: &'s Option<String>, range: Option<(usize, usize)>) -> Option<&'s str> {
     match (source, range) {
         (Some(source), Some((start, end))) => source.as_str().get(start..end),
@@ -70,7 +70,7 @@ struct Row<'r> {
     options: Options<'r>,
     flags: ParserOptions,
     units: Vec<Events>,
-    /// The events behind the last of them, of which some container is open, if there are any.
+    /// The events after the last of them, of which some container is open, if there are any.
     pending: Events,
 }
 
@@ -116,7 +116,7 @@ impl Row<'_> {
         Ok(())
     }
 
-    /// The event behind the unit at this place.
+    /// The event after the unit at this place.
     fn behind(&self, place: usize) -> Option<&OwnedEvent> {
         match self.units.get(place.saturating_add(1)) {
             Some(unit) => first_of(&unit.whole),
@@ -149,7 +149,7 @@ impl Row<'_> {
         try_unit(&unit, front, report)
     }
 
-    /// Tries the body of a unit, behind its Start.
+    /// Tries the body of a unit, after its Start.
     fn try_inside<'x>(
         &'x self,
         unit: &'x Events,

@@ -49,7 +49,7 @@ pub enum TextQuestion {
     Fault,
     EscapeDestination,
     EscapeTitle,
-    /// Whether the core reader reads it as it stands.
+    /// Whether the core reader reads it as it is.
     Plain,
     Read,
     ReadMerged,

@@ -1,4 +1,4 @@
-//! What lines of a script say that are no events: the names of statements, and what stands behind them.
+//! What lines of a script say that are no events: the names of statements, and what is after them.
 
 use crate::line_fault::LineFault;
 use crate::script::{EventsQuestion, Question, ScriptQuestion, TextQuestion};
@@ -104,7 +104,7 @@ fn flag_bits(words: &mut WordsLeft<'_>) -> Result<u32, LineFault> {
     bits.ok_or(fault)
 }
 
-/// The bits of a flag behind `|`.
+/// The bits of a flag after `|`.
 fn more_bits(words: &mut WordsLeft<'_>) -> Result<u32, LineFault> {
     words.expect_known(&[("|", ())], "| and another flag")?;
     flag_bits(words)
@@ -170,7 +170,7 @@ pub fn text_question(
     Ok(Question::OfText { question, text })
 }
 
-/// The question how the string is escaped that comes next, behind what it is.
+/// The question how the string is escaped that comes next, after what it is.
 ///
 /// # Errors
 ///
@@ -196,7 +196,7 @@ pub fn close_question(alloc: Global, words: &mut WordsLeft<'_>) -> Result<Questi
     })
 }
 
-/// The question how long the longest run is of the character that comes next, in the string behind it.
+/// The question how long the longest run is of the character that comes next, in the string after it.
 ///
 /// # Errors
 ///

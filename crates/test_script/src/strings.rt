@@ -47,7 +47,7 @@ fn write_character<W: fmt::Write>(f: &mut fmt::Formatter<W>, c: char) -> fmt::Re
     f.write_char(c)
 }
 
-/// The front of a text up to the double quote that ends a string, and what stands behind that.
+/// The front of a text up to the double quote that ends a string, and what is after that.
 fn string_end(text: &str) -> Option<(&str, &str)> {
     let mut chars = text.chars();
     let mut is_escaped = false;
@@ -62,7 +62,7 @@ fn string_end(text: &str) -> Option<(&str, &str)> {
     None
 }
 
-/// What stands before the first string of a text, what stands between its quotes, and what stands behind it.
+/// What is before the first string of a text, what is between its quotes, and what is after it.
 fn first_string(text: &str) -> Option<(&str, &str, &str)> {
     let (front, rest) = text.split_once('"')?;
     let (content, behind) = string_end(rest)?;
@@ -82,7 +82,7 @@ fn text_of(alloc: Global, string: &str) -> Result<Option<String>, AllocError> {
     }
 }
 
-/// The text of the string at the front of a text, and what stands behind it, or nothing where none of JSON stands
+/// The text of the string at the front of a text, and what is after it, or nothing where none of JSON is
 /// there.
 ///
 /// # Errors
@@ -102,7 +102,7 @@ pub fn string_at_front<'a>(
     }
 }
 
-/// The decimal number at the front of a text, and what stands behind it.
+/// The decimal number at the front of a text, and what is after it.
 fn number_at_front(text: &str) -> Option<(usize, &str)> {
     let mut chars = text.chars();
     let mut found = None;
@@ -119,7 +119,7 @@ fn number_at_front(text: &str) -> Option<(usize, &str)> {
     found
 }
 
-/// How often the string comes that ends before a text, and what stands behind that.
+/// How often the string comes that ends before a text, and what is after that.
 fn times_at_front(text: &str) -> (usize, &str) {
     let Some(count) = text.strip_prefix('*') else {
         return (1, text);

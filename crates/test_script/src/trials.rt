@@ -8,9 +8,9 @@ use crate::midst::enter;
 use crate::report::{Report, TrialName};
 use crate::unit::{Outcome, Unit, write};
 use std::alloc::{AllocError, Global};
+use tocmark_choose::manners::{fallback_plans, run_manners, source_manners, with_all_markers};
 use tocmark_event::event::OwnedEvent;
 use tocmark_event::options::Options;
-use tocmark_render::manners::{fallback_plans, run_manners, source_manners, with_all_markers};
 use tocmark_spelling::trail::Trail;
 use tocmark_write_renderer::job::Manner;
 use tocmark_write_renderer::parts::Parts;
@@ -82,7 +82,7 @@ fn difference_after(
     }
 }
 
-/// Writes a unit in one manner behind a mark, and goes back; `alone`, which is new, writes it, too.
+/// Writes a unit in one manner after a mark, and goes back; `alone`, which is new, writes it, too.
 fn try_beside<'u>(
     trial: Trial<'_, 'u, '_>,
     renderer: &mut Renderer<'u>,
@@ -144,7 +144,7 @@ fn try_each<'u>(
     Ok(())
 }
 
-/// Tries the unit in each of these manners, behind this Start if it is a body.
+/// Tries the unit in each of these manners, after this Start if it is a body.
 fn try_behind<'u>(
     unit: &Unit<'u, '_>,
     front: &Front,
@@ -207,7 +207,7 @@ pub fn try_unit(
     }
 }
 
-/// Tries the body of a container in all manners, behind its Start.
+/// Tries the body of a container in all manners, after its Start.
 pub fn try_body<'u>(
     body: &Unit<'u, '_>,
     start: &'u OwnedEvent,

@@ -30,7 +30,7 @@ pub struct Unit<'u, 'o> {
 #[derive(Clone, Copy, PartialEq, Eq)]
 pub enum Outcome {
     Written,
-    /// A node stands where it may not, or the manner asks for a marker past ASCII.
+    /// A node is where it may not, or the manner asks for a marker past ASCII.
     Refused,
     /// Memory can't hold the text.
     OutOfMemory,

@@ -14,7 +14,7 @@ const A_CHARACTER: &str = "a string of one character";
 #[derive(Clone, Copy)]
 pub struct WordsLeft<'a> {
     rest: Option<&'a str>,
-    /// The byte of the line behind what is left.
+    /// The byte of the line after what is left.
     end: usize,
 }
 
@@ -101,7 +101,7 @@ impl<'a> WordsLeft<'a> {
         }
     }
 
-    /// The next word: what stands before the next space.
+    /// The next word: what is before the next space.
     pub fn word(&mut self) -> &'a str {
         let rest = self.rest();
         match rest.split_once(' ') {
@@ -151,7 +151,7 @@ impl<'a> WordsLeft<'a> {
         self.rest().starts_with('"')
     }
 
-    /// Goes on behind a string, in front of this end of the line.
+    /// Goes on after a string, in front of this end of the line.
     fn go_on(&mut self, behind: &'a str) -> Result<(), LineFault> {
         self.rest = Some(behind);
         match behind.strip_prefix(' ') {
@@ -166,7 +166,7 @@ impl<'a> WordsLeft<'a> {
     ///
     /// # Errors
     ///
-    /// The fault that a string is expected here, or a space behind it, or that memory ran out.
+    /// The fault that a string is expected here, or a space after it, or that memory ran out.
     pub fn string(&mut self, alloc: Global) -> Result<String, LineFault> {
         let fault = self.expected(A_STRING);
         let Some((text, behind)) = string_at_front(alloc, self.rest())? else {

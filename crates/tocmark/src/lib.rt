@@ -4,7 +4,7 @@
 //! events with ranges in a source, which keeps the source's spelling of texts.
 //!
 //! A unit is a tree at the top of the list, such as a paragraph. Each unit is written whole or
-//! refused: as `UnexpectedEvent` if an event stands where it may not, and as `Unrepresentable` if
+//! refused: as `UnexpectedEvent` if an event is where it may not, and as `Unrepresentable` if
 //! no spelling of the unit reads back.
 //!
 //! `token_count` computes the length of a fence. The crate re-exports what its users need of the

@@ -1,8 +1,8 @@
 -- Lines in code and HTML: what the reader keeps of them, and the fences that end code.
-use Rattle.std.proofs.Common.{◌≡◌, ℕ, zero, suc, ◌+◌, ◌-◌, ◌^◌, ◌<◌, ◌≤◌, Bool, true, false, not, ◌==◌, ◌&&◌, if◌then◌else◌, nat_lt, nat_le, min, List, [], ◌∷◌, ◌++◌, length, take, drop, reverse, refl, ap, sym, ◌∙◌, arith, append_assoc, append-nil, length-append, length-drop, true≢false}
+use Rattle.std.proofs.Common.{◌≡◌, ℕ, zero, suc, ◌+◌, ◌-◌, ◌^◌, ◌<◌, ◌≤◌, Bool, true, false, not, ◌==◌, ◌&&◌, if◌then◌else◌, nat_lt, nat_le, min, List, [], ◌∷◌, ◌++◌, length, take, drop, reverse, refl, ap, sym, subst, ◌∙◌, arith, append_assoc, append-nil, length-append, length-drop, true≢false}
 use Rattle.std.specs.List.{AllByRecursion}
 use Rattle.std.proofs.lemmas.Bool.Decides.{nat_tests}
-use Rattle.std.proofs.lemmas.List.{length-reverse, reverse-append}
+use Rattle.std.proofs.lemmas.List.{drop-drop, length-reverse, reverse-append}
 use Rattle.tocmark_read_scan.specs.Basic.{plus, bytes_between}
 use Rattle.tocmark_read_scan.proofs.PlainPieces.{piece_between}
 use Rattle.tocmark_read_scan.proofs.PlainTests.{eq_of}
@@ -18,16 +18,16 @@ use Rattle.tocmark_read_lines.specs.declared.line.Line.{Line}
 use Rattle.tocmark_read_lines.proofs.Columns.{length_kept, plain_cells, place_kept}
 use Rattle.tocmark_read_page.specs.Pieces.{piece_of, is_split, code_piece, keeps_line}
 use Rattle.tocmark_read_page.specs.declared.leaf.Leaf.TheVariants as leaf
-use Rattle.tocmark_commonmark.specs.Lines.{Part, line_ink, is_blank, tab_width, indent, spelled, without_columns, cells}
+use Rattle.tocmark_commonmark.specs.Lines.{Part, Written, is_blank, tab_width, indent, ink, spelled, without_columns, cells}
 use Rattle.tocmark_commonmark.specs.Leaves.{code_line, closes}
 use Rattle.tocmark_commonmark.specs.Beginnings.{begins_with}
-use Rattle.tocmark_block_laws.specs.Leaves.{IsPlain, ends_with_feed}
+use Rattle.tocmark_block_laws.specs.Quotes.{IsPlain, ends_with_feed}
 use Rattle.tocmark_block_laws.proofs.Columns.{Behind, ink_on, plus_low}
 use Rattle.tocmark_block_laws.proofs.Marks.{closes_on}
-use Rattle.tocmark_block_laws.proofs.TextLines.{Plain, plain_head, no_tab, declared, Sound, stop_same, ends_same, drop_plain}
+use Rattle.tocmark_block_laws.proofs.TextLines.{Plain, plain_head, no_tab, Sound, stop_same, ends_same, drop_plain}
 use Rattle.tocmark_block_laws.proofs.Texts.{between_length, place_there}
 use Rattle.tocmark_block_laws.proofs.HtmlEnds.{ends_ink}
-use Rattle.tocmark_block_laws.proofs.Fronts.{spaces_next, spaces_none, spaces_of, part_of, at_ink, indent_same, spaces_low, blank_same, cursor_same, behind_at, between_further}
+use Rattle.tocmark_block_laws.proofs.Fronts.{spaces_next, spaces_none, spaces_of, part_at, place_at, indent_same, spaces_low, blank_same, cursor_same, behind_at, between_further}
 
 -- a line that ends with a line feed
 pub record Fed (text : List ℕ) (l : Line) : Type 0 where
@@ -137,24 +137,25 @@ columns_spelled (suc k) c (b ∷ bs) h = by (b == 32) (b == 9) refl p.tab (colum
     by false true e n one two = absurd (true≢false n)
     by false false e n one two = two ∙ ap (λ n. drop n (b ∷ bs)) (let none : spaces_of (b ∷ bs) ≡ 0 = spaces_none b bs e p.tab in let q : min k (spaces_of (b ∷ bs)) ≡ min (suc k) (spaces_of (b ∷ bs)) = omega (arith, none) in q)
 
--- what the reader keeps of a line from a column on
-pub record Taken (text : List ℕ) (l : Line) (columns : List Cell) (c : ℕ) : Type 0 where
+-- what the reader keeps of a line from a column on, if this is left of it
+pub record Taken (text : List ℕ) (l : Line) (columns : List Cell) (c : ℕ) (zs : List ℕ) : Type 0 where
   pub at : ℕ
   pub piece : code_piece columns c l ≡ piece_of 0 at l.end l.next
   pub some : nat_lt at l.next ≡ true
-  pub says : bytes_between text at l.next ≡ drop c (bytes_between text l.start l.end) ++ 10 ∷ []
-  pub ends : bytes_between text at l.end ≡ drop c (bytes_between text l.start l.end)
+  pub says : bytes_between text at l.next ≡ zs ++ 10 ∷ []
+  pub ends : bytes_between text at l.end ≡ zs
 
--- a line in code or HTML as both see it
-pub record CodeFacts (text : List ℕ) (l : Line) (columns : List Cell) (spaces : ℕ) : Type 0 where
-  pub small : spaces < 2 ^ 64
-  pub blank : is_blank_at columns (at_ink spaces) ≡ is_blank (bytes_between text l.start l.end)
-  pub width : indent (part_of (bytes_between text l.start l.end)) ≡ spaces
-  pub closing : (f : Fence) → closes_fence columns (at_ink spaces) f ≡ closes f (declared text l)
-  pub taken : Fed text l → (c : ℕ) → c ≤ spaces → Taken text l columns c
-  pub keeps : (c : ℕ) → c ≤ spaces → keeps_line columns c leaf.Indented ≡ not (is_blank (bytes_between text l.start l.end))
-  pub html : (k : HtmlKind) → html_ends k (bytes_between text l.start l.end) ≡ html_ends k (line_ink (declared text l))
-  pub spelled : (k : ℕ) → code_line k (declared text l) ≡ drop (min k spaces) (bytes_between text l.start l.end)
+-- a line in code or HTML as both see it, from a place on where this is left of it
+pub record CodeFacts (text : List ℕ) (l : Line) (columns : List Cell) (place : Cursor) (ys : List ℕ) : Type 0 where
+  pub small : place.ink + 3 < 2 ^ 64
+  pub order : place.column ≤ place.ink
+  pub blank : is_blank_at columns place ≡ is_blank ys
+  pub width : indent (part_at place.column ys) ≡ place.ink - place.column
+  pub closing : (f : Fence) → closes_fence columns place f ≡ closes f (Written (part_at place.column ys))
+  pub taken : Fed text l → (k : ℕ) → k ≤ place.ink - place.column → Taken text l columns (place.column + k) (drop k ys)
+  pub keeps : (k : ℕ) → k ≤ place.ink - place.column → keeps_line columns (place.column + k) leaf.Indented ≡ not (is_blank ys)
+  pub html : (k : HtmlKind) → html_ends k ys ≡ html_ends k (ink (part_at place.column ys))
+  pub spelled : (k : ℕ) → code_line k (Written (part_at place.column ys)) ≡ drop (min k (place.ink - place.column)) ys
 
 drop_more_front : (c : ℕ) (xs ys : List ℕ) → c ≤ length xs → drop c (xs ++ ys) ≡ drop c xs ++ ys
 drop_more_front zero xs ys low = refl
@@ -198,38 +199,48 @@ unsplit start xs (suc d) fits = by (nat_lt (suc d) (length xs)) refl
         rw (first, count, q, less, place d (omega (arith, low)), place (suc d) low) differ
     by false q = rw (first, count, q) refl
 
-pub code_facts : (text : List ℕ) (l : Line) → IsPlain (bytes_between text l.start l.end) → length text + 3 < 2 ^ 64 → Sound text l
-    → CodeFacts text l (cells_at l.start [] (bytes_between text l.start l.end)) (spaces_of (bytes_between text l.start l.end))
+pub code_facts : (text : List ℕ) (l : Line) (c : ℕ) → IsPlain (bytes_between text l.start l.end) → length text + 3 < 2 ^ 64 → Sound text l → c ≤ length (bytes_between text l.start l.end)
+    → CodeFacts text l (cells_at l.start [] (bytes_between text l.start l.end)) (place_at c (drop c (bytes_between text l.start l.end))) (drop c (bytes_between text l.start l.end))
 unfolding code_piece keeps_line first_cursor
-code_facts text l h fits sound =
+code_facts text l c h fits sound inside =
     record {
-      small = omega (arith, most, short);
-      blank = ap (λ k. nat_le k n) (length_kept l.start [] xs) ∙ blank_same xs;
-      width = indent_same xs h;
-      closing = λ f. closes_on n whole rest (at_ink n) (first_cursor rest) f behind refl no_spaces ∙ ap (λ k. k && closes_fence rest (first_cursor rest) f) narrow;
-      taken = λ fed c low. record {
-        at = l.start + c;
-        piece = rw (unsplit l.start xs c (omega (arith, wide, in_text, fits)), placed c low) refl;
-        some = let k : l.start + c < l.next = let e : l.end < l.next = fed.further in omega (arith, low, most, wide, e) in grind (arith, k, nat_tests);
-        says = later fed c low;
-        ends = between_further text l.start c l.end (omega (arith, low, most, wide)) in_text;
+      small = omega (arith, most, short, left, inside);
+      order = omega arith;
+      blank = ap (λ k. nat_le k (c + n)) count ∙ blank_left;
+      width = indent_same c ys plain ∙ back;
+      closing = λ f. closes_on (c + n) whole rest (place_at c ys) (first_cursor rest) f behind refl no_spaces ∙ ap (λ k. k && closes_fence rest (first_cursor rest) f) narrow;
+      taken = λ fed k low. record {
+        at = l.start + (c + k);
+        piece = rw (unsplit l.start xs (c + k) (omega (arith, wide, in_text, fits)), placed k (omega (arith, low))) refl;
+        some = let q : l.start + (c + k) < l.next = let e : l.end < l.next = fed.further in omega (arith, low, most, left, inside, wide, e) in grind (arith, q, nat_tests);
+        says = later fed k (omega (arith, low));
+        ends = between_further text l.start (c + k) l.end (omega (arith, low, most, left, inside, wide)) in_text ∙ sym (drop-drop k c xs);
       };
-      keeps = λ c low. rw (inked c low, count) kept;
-      html = λ k. ends_ink k n xs h (omega arith) short;
-      spelled = λ k. columns_spelled k 0 xs h;
+      keeps = λ k low. rw (inked k (omega (arith, low)), count) kept;
+      html = λ k. ends_ink k n ys plain (omega arith) (omega (arith, left, short));
+      spelled = λ k. columns_spelled k c ys plain ∙ ap (λ m. drop (min k m) ys) back;
     }
   where
     xs : List ℕ
     xs = bytes_between text l.start l.end
 
+    ys : List ℕ
+    ys = drop c xs
+
     n : ℕ
-    n = spaces_of xs
+    n = spaces_of ys
 
     whole : List Cell
     whole = cells_at l.start [] xs
 
     rest : List Cell
-    rest = cells (drop n xs)
+    rest = cells (drop n ys)
+
+    plain : IsPlain ys
+    plain = drop_plain c xs h
+
+    left : length ys ≡ length xs - c
+    left = length-drop c xs
 
     ordered : l.start ≤ l.end
     ordered = sound.order
@@ -240,8 +251,8 @@ code_facts text l h fits sound =
     wide : l.start + length xs ≡ l.end
     wide = omega (arith, between_length text l.start l.end ordered in_text, ordered)
 
-    most : n ≤ length xs
-    most = spaces_low xs
+    most : n ≤ length ys
+    most = spaces_low ys
 
     short : length xs + 3 < 2 ^ 64
     short = omega (arith, wide, in_text, fits)
@@ -249,37 +260,52 @@ code_facts text l h fits sound =
     count : length whole ≡ length xs
     count = length_kept l.start [] xs
 
-    behind : Behind n whole rest
-    behind = behind_at l.start xs n most h short
+    back : n ≡ c + n - c
+    back = omega arith
 
-    cursor_in : (c : ℕ) → c ≤ n → (first_cursor (cells (drop c xs))).ink ≡ spaces_of (drop c xs)
-    cursor_in c low =
-        let inner : IsPlain (drop c xs) = drop_plain c xs h in
-        let fewer : length (drop c xs) + 3 < 2 ^ 64 = omega (arith, length-drop c xs, short) in
-        ap (λ cs. (first_cursor cs).ink) (plain_cells 0 (drop c xs) (no_tab (drop c xs) inner)) ∙ ap (λ (x : Cursor). x.ink) (cursor_same 0 (drop c xs) inner fewer)
+    behind_in : (k : ℕ) → k ≤ n → Behind (c + k) whole (cells (drop k ys))
+    behind_in k low = subst (λ zs. Behind (c + k) whole (cells zs)) (sym (drop-drop k c xs)) (behind_at l.start xs (c + k) (omega (arith, low, most, left, inside)) h short)
+
+    behind : Behind (c + n) whole rest
+    behind = behind_in n (omega arith)
+
+    cursor_in : (k : ℕ) → k ≤ n → (first_cursor (cells (drop k ys))).ink ≡ spaces_of (drop k ys)
+    cursor_in k low =
+        let inner : IsPlain (drop k ys) = drop_plain k ys plain in
+        let fewer : length (drop k ys) + 3 < 2 ^ 64 = omega (arith, length-drop k ys, left, short) in
+        ap (λ cs. (first_cursor cs).ink) (plain_cells 0 (drop k ys) (no_tab (drop k ys) inner)) ∙ ap (λ (x : Cursor). x.ink) (cursor_same 0 (drop k ys) inner fewer)
+        ∙ (let q : 0 + spaces_of (drop k ys) ≡ spaces_of (drop k ys) = omega arith in q)
 
     no_spaces : (first_cursor rest).ink ≡ 0
-    no_spaces = cursor_in n (omega arith) ∙ (let q : n + spaces_of (drop n xs) ≡ n = spaces_dropped n xs h (omega arith) in let r : spaces_of (drop n xs) ≡ 0 = omega (arith, q) in r)
+    no_spaces = cursor_in n (omega arith) ∙ (let q : n + spaces_of (drop n ys) ≡ n = spaces_dropped n ys plain (omega arith) in let r : spaces_of (drop n ys) ≡ 0 = omega (arith, q) in r)
 
-    narrow : nat_le (n - 0) 3 ≡ nat_lt (indent (part_of xs)) 4
-    narrow = let q : indent (part_of xs) ≡ n = indent_same xs h in grind (arith, q, nat_tests)
+    narrow : nat_le (c + n - c) 3 ≡ nat_lt (indent (part_at c ys)) 4
+    narrow = let q : indent (part_at c ys) ≡ n = indent_same c ys plain in grind (arith, q, nat_tests)
 
-    placed : (c : ℕ) → c ≤ n → cell_place whole c l.end ≡ l.start + c
-    placed c low = place_there l.start xs c l.end (omega (arith, low, most)) (omega (arith, wide)) (omega (arith, in_text, fits))
+    placed : (k : ℕ) → k ≤ n → cell_place whole (c + k) l.end ≡ l.start + (c + k)
+    placed k low = place_there l.start xs (c + k) l.end (omega (arith, low, most, left, inside)) (omega (arith, wide)) (omega (arith, in_text, fits))
 
-    later : Fed text l → (c : ℕ) → c ≤ n → bytes_between text (l.start + c) l.next ≡ drop c xs ++ 10 ∷ []
-    later fed c low =
+    later : Fed text l → (k : ℕ) → k ≤ n → bytes_between text (l.start + (c + k)) l.next ≡ drop k ys ++ 10 ∷ []
+    later fed k low =
         let long : length (bytes_between text l.start l.next) ≡ length (xs ++ 10 ∷ []) = ap length fed.bytes in
         let more : length (xs ++ 10 ∷ []) ≡ length xs + 1 = length-append xs (10 ∷ []) in
         let further : l.end < l.next = fed.further in
-        between_further text l.start c l.next (omega (arith, low, most, wide, further)) (between_within text l.start l.next (omega (arith, long, more)))
-        ∙ ap (drop c) fed.bytes ∙ drop_more_front c xs (10 ∷ []) (omega (arith, low, most))
+        between_further text l.start (c + k) l.next (omega (arith, low, most, left, inside, wide, further)) (between_within text l.start l.next (omega (arith, long, more)))
+        ∙ ap (drop (c + k)) fed.bytes ∙ drop_more_front (c + k) xs (10 ∷ []) (omega (arith, low, most, left, inside))
+        ∙ ap (λ zs. zs ++ 10 ∷ []) (sym (drop-drop k c xs))
 
-    inked : (c : ℕ) → c ≤ n → ink_from whole c ≡ n
-    inked c low =
-        ap (ink_from whole) (let q : c ≡ c + 0 = omega arith in q)
-        ∙ ink_on c whole (cells (drop c xs)) 0 (behind_at l.start xs c (omega (arith, low, most)) h short) (omega arith)
-        ∙ ap (λ k. c + k) (cursor_in c low) ∙ spaces_dropped c xs h low
+    inked : (k : ℕ) → k ≤ n → ink_from whole (c + k) ≡ c + n
+    inked k low =
+        ap (ink_from whole) (let q : c + k ≡ c + k + 0 = omega arith in q)
+        ∙ ink_on (c + k) whole (cells (drop k ys)) 0 (behind_in k low) (omega arith)
+        ∙ ap (λ m. c + k + m) (ink_first k low)
+        ∙ (let q : k + spaces_of (drop k ys) ≡ n = spaces_dropped k ys plain low in let r : c + k + spaces_of (drop k ys) ≡ c + n = omega (arith, q) in r)
+      where
+        ink_first : (k : ℕ) → k ≤ n → ink_from (cells (drop k ys)) 0 ≡ spaces_of (drop k ys)
+        ink_first k low = cursor_in k low
 
-    kept : nat_lt n (length xs) ≡ not (is_blank xs)
-    kept = let q : nat_le (length xs) n ≡ is_blank xs = blank_same xs in grind (arith, q, most, nat_tests)
+    blank_left : nat_le (length xs) (c + n) ≡ is_blank ys
+    blank_left = let q : nat_le (length ys) n ≡ is_blank ys = blank_same ys in grind (arith, q, most, left, inside, nat_tests)
+
+    kept : nat_lt (c + n) (length xs) ≡ not (is_blank ys)
+    kept = let q : nat_le (length ys) n ≡ is_blank ys = blank_same ys in grind (arith, q, most, left, inside, nat_tests)

@@ -10,8 +10,8 @@ use Rattle.tocmark_read_lines.specs.Cells.{bytes_of, cells_at, run_of, first_cur
 use Rattle.tocmark_read_lines.specs.declared.cell.Cursor.{Cursor}
 use Rattle.tocmark_read_lines.proofs.Columns.{bytes_kept, length_kept, plain_cells, run_asked}
 use Rattle.tocmark_commonmark.specs.Lines.{Part, is_blank_byte, is_blank, column_after, indent, cells}
-use Rattle.tocmark_block_laws.specs.Leaves.{IsPlain}
-use Rattle.tocmark_block_laws.proofs.Columns.{Behind, le_on, front_low, plus_zero}
+use Rattle.tocmark_block_laws.specs.Quotes.{IsPlain}
+use Rattle.tocmark_block_laws.proofs.Columns.{Behind, le_on, front_low}
 use Rattle.tocmark_block_laws.proofs.Texts.{front_same, between_is, between_length}
 use Rattle.tocmark_block_laws.proofs.TextLines.{Plain, plain_head, no_tab, drop_plain, front_plain}
 
@@ -19,13 +19,13 @@ use Rattle.tocmark_block_laws.proofs.TextLines.{Plain, plain_head, no_tab, drop_
 abbrev pub spaces_of : List ℕ → ℕ
 spaces_of xs = length (take_while is_blank_byte xs)
 
--- the line of a document
-abbrev pub part_of : List ℕ → Part
-part_of xs = record { column = 0; spaces = 0; bytes = xs }
+-- what is left of a line from a column on
+abbrev pub part_at : ℕ → List ℕ → Part
+part_at c ys = record { column = c; spaces = 0; bytes = ys }
 
--- a cursor at the front of a line with so many spaces
-abbrev pub at_ink : ℕ → Cursor
-at_ink n = record { column = 0; ink = n }
+-- a cursor at a column, if this is left of the line
+abbrev pub place_at : ℕ → List ℕ → Cursor
+place_at c ys = record { column = c; ink = c + spaces_of ys }
 
 columns_counted : (xs : List ℕ) (c : ℕ) → IsPlain xs → fold column_after c xs ≡ c + length xs
 columns_counted [] c h = omega arith
@@ -33,10 +33,12 @@ columns_counted (b ∷ bs) c h =
     let p : Plain b bs = plain_head b bs h in
     rw p.tab (columns_counted bs (c + 1) p.more ∙ (let q : c + 1 + length bs ≡ c + suc (length bs) = omega arith in q))
 
-pub indent_same : (xs : List ℕ) → IsPlain xs → indent (part_of xs) ≡ spaces_of xs
-indent_same xs h =
-    let all : fold column_after 0 (take_while is_blank_byte xs) ≡ 0 + spaces_of xs = columns_counted (take_while is_blank_byte xs) 0 (front_plain (prefix_len is_blank_byte xs) xs h) in
-    omega (arith, all)
+-- the column of the ink
+pub ink_at : (c : ℕ) (xs : List ℕ) → IsPlain xs → fold column_after c (take_while is_blank_byte xs) ≡ c + spaces_of xs
+ink_at c xs h = columns_counted (take_while is_blank_byte xs) c (front_plain (prefix_len is_blank_byte xs) xs h)
+
+pub indent_same : (c : ℕ) (xs : List ℕ) → IsPlain xs → indent (part_at c xs) ≡ spaces_of xs
+indent_same c xs h = omega (arith, ink_at c xs h)
 
 pub spaces_low : (xs : List ℕ) → spaces_of xs ≤ length xs
 spaces_low xs = front_low is_blank_byte xs
@@ -49,12 +51,15 @@ run_same start xs h =
     run_asked (cells_at start [] xs) 0 32 ∙ ap (λ (ys : List ℕ). length (take_while (λ x. x == 32) ys)) (bytes_kept start [] xs)
     ∙ length-prefix_len (λ x. x == 32) xs ∙ front_same xs h ∙ sym (length-prefix_len is_blank_byte xs)
 
-pub cursor_same : (start : ℕ) (xs : List ℕ) → IsPlain xs → length xs + 3 < 2 ^ 64 → first_cursor (cells_at start [] xs) ≡ at_ink (spaces_of xs)
+pub cursor_same : (start : ℕ) (xs : List ℕ) → IsPlain xs → length xs + 3 < 2 ^ 64 → first_cursor (cells_at start [] xs) ≡ place_at 0 xs
 unfolding first_cursor
 cursor_same start xs h fits =
     let low : spaces_of xs ≤ length xs = spaces_low xs in
-    let sum : plus 0 (spaces_of xs) ≡ spaces_of xs = plus_zero (spaces_of xs) (omega arith) in
-    ap (λ n. at_ink (plus 0 n)) (run_same start xs h) ∙ ap at_ink sum
+    let sum : plus 0 (spaces_of xs) ≡ 0 + spaces_of xs = omega (arith, low, fits) in
+    ap at_ink (ap (plus 0) (run_same start xs h) ∙ sum)
+  where
+    at_ink : ℕ → Cursor
+    at_ink n = record { column = 0; ink = n }
 
 -- the columns of a line from one on
 pub behind_at : (start : ℕ) (xs : List ℕ) (n : ℕ) → n ≤ length xs → IsPlain xs → length xs + 3 < 2 ^ 64 → Behind n (cells_at start [] xs) (cells (drop n xs))
@@ -95,7 +100,7 @@ ink_first (x ∷ xs) h = by (is_blank_byte x) refl (λ e. ink_first xs e)
         let r : (suc (spaces_of xs) == suc (length xs)) ≡ (spaces_of xs == length xs) = grind (arith, nat_tests) in
         later count (again (sym (ap (λ n. n == suc (length xs)) count ∙ r) ∙ h))
 
-drop_byte : (s : ℕ) (text : List ℕ) → byte_at text s ≡ byte_at (drop s text) 0
+pub drop_byte : (s : ℕ) (text : List ℕ) → byte_at text s ≡ byte_at (drop s text) 0
 drop_byte zero text = refl
 drop_byte (suc s) [] = refl
 drop_byte (suc s) (x ∷ xs) = drop_byte s xs

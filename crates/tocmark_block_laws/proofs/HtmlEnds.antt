@@ -7,7 +7,7 @@ use Rattle.tocmark_read_scan.proofs.PlainTests.{eq_of}
 use Rattle.tocmark_read_lines.specs.Html.{same_word, holds_from, holds, holds_raw_end, html_ends}
 use Rattle.tocmark_read_lines.specs.declared.html.HtmlKind.{HtmlKind}
 use Rattle.tocmark_read_lines.specs.declared.html.HtmlKind.TheVariants as html
-use Rattle.tocmark_block_laws.specs.Leaves.{IsPlain}
+use Rattle.tocmark_block_laws.specs.Quotes.{IsPlain}
 use Rattle.tocmark_block_laws.proofs.TextLines.{Plain, plain_head}
 use Rattle.tocmark_block_laws.proofs.Fronts.{spaces_of, spaces_next, spaces_none}
 use Rattle.tocmark_block_laws.proofs.Columns.{between_later}
@@ -50,7 +50,7 @@ holds_later w ys (b ∷ bs) p fits =
     ap (λ zs. if same_word zs w then true else holds_from (32 ∷ ys) w (p + 1 + 1) bs) (further ys p (length w) fits)
     ∙ ap (λ k. if same_word (bytes_between ys p (plus p (length w))) w then true else k) (holds_later w ys bs (p + 1) fits)
 
--- a word doesn't stand where the space is
+-- a word isn't where the space is
 first_none : (w ys : List ℕ) (to : ℕ) → Inked w → same_word (bytes_between (32 ∷ ys) 0 to) w ≡ false
 first_none w ys to h = by (nat_le 0 to && nat_le to (length (32 ∷ ys))) (to - 0)
   where

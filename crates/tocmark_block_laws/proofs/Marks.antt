@@ -222,7 +222,7 @@ underline_on n w r h =
     near : plus 0 marks ≡ marks
     near = plus_zero marks (omega (arith, low, fits))
 
--- markers of items, where a byte stands
+-- markers of items, where a byte is
 
 bullet_on : (n : ℕ) (w r : List Cell) → Behind n w r → bullet_at w n ≡ bullet_at r 0
 unfolding bullet_at

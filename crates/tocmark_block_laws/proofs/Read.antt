@@ -1,320 +1,58 @@
--- Of a text without containers the reader finds the blocks that are declared.
-use Rattle.std.proofs.Common.{◌≡◌, ℕ, zero, suc, ◌+◌, ◌^◌, ◌<◌, ◌≤◌, Bool, true, false, not, ◌||◌, if◌then◌else◌, min, nat_le, nat_lt, List, [], ◌∷◌, ◌++◌, length, map, drop, refl, ap, sym, subst, ◌∙◌, arith, append-nil, length-append, true≢false}
+-- Of a text without lists and definitions the reader finds the blocks that are declared.
+use Rattle.std.proofs.Common.{◌≡◌, ℕ, zero, suc, ◌+◌, ◌-◌, ◌^◌, ◌<◌, ◌≤◌, Bool, true, false, not, ◌&&◌, ◌||◌, min, nat_le, List, [], ◌∷◌, ◌++◌, length, map, drop, refl, ap, sym, subst, ◌∙◌, arith, append-nil, length-append, true≢false}
 use Rattle.std.specs.Prelude.{Option, Some, None}
-use Rattle.std.specs.List.{AllByRecursion, fold}
+use Rattle.std.specs.List.{AllByRecursion, fold, list_any, list_all}
 use Rattle.std.proofs.lemmas.Bool.Decides.{nat_tests}
-use Rattle.std.proofs.lemmas.List.{length-map, map-append}
-use Rattle.tocmark_event.specs.declared.event.HeadingLevel.{HeadingLevel}
+use Rattle.std.proofs.lemmas.List.{length-map}
 use Rattle.tocmark_read_scan.specs.Basic.{plus, bytes_between}
-use Rattle.tocmark_read_lines.specs.Cells.{cell_place, first_cursor}
+use Rattle.tocmark_read_lines.specs.Cells.{cells_at, cell_place, first_cursor}
 use Rattle.tocmark_read_lines.specs.Lines.{lines_of}
 use Rattle.tocmark_read_lines.specs.Marks.{heading_at, fence_at, tail_of, is_rule, marker_at}
 use Rattle.tocmark_read_lines.specs.declared.beginnings.Fence.{Fence}
-use Rattle.tocmark_read_lines.specs.declared.beginnings.Marker.{Marker}
-use Rattle.tocmark_read_lines.specs.declared.html.HtmlKind.{HtmlKind}
-use Rattle.tocmark_read_blocks.specs.Codes.{code_taken, html_ended}
-use Rattle.tocmark_read_lines.specs.declared.html.HtmlKind.TheVariants as html
 use Rattle.tocmark_read_lines.specs.declared.beginnings.Heading.{Heading as HeadingMark}
+use Rattle.tocmark_read_lines.specs.declared.beginnings.Marker.{Marker}
 use Rattle.tocmark_read_lines.specs.declared.cell.Cell.{Cell}
+use Rattle.tocmark_read_lines.specs.declared.cell.Cursor.{Cursor}
+use Rattle.tocmark_read_lines.specs.declared.html.HtmlKind.{HtmlKind}
 use Rattle.tocmark_read_lines.specs.declared.line.Line.{Line}
-use Rattle.tocmark_read_page.specs.Definitions.{DefinitionView, definitions_from}
+use Rattle.tocmark_read_page.specs.Leaves.{is_paragraph}
 use Rattle.tocmark_read_page.specs.Pages.{State, closed_to}
-use Rattle.tocmark_read_page.specs.Pieces.{piece_of, heading_piece}
+use Rattle.tocmark_read_page.specs.Pieces.{piece_of, heading_piece, keeps_line}
 use Rattle.tocmark_read_page.specs.declared.page.Block.{Block as ReadBlock}
 use Rattle.tocmark_read_page.specs.declared.page.BlockKind.TheVariants as kind
 use Rattle.tocmark_read_page.specs.declared.piece.Piece.{Piece}
 use Rattle.tocmark_read_page.specs.declared.leaf.Leaf.TheVariants as leaf
 use Rattle.tocmark_read_constructs.specs.Metadata.{known_of}
 use Rattle.tocmark_read_blocks.specs.Blocks.{line_taken, page_in, blocks_in, started}
+use Rattle.tocmark_read_blocks.specs.Codes.{code_taken, html_ended}
 use Rattle.tocmark_read_blocks.specs.declared.leaf.LeafStart.{LeafStart}
 use Rattle.tocmark_read_blocks.specs.declared.leaf.LeafStart.TheVariants as start
 use Rattle.tocmark_commonmark.specs.Lines.{Line as DeclaredLine, Part, is_blank, indent, ink, without_last_blanks, line_bytes, line_ink, cells, lines_of as declared_lines}
-use Rattle.tocmark_commonmark.specs.Tree.{Blocks, none, more, Rule, Heading, Paragraph, Found, ended, unended}
-use Rattle.tocmark_commonmark.specs.Beginnings.{Beginning, BlankLine, CodeLine, QuoteLine, HeadingLine, FenceLine, HtmlLine, RuleLine, ItemLine, TextLine, LazyLine, first_of_these, html_if, beginning_of, beginning, interrupts, begins_with, heading_text}
-use Rattle.tocmark_commonmark.specs.Leaves.{indented_code, fenced_code, html_block, definitions, text_of, underline, underlined, Turn, turn_of, turn, turned, paragraph_lines, paragraph_with, paragraph_of}
+use Rattle.tocmark_commonmark.specs.Tree.{Blocks, none, more, Rule, Heading, Found, ended, tree, defined}
+use Rattle.tocmark_commonmark.specs.Beginnings.{Beginning, BlankLine, CodeLine, QuoteLine, HeadingLine, FenceLine, HtmlLine, RuleLine, ItemLine, TextLine, LazyLine, first_of_these, html_if, beginning_of, beginning, begins_with, heading_text}
+use Rattle.tocmark_commonmark.specs.Containers.{goes_on, front, in_quote_as, in_quote, quote, quote_with}
+use Rattle.tocmark_commonmark.specs.Leaves.{indented_code, fenced_code, html_block, paragraph_lines, paragraph_of}
 use Rattle.tocmark_commonmark.specs.Blocks.{first_block, blocks_from, size, blocks, blocks_of}
-use Rattle.tocmark_block_laws.specs.Trees.{line_text, leaf_text}
-use Rattle.tocmark_block_laws.specs.Leaves.{IsPlain, ends_with_feed, is_leaf, has_label_end, IsLeafLine, LeavesAreDeclared}
-use Rattle.tocmark_block_laws.proofs.TextLines.{declared, lines_same, Sound, lines_sound, lines_few}
+use Rattle.tocmark_block_laws.specs.Trees.{told, tree_of, placed_in, leaf_text}
+use Rattle.tocmark_block_laws.specs.Quotes.{is_special, IsPlain, ends_with_feed, is_leaf, content_of, is_covered, QuotesAreDeclared}
+use Rattle.tocmark_block_laws.proofs.TextLines.{declared, lines_same, Sound, lines_sound, lines_few, between_plain}
+use Rattle.tocmark_block_laws.proofs.Apart.{after_these}
+use Rattle.tocmark_block_laws.proofs.Feeds.{has_feed, IsFeedless, feedless_lines}
+use Rattle.tocmark_block_laws.proofs.Paragraphs.{first_draft, text_begins}
 use Rattle.tocmark_block_laws.proofs.Marks.{heading_later}
-use Rattle.tocmark_block_laws.proofs.Texts.{between_none}
+use Rattle.tocmark_block_laws.proofs.Texts.{between_none, between_length}
+use Rattle.tocmark_block_laws.proofs.Fronts.{part_at, place_at, cursor_same}
+use Rattle.tocmark_block_laws.proofs.Codes.{Fed, CodeFacts, Taken, lines_fed}
+use Rattle.tocmark_block_laws.proofs.Open.{Open, with_block, entered}
+use Rattle.tocmark_block_laws.proofs.Starts.{IsLeafLine, html_start, start_as, is_blank_kind, is_quote_kind, left_at, HeadingFacts}
+use Rattle.tocmark_block_laws.proofs.Seen.{Seen, FactsOf, facts, Next}
+use Rattle.tocmark_block_laws.proofs.Pages.{here, closed, with_open, leaf_page, begin, past, piece_in, rule_block, ended_block, quote_block, plain_begins, blank_passes, rule_comes, interrupts_first, has_words, words, piece_if, heading_comes, takes_kept, fence_comes, indented_comes, html_comes, quote_kind_is, next_seen, quote_enters}
+use Rattle.tocmark_block_laws.proofs.Told.{also, Run, Holds, holds_none, holds_more, holds_read, heading_told}
+use Rattle.tocmark_block_laws.proofs.Ends.{Coming, Plainly, shown, weigh, taken, Legit, In, Lines, said, Shuts, Ends, Reads, ends_cons, Again, goal_of, from_there}
+use Rattle.tocmark_block_laws.proofs.ReadCodes.{same_column, says_at, fence_read, code_read}
 use Rattle.tocmark_block_laws.proofs.ReadHtml.{html_next, html_read}
-use Rattle.tocmark_block_laws.proofs.Starts.{html_start, start_as, is_blank_kind, may_underline, HeadingFacts, Facts, leaf_facts}
-use Rattle.tocmark_block_laws.proofs.Pages.{here, closed, paragraph_page, rule_block, ended_block, piece_in, closed_begins, open_begins, blank_passes, rule_comes, text_begins, text_goes_on, paragraph_ends, paragraph_shuts, closes_first, same_start, underline_comes, piece_if, has_words, words, heading_comes, leaf_page, takes_kept, fence_comes, indented_comes, interrupts_first, html_comes}
-use Rattle.tocmark_block_laws.proofs.Ends.{final, Ends, ends_cons, ends_closed, no_blocks, Goal, from_there}
-use Rattle.tocmark_block_laws.proofs.ReadCodes.{all_append, says_at, same_column, fence_read, code_read}
-use Rattle.tocmark_block_laws.proofs.Labels.{AreClear, defines_none, reads_none}
-use Rattle.tocmark_block_laws.proofs.Codes.{Fed, Taken as LineTaken, lines_fed}
-use Rattle.tocmark_block_laws.proofs.Fronts.{part_of}
-use Rattle.tocmark_block_laws.proofs.Told.{also, also_none, Holds, holds_none, holds_more, holds_read, paragraph_told, heading_told}
-
--- paragraphs: what a line is to the one above it
-
-turn_blank : (k : Beginning) → is_blank_kind k ≡ true → (u v : Option HeadingLevel) → turn_of k u ≡ turn_of k v
-turn_blank BlankLine e u v = refl
-turn_blank CodeLine e u v = absurd (true≢false (sym e))
-turn_blank QuoteLine e u v = absurd (true≢false (sym e))
-turn_blank (HeadingLine h) e u v = absurd (true≢false (sym e))
-turn_blank (FenceLine f) e u v = absurd (true≢false (sym e))
-turn_blank (HtmlLine k) e u v = absurd (true≢false (sym e))
-turn_blank RuleLine e u v = absurd (true≢false (sym e))
-turn_blank (ItemLine m) e u v = absurd (true≢false (sym e))
-turn_blank TextLine e u v = absurd (true≢false (sym e))
-turn_blank LazyLine e u v = absurd (true≢false (sym e))
-
-underlined_as : (t : List ℕ) (ts : List (List ℕ)) (u : Option HeadingLevel) → definitions (t ∷ ts) ≡ ([], 0) → underlined (t ∷ ts) u ≡ u
-underlined_as t ts None d = refl
-underlined_as t ts (Some level) d =
-    ap (λ (x : List DefinitionView × ℕ). if nat_lt (x.1) (suc (length ts)) then Some level else None) d
-    ∙ (let some : nat_lt 0 (suc (length ts)) ≡ true = grind (arith, nat_tests) in ap (λ k. if k then Some level else None) some)
-
-turn_same : (text : List ℕ) (l : Line) (f : Facts text l) (t : List ℕ) (ts : List (List ℕ)) → definitions (t ∷ ts) ≡ ([], 0) → turn (t ∷ ts) (declared text l) ≡ turn_of f.kind f.level
-turn_same text l f t ts d = ap (λ k. turn_of k (underline (t ∷ ts) (declared text l))) f.begins ∙ by (is_blank_kind f.kind) refl
-  where
-    by : (b : Bool) → is_blank_kind f.kind ≡ b → turn_of f.kind (underline (t ∷ ts) (declared text l)) ≡ turn_of f.kind f.level
-    by true e = turn_blank f.kind e (underline (t ∷ ts) (declared text l)) f.level
-    by false e = ap (turn_of f.kind) (f.under e (t ∷ ts) ∙ underlined_as t ts f.level d)
-
--- what is declared of a paragraph that ends
-
-abbrev text_found : ℕ → List ℕ → List (List ℕ) → Found
-text_found at t ts = unended (Paragraph (text_of (t ∷ ts))) (at + 0) (at + 0 + length ts)
-
-abbrev heading_found : ℕ → HeadingLevel → List ℕ → List (List ℕ) → Found
-heading_found at level t ts = ended (Heading level (text_of (t ∷ ts))) (at + 0) (at + length (t ∷ ts))
-
-stops_as : (fuel at : ℕ) (whole rest : List DeclaredLine) (t : List ℕ) (ts : List (List ℕ)) → definitions (t ∷ ts) ≡ ([], 0) → drop (length (t ∷ ts)) whole ≡ rest
-    → text_found at t ts ∷ blocks_from fuel (at + length (t ∷ ts)) rest ≡ from_there fuel at whole (paragraph_of at (t ∷ ts, None))
-stops_as fuel at whole rest t ts d e =
-    sym (ap (λ (x : List DefinitionView × ℕ). from_there fuel at whole (paragraph_with at (t ∷ ts) None x)) d
-    ∙ ap (λ ls. text_found at t ts ∷ blocks_from fuel (at + length (t ∷ ts)) ls) e)
-
-underlines_as : (fuel at : ℕ) (whole rest : List DeclaredLine) (t : List ℕ) (ts : List (List ℕ)) (level : HeadingLevel) → definitions (t ∷ ts) ≡ ([], 0) → drop (length (t ∷ ts) + 1) whole ≡ rest
-    → heading_found at level t ts ∷ blocks_from fuel (at + (length (t ∷ ts) + 1)) rest ≡ from_there fuel at whole (paragraph_of at (t ∷ ts, Some level))
-underlines_as fuel at whole rest t ts level d e =
-    sym (ap (λ (x : List DefinitionView × ℕ). from_there fuel at whole (paragraph_with at (t ∷ ts) (Some level) x)) d
-    ∙ ap (λ ls. heading_found at level t ts ∷ blocks_from fuel (at + (length (t ∷ ts) + 1)) ls) e)
-
-drop_next : (n : ℕ) (xs : List DeclaredLine) (y : DeclaredLine) (ys : List DeclaredLine) → drop n xs ≡ y ∷ ys → drop (suc n) xs ≡ ys
-drop_next zero [] y ys e = absurd cc
-drop_next zero (x ∷ xs) y ys e = let q : xs ≡ ys = cc in q
-drop_next (suc n) [] y ys e = absurd cc
-drop_next (suc n) (x ∷ xs) y ys e = drop_next n xs y ys e
-
--- what is known of an open paragraph
-pub record Opened (text : List ℕ) (fuel : ℕ) (whole : List DeclaredLine) (ls : List Line) (ps : List Piece) (q : Piece) (qs : List Piece) (t : List ℕ) (ts : List (List ℕ)) : Type 0 where
-  pub texts : map (line_text text) (q ∷ qs) ≡ t ∷ ts
-  pub bracket : has_label_end text ≡ true → begins_with 91 t ≡ false
-  pub clear : has_label_end text ≡ false → AreClear (t ∷ ts)
-  pub plain : IsPlain text
-  pub defines : definitions (t ∷ ts) ≡ ([], 0)
-  pub reads : definitions_from text (q ∷ qs) [] ≡ ([], 0)
-  pub rest : drop (length (t ∷ ts)) whole ≡ map (declared text) ls
-  pub room : length ps + suc (length qs) + length ls + 1 < 2 ^ 64
-  pub few : length ls ≤ fuel
-
--- the block of the paragraph, when it ends
-abbrev ended_as : List Piece → Piece → List Piece → ℕ → ReadBlock
-ended_as ps q qs end = ended_block kind.Paragraph ps (q ∷ qs) q.start end
-
-abbrev shut : List ReadBlock → List Piece → Piece → List Piece → ℕ → ℕ → State
-shut bs ps q qs end number = closed (bs ++ ended_as ps q qs end ∷ []) (ps ++ q ∷ qs) end number (length (ps ++ q ∷ qs))
-
-paragraph_holds : (text : List ℕ) (fuel : ℕ) (whole : List DeclaredLine) (ls : List Line) (bs : List ReadBlock) (ps : List Piece) (q : Piece) (qs : List Piece) (end : ℕ) (found : Blocks) (t : List ℕ) (ts : List (List ℕ))
-    → Holds text bs ps found → Opened text fuel whole ls ps q qs t ts → Holds text (bs ++ ended_as ps q qs end ∷ []) (ps ++ q ∷ qs) (also found (more (Paragraph (text_of (t ∷ ts))) none))
-paragraph_holds text fuel whole ls bs ps q qs end found t ts h o =
-    holds_more text bs ps found (ended_as ps q qs end) (Paragraph (text_of (t ∷ ts))) (q ∷ qs) h refl (paragraph_told text ps q qs (t ∷ ts) q.start end o.texts)
-
--- the paragraph ends with the text
-paragraph_last : (text : List ℕ) (fuel at : ℕ) (whole : List DeclaredLine) (bs : List ReadBlock) (ps : List Piece) (q : Piece) (qs : List Piece) (end number : ℕ) (found : Blocks) (t : List ℕ) (ts : List (List ℕ))
-    → Holds text bs ps found → Opened text fuel whole [] ps q qs t ts → Ends text (closed_to text 0 (paragraph_page bs ps (q ∷ qs) q.start end number)) found (from_there fuel at whole (paragraph_of at (t ∷ ts, None)))
-paragraph_last text fuel at whole bs ps q qs end number found t ts h o =
-    subst (λ (fs : List Found). Ends text (closed_to text 0 (paragraph_page bs ps (q ∷ qs) q.start end number)) found fs) is
-    (subst (λ (s : State). Ends text s found (text_found at t ts ∷ [])) (sym (paragraph_ends text bs ps q qs end number o.reads room))
-    (ends_cons text (shut bs ps q qs end number) found (text_found at t ts) [] (λ y. refl) refl
-    (record { blocks = holds_read text (bs ++ ended_as ps q qs end ∷ []) (ps ++ q ∷ qs) found' (paragraph_holds text fuel whole [] bs ps q qs end found t ts h o) ∙ sym (also_none found'); read = refl; declares = refl })))
-  where
-    found' : Blocks
-    found' = also found (more (Paragraph (text_of (t ∷ ts))) none)
-
-    room : length ps + 1 < 2 ^ 64
-    room = let all : length ps + suc (length qs) + 0 + 1 < 2 ^ 64 = o.room in omega (arith, all)
-
-    is : text_found at t ts ∷ [] ≡ from_there fuel at whole (paragraph_of at (t ∷ ts, None))
-    is = ap (λ (fs : List Found). text_found at t ts ∷ fs) (sym (no_blocks fuel (at + length (t ∷ ts))))
-        ∙ stops_as fuel at whole [] t ts o.defines o.rest
-
--- the paragraph ends before a line, which does what it does where nothing is open
-paragraph_stops : (text : List ℕ) (fuel at : ℕ) → Goal text fuel → (whole : List DeclaredLine) (l : Line) (ls : List Line) (f : Facts text l) (bs : List ReadBlock) (ps : List Piece) (q : Piece) (qs : List Piece) (end number : ℕ) (found : Blocks) (t : List ℕ) (ts : List (List ℕ)) (b : LeafStart)
-    → Holds text bs ps found → Opened text fuel whole (l ∷ ls) ps q qs t ts → AllByRecursion (Facts text) (l ∷ ls) → start_as f.spaces false f.level f.kind ≡ b
-    → started b text f.columns l (tail_of f.columns) (here f.spaces) (paragraph_page bs ps (q ∷ qs) q.start end number) ≡ started b text f.columns l (tail_of f.columns) (here f.spaces) (shut bs ps q qs end number)
-    → Ends text (final text (started b text f.columns l (tail_of f.columns) (here f.spaces) (paragraph_page bs ps (q ∷ qs) q.start end number)) ls) found (from_there fuel at whole (paragraph_of at (t ∷ ts, None)))
-paragraph_stops text fuel at again whole l ls f bs ps q qs end number found t ts b h o facts e same =
-    subst (λ (s : State). Ends text (final text s ls) found (from_there fuel at whole (paragraph_of at (t ∷ ts, None)))) taken
-    (subst (λ (fs : List Found). Ends text (final text (shut bs ps q qs end number) (l ∷ ls)) found fs) (stops_as fuel at whole (map (declared text) (l ∷ ls)) t ts o.defines o.rest)
-    (ends_cons text (final text (shut bs ps q qs end number) (l ∷ ls)) found (text_found at t ts) (blocks_from fuel (at + length (t ∷ ts)) (map (declared text) (l ∷ ls))) (λ y. refl) refl
-    (again (at + length (t ∷ ts)) (l ∷ ls) (bs ++ ended_as ps q qs end ∷ []) (ps ++ q ∷ qs) end number (length (ps ++ q ∷ qs)) (also found (more (Paragraph (text_of (t ∷ ts))) none))
-    (paragraph_holds text fuel whole (l ∷ ls) bs ps q qs end found t ts h o) room o.few facts)))
-  where
-    room : length (ps ++ q ∷ qs) + suc (length ls) + 1 < 2 ^ 64
-    room = let all : length ps + suc (length qs) + suc (length ls) + 1 < 2 ^ 64 = o.room in let wide : length (ps ++ q ∷ qs) ≡ length ps + suc (length qs) = length-append ps (q ∷ qs) in omega (arith, wide, all)
-
-    taken : line_taken text (shut bs ps q qs end number) l ≡ started b text f.columns l (tail_of f.columns) (here f.spaces) (paragraph_page bs ps (q ∷ qs) q.start end number)
-    taken =
-        closed_begins text l f (bs ++ ended_as ps q qs end ∷ []) (ps ++ q ∷ qs) end number (length (ps ++ q ∷ qs))
-        ∙ ap (λ k. started k text f.columns l (tail_of f.columns) (here f.spaces) (shut bs ps q qs end number)) e ∙ sym same
-
--- an underline makes a heading of the paragraph
-paragraph_heads : (text : List ℕ) (fuel at : ℕ) → Goal text fuel → (whole : List DeclaredLine) (l : Line) (ls : List Line) (f : Facts text l) (bs : List ReadBlock) (ps : List Piece) (q : Piece) (qs : List Piece) (end number : ℕ) (found : Blocks) (t : List ℕ) (ts : List (List ℕ)) (level : HeadingLevel)
-    → Holds text bs ps found → Opened text fuel whole (l ∷ ls) ps q qs t ts → AllByRecursion (Facts text) (l ∷ ls)
-    → Ends text (final text (started (start.Underline level) text f.columns l (tail_of f.columns) (here f.spaces) (paragraph_page bs ps (q ∷ qs) q.start end number)) ls) found (from_there fuel at whole (paragraph_of at (t ∷ ts, Some level)))
-paragraph_heads text fuel at again whole l ls f bs ps q qs end number found t ts level h o facts =
-    subst (λ (s : State). Ends text (final text s ls) found (from_there fuel at whole (paragraph_of at (t ∷ ts, Some level)))) (sym (underline_comes text f.columns l f.spaces level bs ps q qs end number o.reads few_pieces))
-    (subst (λ (fs : List Found). Ends text (final text after ls) found fs) (underlines_as fuel at whole (map (declared text) ls) t ts level o.defines passed)
-    (ends_cons text (final text after ls) found (heading_found at level t ts) (blocks_from fuel (at + (length (t ∷ ts) + 1)) (map (declared text) ls)) (λ y. refl) refl
-    (again (at + (length (t ∷ ts) + 1)) ls (bs ++ b ∷ []) (ps ++ q ∷ qs) l.end l.number (length (ps ++ q ∷ qs)) (also found (more (Heading level (text_of (t ∷ ts))) none))
-    (holds_more text bs ps found b (Heading level (text_of (t ∷ ts))) (q ∷ qs) h refl (heading_told text level ps (q ∷ qs) (text_of (t ∷ ts)) q.start l.end (ap text_of o.texts)))
-    room fewer (facts.1))))
-  where
-    b : ReadBlock
-    b = ended_block (kind.Heading level None) ps (q ∷ qs) q.start l.end
-
-    after : State
-    after = closed (bs ++ b ∷ []) (ps ++ q ∷ qs) l.end l.number (length (ps ++ q ∷ qs))
-
-    all : length ps + suc (length qs) + suc (length ls) + 1 < 2 ^ 64
-    all = o.room
-
-    few_pieces : length ps + 1 < 2 ^ 64
-    few_pieces = omega (arith, all)
-
-    room : length (ps ++ q ∷ qs) + length ls + 1 < 2 ^ 64
-    room = let wide : length (ps ++ q ∷ qs) ≡ length ps + suc (length qs) = length-append ps (q ∷ qs) in omega (arith, wide, all)
-
-    fewer : length ls ≤ fuel
-    fewer = let k : suc (length ls) ≤ fuel = o.few in omega (arith, k)
-
-    passed : drop (length (t ∷ ts) + 1) whole ≡ map (declared text) ls
-    passed = ap (λ n. drop n whole) (let k : suc (length ts) + 1 ≡ suc (suc (length ts)) = omega arith in k) ∙ drop_next (suc (length ts)) whole (declared text l) (map (declared text) ls) o.rest
-
--- what is known of it with one more line
-opened_more : (text : List ℕ) (fuel : ℕ) (whole : List DeclaredLine) (l : Line) (ls : List Line) (f : Facts text l) (ps : List Piece) (q : Piece) (qs : List Piece) (t : List ℕ) (ts : List (List ℕ)) → is_blank_kind f.kind ≡ false
-    → Opened text fuel whole (l ∷ ls) ps q qs t ts → Opened text fuel whole ls ps q (qs ++ piece_in f.columns f.spaces l ∷ []) t (ts ++ line_ink (declared text l) ∷ [])
-opened_more text fuel whole l ls f ps q qs t ts e o =
-    record {
-      texts = texts;
-      bracket = o.bracket;
-      clear = clear;
-      plain = o.plain;
-      defines = none;
-      reads = reads_none text q (qs ++ p ∷ []) t (ts ++ line_ink dl ∷ []) o.plain texts none;
-      rest = ap (λ n. drop n whole) count ∙ drop_next (suc (length ts)) whole dl (map (declared text) ls) o.rest;
-      room = omega (arith, more_pieces, all);
-      few = omega (arith, k);
-    }
-  where
-    p : Piece
-    p = piece_in f.columns f.spaces l
-
-    dl : DeclaredLine
-    dl = declared text l
-
-    texts : map (line_text text) (q ∷ (qs ++ p ∷ [])) ≡ t ∷ (ts ++ line_ink dl ∷ [])
-    texts = map-append (line_text text) (q ∷ qs) (p ∷ []) ∙ ap (λ (xs : List (List ℕ)). xs ++ line_text text p ∷ []) o.texts ∙ ap (λ (x : List ℕ). (t ∷ ts) ++ x ∷ []) (f.ink e)
-
-    clear : has_label_end text ≡ false → AreClear (t ∷ (ts ++ line_ink dl ∷ []))
-    clear g = all_append (λ x. has_label_end x ≡ false) (t ∷ ts) (line_ink dl ∷ []) (o.clear g) (f.clear g, tt)
-
-    none : definitions (t ∷ (ts ++ line_ink dl ∷ [])) ≡ ([], 0)
-    none = defines_none text t (ts ++ line_ink dl ∷ []) o.bracket clear
-
-    all : length ps + suc (length qs) + suc (length ls) + 1 < 2 ^ 64
-    all = o.room
-
-    k : suc (length ls) ≤ fuel
-    k = o.few
-
-    more_pieces : length (qs ++ p ∷ []) ≡ length qs + 1
-    more_pieces = length-append qs (p ∷ [])
-
-    more_texts : length (ts ++ line_ink dl ∷ []) ≡ length ts + 1
-    more_texts = length-append ts (line_ink dl ∷ [])
-
-    count : suc (length (ts ++ line_ink dl ∷ [])) ≡ suc (suc (length ts))
-    count = omega (arith, more_texts)
-
--- the paragraph and a line after it
-paragraph_line : (text : List ℕ) (fuel at : ℕ) → Goal text fuel → (whole : List DeclaredLine) (l : Line) (ls : List Line) (f : Facts text l) (bs : List ReadBlock) (ps : List Piece) (q : Piece) (qs : List Piece) (end number : ℕ) (found : Blocks) (t : List ℕ) (ts : List (List ℕ))
-    → Holds text bs ps found → Opened text fuel whole (l ∷ ls) ps q qs t ts → AllByRecursion (Facts text) (l ∷ ls)
-    → (is_blank_kind f.kind ≡ false → Ends text (final text (paragraph_page bs ps (q ∷ (qs ++ piece_in f.columns f.spaces l ∷ [])) q.start l.end l.number) ls) found (from_there fuel at whole (paragraph_of at (paragraph_lines (t ∷ (ts ++ line_ink (declared text l) ∷ [])) (map (declared text) ls)))))
-    → Ends text (final text (paragraph_page bs ps (q ∷ qs) q.start end number) (l ∷ ls)) found (from_there fuel at whole (paragraph_of at (paragraph_lines (t ∷ ts) (map (declared text) (l ∷ ls)))))
-unfolding interrupts
-paragraph_line text fuel at again whole l ls f bs ps q qs end number found t ts h o facts goes =
-    subst (λ (s : State). Ends text (final text s ls) found (from_there fuel at whole (paragraph_of at (turned next (t ∷ ts) (line_ink (declared text l)) (turn (t ∷ ts) (declared text l))))))
-    (sym (open_begins text l f bs ps (q ∷ qs) q.start end number))
-    (subst (λ (x : Turn). Ends text (final text (begun (start_as f.spaces true f.level f.kind)) ls) found (from_there fuel at whole (paragraph_of at (turned next (t ∷ ts) (line_ink (declared text l)) x))))
-    (sym (turn_same text l f t ts o.defines))
-    (by f.kind f.level refl refl f.leaf f.marked goes))
-  where
-    next : List (List ℕ) → List (List ℕ) × Option HeadingLevel
-    next = λ x. paragraph_lines x (map (declared text) ls)
-
-    begun : LeafStart → State
-    begun b = started b text f.columns l (tail_of f.columns) (here f.spaces) (paragraph_page bs ps (q ∷ qs) q.start end number)
-
-    room : length ps + 1 < 2 ^ 64
-    room = let all : length ps + suc (length qs) + suc (length ls) + 1 < 2 ^ 64 = o.room in omega (arith, all)
-
-    level_some : (u : Option HeadingLevel) (level : HeadingLevel) → u ≡ None → u ≡ Some level → ⊥
-    level_some u level e d = let q : None ≡ Some level = sym e ∙ d in absurd cc
-
-    Goes : Beginning → Type 0
-    Goes k = is_blank_kind k ≡ false → Ends text (final text (paragraph_page bs ps (q ∷ (qs ++ piece_in f.columns f.spaces l ∷ [])) q.start l.end l.number) ls) found (from_there fuel at whole (paragraph_of at (next (t ∷ (ts ++ line_ink (declared text l) ∷ [])))))
-
-    stops : (k : Beginning) (b : LeafStart) → f.kind ≡ k → start_as f.spaces false f.level k ≡ b → closes_first b ≡ true
-        → Ends text (final text (begun b) ls) found (from_there fuel at whole (paragraph_of at (t ∷ ts, None)))
-    stops k b e i first =
-        paragraph_stops text fuel at again whole l ls f bs ps q qs end number found t ts b h o facts (ap (start_as f.spaces false f.level) e ∙ i)
-        (same_start text f.columns l f.spaces b (paragraph_page bs ps (q ∷ qs) q.start end number) (shut bs ps q qs end number) first (paragraph_shuts text bs ps q qs end number o.reads room))
-
-    goes_on : (k : Beginning) → f.kind ≡ k → is_blank_kind k ≡ false → Goes k → Ends text (final text (begun start.Text) ls) found (from_there fuel at whole (paragraph_of at (next (t ∷ (ts ++ line_ink (declared text l) ∷ [])))))
-    goes_on k e b g =
-        subst (λ (s : State). Ends text (final text s ls) found (from_there fuel at whole (paragraph_of at (next (t ∷ (ts ++ line_ink (declared text l) ∷ []))))))
-        (sym (text_goes_on text f.columns l f.spaces bs ps q qs q.start end number (f.some (ap is_blank_kind e ∙ b)))) (g b)
-
-    by : (k : Beginning) (u : Option HeadingLevel) → f.kind ≡ k → f.level ≡ u → is_leaf (ends_with_feed text) k ≡ true → (may_underline k ≡ false → f.level ≡ None) → Goes k
-        → Ends text (final text (begun (start_as f.spaces true u k)) ls) found (from_there fuel at whole (paragraph_of at (turned next (t ∷ ts) (line_ink (declared text l)) (turn_of k u))))
-    by BlankLine u e d leaf m g = stops BlankLine start.Blank e refl refl
-    by CodeLine (Some level) e d leaf m g = absurd (level_some f.level level (m refl) d)
-    by CodeLine None e d leaf m g = goes_on CodeLine e refl g
-    by QuoteLine u e d leaf m g = absurd (true≢false (sym leaf))
-    by (HeadingLine x) (Some level) e d leaf m g = absurd (level_some f.level level (m refl) d)
-    by (HeadingLine x) None e d leaf m g = stops (HeadingLine x) (start.Heading (heading_later f.spaces x)) e refl refl
-    by (FenceLine x) (Some level) e d leaf m g = absurd (level_some f.level level (m refl) d)
-    by (FenceLine x) None e d leaf m g = stops (FenceLine x) (start.Fence x) e refl refl
-    by (HtmlLine x) (Some level) e d leaf m g = absurd (level_some f.level level (m refl) d)
-    by (HtmlLine html.Raw) None e d leaf m g = stops (HtmlLine html.Raw) (start.Html html.Raw) e refl refl
-    by (HtmlLine html.Comment) None e d leaf m g = stops (HtmlLine html.Comment) (start.Html html.Comment) e refl refl
-    by (HtmlLine html.Instruction) None e d leaf m g = stops (HtmlLine html.Instruction) (start.Html html.Instruction) e refl refl
-    by (HtmlLine html.Declaration) None e d leaf m g = stops (HtmlLine html.Declaration) (start.Html html.Declaration) e refl refl
-    by (HtmlLine html.CharacterData) None e d leaf m g = stops (HtmlLine html.CharacterData) (start.Html html.CharacterData) e refl refl
-    by (HtmlLine html.Named) None e d leaf m g = stops (HtmlLine html.Named) (start.Html html.Named) e refl refl
-    by (HtmlLine html.Alone) None e d leaf m g = goes_on (HtmlLine html.Alone) e refl g
-    by RuleLine (Some level) e d leaf m g = paragraph_heads text fuel at again whole l ls f bs ps q qs end number found t ts level h o facts
-    by RuleLine None e d leaf m g = stops RuleLine start.Rule e refl refl
-    by (ItemLine x) u e d leaf m g = absurd (true≢false (sym leaf))
-    by TextLine (Some level) e d leaf m g = paragraph_heads text fuel at again whole l ls f bs ps q qs end number found t ts level h o facts
-    by TextLine None e d leaf m g = goes_on TextLine e refl g
-    by LazyLine u e d leaf m g = absurd (true≢false (sym leaf))
-
-paragraph_read : (text : List ℕ) (fuel at : ℕ) → Goal text fuel → (whole : List DeclaredLine) (ls : List Line) (bs : List ReadBlock) (ps : List Piece) (q : Piece) (qs : List Piece) (end number : ℕ) (found : Blocks) (t : List ℕ) (ts : List (List ℕ))
-    → Holds text bs ps found → Opened text fuel whole ls ps q qs t ts → AllByRecursion (Facts text) ls
-    → Ends text (final text (paragraph_page bs ps (q ∷ qs) q.start end number) ls) found (from_there fuel at whole (paragraph_of at (paragraph_lines (t ∷ ts) (map (declared text) ls))))
-paragraph_read text fuel at again whole [] bs ps q qs end number found t ts h o facts = paragraph_last text fuel at whole bs ps q qs end number found t ts h o
-paragraph_read text fuel at again whole (l ∷ ls) bs ps q qs end number found t ts h o facts =
-    paragraph_line text fuel at again whole l ls (facts.0) bs ps q qs end number found t ts h o facts
-    (λ e. paragraph_read text fuel at again whole ls bs ps q (qs ++ piece_in (facts.0).columns (facts.0).spaces l ∷ []) l.end l.number found t (ts ++ line_ink (declared text l) ∷ []) h
-    (opened_more text fuel whole l ls (facts.0) ps q qs t ts e o) (facts.1))
+use Rattle.tocmark_block_laws.proofs.ReadParagraphs.{paragraph_read, paragraph_first}
+use Rattle.tocmark_block_laws.proofs.ReadQuotes.{All, Quoting, quote_goes}
 
 -- the text of a heading is that which is declared
 words_told : (text : List ℕ) (l : Line) (columns : List Cell) (n : ℕ) (h : HeadingMark) (ys : List ℕ) → HeadingFacts text l columns n h ys → (k : Bool) → has_words columns (heading_later n h) l ≡ k
@@ -349,191 +87,376 @@ begins_html : (p : Part) (blank far : Bool) (k : HtmlKind) → beginning_of p bl
 begins_html p true far k e = absurd cc
 begins_html p false far k e = refl
 
--- a line where nothing is open
-line_read : (text : List ℕ) (fuel at : ℕ) → Goal text fuel → (l : Line) (ls : List Line) (f : Facts text l) (bs : List ReadBlock) (ps : List Piece) (end number kept : ℕ) (found : Blocks) → Holds text bs ps found → length ps + suc (length ls) + 1 < 2 ^ 64 → length ls ≤ fuel → AllByRecursion (Facts text) ls
-    → Ends text (final text (closed bs ps end number kept) (l ∷ ls)) found (from_there fuel at (map (declared text) (l ∷ ls)) (first_block (λ x. blocks_from fuel 0 x) at (declared text l) (map (declared text) ls) (beginning (declared text l))))
-unfolding beginning html_ended
-line_read text fuel at again l ls f bs ps end number kept found h room few facts =
-    subst (λ (s : State). Ends text (final text s ls) found (from_there fuel at (dl ∷ rest) (first_block inner at dl rest (beginning dl))))
-    (sym (closed_begins text l f bs ps end number kept))
-    (subst (λ (k : Beginning). Ends text (final text (begun (start_as f.spaces false f.level f.kind)) ls) found (from_there fuel at (dl ∷ rest) (first_block inner at dl rest k)))
+code_inked : (place : Cursor) (ys : List ℕ) → beginning (left_at place ys) ≡ CodeLine → (is_blank ys ≡ false) × (nat_le 4 (indent (part_at place.column ys)) ≡ true)
+unfolding beginning
+code_inked place ys e = begins_code (part_at place.column ys) (is_blank ys) (nat_le 4 (indent (part_at place.column ys))) e
+
+html_inked : (place : Cursor) (ys : List ℕ) (k : HtmlKind) → beginning (left_at place ys) ≡ HtmlLine k → is_blank ys ≡ false
+unfolding beginning
+html_inked place ys k e = begins_html (part_at place.column ys) (is_blank ys) (nat_le 4 (indent (part_at place.column ys))) k e
+
+-- a line where nothing but quotes is open
+line_read : (text : List ℕ) (r : Run) (fuel at : ℕ) → All text fuel → (v : In text r) (cs : Lines text r) (x : Open r.outer) (bs : List ReadBlock) (ps : List Piece) (end number kept : ℕ) (found : Blocks) → Holds text r bs ps found
+    → length ps + suc (length cs) + 1 < r.limit → weigh text (length r.outer) (Plainly v ∷ cs) ≤ suc fuel → at + suc (length cs) ≡ r.count
+    → Reads text r (begin text v.columns v.line (length r.outer) v.place (closed x bs ps end number kept)) cs found
+    (from_there fuel at (said text r (Plainly v ∷ cs)) (first_block (λ y. blocks_from fuel 0 y) at (left_at v.place v.bytes) (said text r cs) (beginning (left_at v.place v.bytes))))
+unfolding is_paragraph html_ended
+line_read text r fuel at all v cs x bs ps end number kept found h room few count =
+    subst (λ (k : Beginning). Reads text r (begin text v.columns l (length r.outer) v.place page) cs found (from_there fuel at (dl ∷ rest) (first_block inner at dl rest k)))
     (sym f.begins)
-    (by f.kind refl f.leaf))
+    (with_mark (is_quote_kind f.kind) refl)
   where
+    l : Line
+    l = v.line
+
+    place : Cursor
+    place = v.place
+
+    f : FactsOf text (length r.outer) v
+    f = facts text (length r.outer) v
+
     dl : DeclaredLine
-    dl = declared text l
+    dl = left_at place v.bytes
 
     rest : List DeclaredLine
-    rest = map (declared text) ls
+    rest = said text r cs
 
     inner : List DeclaredLine → List Found
-    inner = λ x. blocks_from fuel 0 x
+    inner = λ y. blocks_from fuel 0 y
+
+    page : State
+    page = closed x bs ps end number kept
 
     begun : LeafStart → State
-    begun b = started b text f.columns l (tail_of f.columns) (here f.spaces) (closed bs ps end number kept)
+    begun b = started b text v.columns l (tail_of v.columns) (here (length r.outer) place) page
 
-    p : Piece
-    p = piece_in f.columns f.spaces l
+    at_ink : ℕ
+    at_ink = cell_place v.columns place.ink l.end
 
-    b : ReadBlock
-    b = rule_block ps (cell_place f.columns f.spaces l.end) l.end
+    again : Again text r fuel
+    again = all r
 
-    ruled : Holds text (bs ++ b ∷ []) ps (also found (more Rule none))
-    ruled = subst (λ (xs : List Piece). Holds text (bs ++ b ∷ []) xs (also found (more Rule none))) (append-nil ps) (holds_more text bs ps found b Rule [] h refl (λ later. refl))
+    few_rest : weigh text (length r.outer) cs ≤ fuel
+    few_rest = omega (arith, few)
 
-    less : length ps + length ls + 1 < 2 ^ 64
-    less = omega (arith, room)
+    -- what is read of the lines after this one
+    onward : (bs' : List ReadBlock) (ps' : List Piece) (found' : Blocks) (kept' : ℕ) → Holds text r bs' ps' found' → length ps' + length cs + 1 < r.limit → Reads text r (closed (past l x) bs' ps' l.end l.number kept') cs found' (blocks_from fuel (at + 1) rest)
+    onward bs' ps' found' kept' held fits = goal_of text r fuel (again fuel (omega arith)) (at + 1) cs (past l x) bs' ps' l.end l.number kept' found' held fits few_rest (omega (arith, count))
 
-    same : length ps + 1 + length ls + 1 < 2 ^ 64
-    same = omega (arith, room)
-
-    headed : (h' : HeadingMark) → f.kind ≡ HeadingLine h' → Ends text (final text (begun (start.Heading (heading_later f.spaces h'))) ls) found (ended (Heading h'.level (heading_text h' (line_ink dl) (cells (line_ink dl)))) at at ∷ blocks_from fuel (at + 1) rest)
-    headed h' e =
-        subst (λ (s : State). Ends text (final text s ls) found (ended (Heading h'.level text_in) at at ∷ blocks_from fuel (at + 1) rest)) (sym (heading_comes text f.columns l f.spaces x bs ps end number kept))
-        (ends_cons text (final text (closed (bs ++ b' ∷ []) (ps ++ new) l.end l.number (length (ps ++ new))) ls) found (ended (Heading h'.level text_in) at at) (blocks_from fuel (at + 1) rest) (λ y. refl) refl
-        (again (at + 1) ls (bs ++ b' ∷ []) (ps ++ new) l.end l.number (length (ps ++ new)) (also found (more (Heading h'.level text_in) none))
-        (holds_more text bs ps found b' (Heading h'.level text_in) new h refl (heading_told text h'.level ps new text_in (cell_place f.columns f.spaces l.end) l.end (words_told text l f.columns f.spaces h' (line_ink dl) (f.heads h' e) (has_words f.columns x l) refl)))
-        (let wide : length (ps ++ new) ≡ length ps + length new = length-append ps new in let one : length new ≤ 1 = few_words (has_words f.columns x l) (heading_piece f.columns x l) in omega (arith, wide, one, room)) few facts))
+    ruled : Reads text r (begun start.Rule) cs found (ended Rule at at ∷ blocks_from fuel (at + 1) rest)
+    ruled =
+        subst (λ (s : State). Reads text r s cs found (ended Rule at at ∷ blocks_from fuel (at + 1) rest)) (sym (rule_comes text r.outer x v.columns l place bs ps end number kept))
+        (λ legit. ends_cons text r (fold (taken text (length r.outer)) (closed (past l x) (bs ++ b ∷ []) ps l.end l.number (length ps)) cs) found (ended Rule at at) Rule (blocks_from fuel (at + 1) rest) (λ y. refl) refl refl
+        (onward (bs ++ b ∷ []) ps (also found (more Rule none)) (length ps) held (omega (arith, room)) legit))
       where
-        x : HeadingMark
-        x = heading_later f.spaces h'
+        b : ReadBlock
+        b = rule_block (length r.outer) ps at_ink l.end
+
+        held : Holds text r (bs ++ b ∷ []) ps (also found (more Rule none))
+        held = subst (λ (qs : List Piece). Holds text r (bs ++ b ∷ []) qs (also found (more Rule none))) (append-nil ps) (holds_more text r bs ps found b Rule [] h refl (λ later. refl))
+
+    headed : (h' : HeadingMark) → f.kind ≡ HeadingLine h' → Reads text r (begun (start.Heading (heading_later place.ink h'))) cs found (ended (Heading h'.level (heading_text h' (line_ink dl) (cells (line_ink dl)))) at at ∷ blocks_from fuel (at + 1) rest)
+    headed h' e =
+        subst (λ (s : State). Reads text r s cs found (ended (Heading h'.level text_in) at at ∷ blocks_from fuel (at + 1) rest)) (sym (heading_comes text r.outer x v.columns l place mark bs ps end number kept))
+        (λ legit. ends_cons text r (fold (taken text (length r.outer)) (closed (past l x) (bs ++ b ∷ []) (ps ++ new) l.end l.number (length (ps ++ new))) cs) found (ended (Heading h'.level text_in) at at) (Heading h'.level text_in) (blocks_from fuel (at + 1) rest) (λ y. refl) refl refl
+        (onward (bs ++ b ∷ []) (ps ++ new) (also found (more (Heading h'.level text_in) none)) (length (ps ++ new))
+        (holds_more text r bs ps found b (Heading h'.level text_in) new h refl (heading_told text (length r.outer) h'.level ps new text_in at_ink l.end (words_told text l v.columns place.ink h' (line_ink dl) (f.heads h' e) (has_words v.columns mark l) refl)))
+        (let wide : length (ps ++ new) ≡ length ps + length new = length-append ps new in let one : length new ≤ 1 = few_words (has_words v.columns mark l) (heading_piece v.columns mark l) in omega (arith, wide, one, room)) legit))
+      where
+        mark : HeadingMark
+        mark = heading_later place.ink h'
 
         new : List Piece
-        new = words f.columns x l
+        new = words v.columns mark l
 
         text_in : List ℕ
         text_in = heading_text h' (line_ink dl) (cells (line_ink dl))
 
-        b' : ReadBlock
-        b' = ended_block (kind.Heading h'.level None) ps new (cell_place f.columns f.spaces l.end) l.end
+        b : ReadBlock
+        b = ended_block (length r.outer) (kind.Heading h'.level None) ps new at_ink l.end
 
-    fenced : (x : Fence) → f.kind ≡ FenceLine x → ends_with_feed text ≡ true → Ends text (final text (begun (start.Fence x)) ls) found (from_there fuel at (dl ∷ rest) (fenced_code at x (line_ink dl) rest))
-    fenced x e fed =
-        subst (λ (s : State). Ends text (final text s ls) found (from_there fuel at (dl ∷ rest) (fenced_code at x (line_ink dl) rest)))
-        (sym (fence_comes text f.columns l f.spaces x bs ps end number kept
-        ∙ ap (λ k. leaf_page (leaf.Fenced x) k bs (length ps) ps (length ps) (cell_place f.columns f.spaces l.end) l.end l.number) (f.infos x e).shape
-        ∙ ap (λ xs. leaf_page (leaf.Fenced x) (kind.Fenced (f.infos x e).from (f.infos x e).to) bs (length ps) xs (length xs) (cell_place f.columns f.spaces l.end) l.end l.number) (sym (append-nil ps))))
-        (fence_read text fuel at again dl x (line_ink dl) [] ls bs ps [] (f.infos x e).from (f.infos x e).to (cell_place f.columns f.spaces l.end) l.end l.number found h tt refl (f.infos x e).says (omega (arith, room)) few facts fed)
+    fenced : (y : Fence) → f.kind ≡ FenceLine y → ends_with_feed text ≡ true → Reads text r (begun (start.Fence y)) cs found (from_there fuel at (dl ∷ rest) (fenced_code at y (line_ink dl) rest))
+    fenced y e fed =
+        subst (λ (s : State). Reads text r s cs found (from_there fuel at (dl ∷ rest) (fenced_code at y (line_ink dl) rest)))
+        (sym (fence_comes text r.outer x v.columns l place y bs ps end number kept
+        ∙ ap (λ k. leaf_page (with_block x) (leaf.Fenced y) k bs (length ps) ps (length ps) at_ink l.end l.number) (f.infos y e).shape
+        ∙ ap (λ qs. leaf_page (with_block x) (leaf.Fenced y) (kind.Fenced (f.infos y e).from (f.infos y e).to) bs (length ps) qs (length qs) at_ink l.end l.number) (sym (append-nil ps))))
+        (fence_read text r fuel at (goal_of text r fuel (again fuel (omega arith))) (with_block x) dl y (line_ink dl) [] cs bs ps [] (f.infos y e).from (f.infos y e).to at_ink l.end l.number found h
+        (record { unclosed = tt; says = refl; told = (f.infos y e).says; room = omega (arith, room); few = few_rest; count = omega (arith, count); fed = fed }))
 
-    coded : f.kind ≡ CodeLine → ends_with_feed text ≡ true → Ends text (final text (begun (start.Indented (plus 0 4))) ls) found (from_there fuel at (dl ∷ rest) (indented_code at (dl ∷ rest)))
+    coded : f.kind ≡ CodeLine → ends_with_feed text ≡ true → Reads text r (begun (start.Indented (plus place.column 4))) cs found (from_there fuel at (dl ∷ rest) (indented_code at (dl ∷ rest)))
     coded e fed =
-        subst (λ (s : State). Ends text (final text s ls) found (from_there fuel at (dl ∷ rest) (indented_code at (dl ∷ rest))))
-        (sym (indented_comes text f.columns l f.spaces (plus 0 4) bs ps end number kept
-        ∙ takes_kept text f.columns l (plus 0 4) t.at leaf.Indented kind.Indented bs (length ps) ps (length ps) (cell_place f.columns (plus 0 4) l.end) l.end l.number t.piece t.some (f.code.keeps (plus 0 4) (omega (arith, four)) ∙ ap not (is.0))))
-        (code_read text fuel at again [] dl [] ls bs ps (piece_of 0 t.at l.end l.next ∷ []) [] (cell_place f.columns (plus 0 4) l.end) l.end l.number found h
+        subst (λ (s : State). Reads text r s cs found (from_there fuel at (dl ∷ rest) (indented_code at (dl ∷ rest))))
+        (sym (indented_comes text r.outer x v.columns l place (plus place.column 4) bs ps end number kept
+        ∙ takes_kept text r.outer (with_block x) v.columns l (plus place.column 4) t.at leaf.Indented kind.Indented bs (length ps) ps (length ps) (cell_place v.columns (plus place.column 4) l.end) l.end l.number t.piece t.some (ap (λ n. keeps_line v.columns n leaf.Indented) at_four ∙ c.keeps 4 four ∙ ap not (is.0))))
+        (code_read text r fuel at again (with_block x) [] dl [] cs bs ps (piece_of 0 t.at l.end l.next ∷ []) [] (cell_place v.columns (plus place.column 4) l.end) l.end l.number found h
         (record {
-          codes = (ap (λ k. k || nat_le 4 (indent p')) (is.0) ∙ is.1, tt);
+          codes = (ap (λ k. k || nat_le 4 (indent p)) (is.0) ∙ is.1, tt);
           last = is.0;
-          says = says_at text l f.columns f.spaces 4 (plus 0 4) same_four f.code t;
-          facts = tt;
+          says = says_at text l v.columns place v.bytes 4 (plus place.column 4) 4 (let q : 4 ≡ min 4 (place.ink - place.column) = omega (arith, four) in q) c t;
           blank = tt;
           blank_says = refl;
           pauses = omega arith;
           room = omega (arith, room);
-          few = omega (arith, few);
-        }) facts fed)
+          few = omega (arith, few_rest);
+          count = omega (arith, count);
+          fed = fed;
+        }))
       where
-        p' : Part
-        p' = part_of (bytes_between text l.start l.end)
+        c : CodeFacts text l v.columns place v.bytes
+        c = f.code
 
-        is : (is_blank p'.bytes ≡ false) × (nat_le 4 (indent p') ≡ true)
-        is = begins_code p' (is_blank p'.bytes) (nat_le 4 (indent p')) (f.begins ∙ e)
+        p : Part
+        p = part_at place.column v.bytes
 
-        four : 4 ≤ f.spaces
-        four = let q : nat_le 4 f.spaces ≡ true = sym (ap (nat_le 4) f.code.width) ∙ is.1 in grind (arith, q, nat_tests)
+        is : (is_blank v.bytes ≡ false) × (nat_le 4 (indent p) ≡ true)
+        is = code_inked place v.bytes (f.begins ∙ e)
 
-        same_four : plus 0 4 ≡ min 4 f.spaces
-        same_four = omega (arith, four)
+        four : 4 ≤ place.ink - place.column
+        four = let q : nat_le 4 (place.ink - place.column) ≡ true = sym (ap (nat_le 4) c.width) ∙ is.1 in grind (arith, q, nat_tests)
 
-        t : LineTaken text l f.columns (plus 0 4)
-        t = same_column text l f.columns (plus 0 4) (min 4 f.spaces) same_four (f.code.taken (f.fed fed) (min 4 f.spaces) (omega arith))
+        at_four : plus place.column 4 ≡ place.column + 4
+        at_four = let small : place.ink + 3 < 2 ^ 64 = c.small in omega (arith, four, small)
 
-    marked_up : (x : HtmlKind) → f.kind ≡ HtmlLine x → ends_with_feed text ≡ true → Ends text (final text (begun (start.Html x)) ls) found (from_there fuel at (dl ∷ rest) (html_block at x (dl ∷ rest)))
-    marked_up x e fed =
-        subst (λ (s : State). Ends text (final text s ls) found (from_there fuel at (dl ∷ rest) (html_block at x (dl ∷ rest))))
-        (sym (html_comes text f.columns l f.spaces x bs ps end number kept
-        ∙ ap (λ xs. code_taken text f.columns 0 l (leaf_page (leaf.Html x) kind.Html bs (length ps) xs (length xs) (cell_place f.columns 0 l.end) l.end l.number)) (sym (append-nil ps))))
-        (html_next text fuel at again x [] l ls bs ps [] (cell_place f.columns 0 l.end) l.end l.number found h
-        (record { past = tt; says = refl; room = omega (arith, room) }) few f facts fed
-        (λ q. begins_html (part_of (bytes_between text l.start l.end)) (is_blank (bytes_between text l.start l.end)) (nat_le 4 (indent (part_of (bytes_between text l.start l.end)))) x (f.begins ∙ e))
-        (λ p more. html_read text fuel at again x (dl ∷ []) ls bs ps (p ∷ []) (cell_place f.columns 0 l.end) l.end l.number found h more few facts fed))
+        t : Taken text l v.columns (plus place.column 4) (drop 4 v.bytes)
+        t = same_column text l v.columns (plus place.column 4) (place.column + 4) (drop 4 v.bytes) at_four (c.taken (f.fed fed) 4 four)
 
-    by : (k : Beginning) → f.kind ≡ k → is_leaf (ends_with_feed text) k ≡ true → Ends text (final text (begun (start_as f.spaces false f.level k)) ls) found (from_there fuel at (dl ∷ rest) (first_block inner at dl rest k))
-    by BlankLine e leaf =
-        subst (λ (s : State). Ends text (final text s ls) found (blocks_from fuel (at + 1) rest)) (sym (blank_passes text f.columns l f.spaces bs ps end number kept))
-        (again (at + 1) ls bs ps end number kept found h less few facts)
-    by CodeLine e leaf = coded e leaf
-    by QuoteLine e leaf = absurd (true≢false (sym leaf))
-    by (HeadingLine x) e leaf = headed x e
-    by (FenceLine x) e leaf = fenced x e leaf
-    by (HtmlLine x) e leaf =
-        subst (λ (o : Option HtmlKind). Ends text (final text (begun (html_start o)) ls) found (from_there fuel at (dl ∷ rest) (html_block at x (dl ∷ rest)))) (sym (interrupts_first x)) (marked_up x e leaf)
-    by RuleLine e leaf =
-        subst (λ (s : State). Ends text (final text s ls) found (ended Rule at at ∷ blocks_from fuel (at + 1) rest)) (sym (rule_comes text f.columns l f.spaces bs ps end number kept))
-        (ends_cons text (final text (closed (bs ++ b ∷ []) ps l.end l.number (length ps)) ls) found (ended Rule at at) (blocks_from fuel (at + 1) rest) (λ y. refl) refl
-        (again (at + 1) ls (bs ++ b ∷ []) ps l.end l.number (length ps) (also found (more Rule none)) ruled less few facts))
-    by (ItemLine x) e leaf = absurd (true≢false (sym leaf))
-    by TextLine e leaf =
-        let not_blank : is_blank_kind f.kind ≡ false = ap is_blank_kind e in
-        let none_defined : definitions (line_ink dl ∷ []) ≡ ([], 0) = defines_none text (line_ink dl) [] f.bracket (λ g. (f.clear g, tt)) in
-        subst (λ (s : State). Ends text (final text s ls) found (from_there fuel at (dl ∷ rest) (paragraph_of at (paragraph_lines (line_ink dl ∷ []) rest))))
-        (sym (text_begins text f.columns l f.spaces bs ps end number kept (f.some not_blank)))
-        (paragraph_read text fuel at again (dl ∷ rest) ls bs ps p [] l.end l.number found (line_ink dl) [] h
+    marked_up : (y : HtmlKind) → f.kind ≡ HtmlLine y → ends_with_feed text ≡ true → Reads text r (begun (start.Html y)) cs found (from_there fuel at (dl ∷ rest) (html_block at y (dl ∷ rest)))
+    marked_up y e fed =
+        subst (λ (s : State). Reads text r s cs found (from_there fuel at (dl ∷ rest) (html_block at y (dl ∷ rest))))
+        (sym (html_comes text r.outer x v.columns l place y bs ps end number kept
+        ∙ ap (λ qs. code_taken text v.columns place.column l (leaf_page (with_block x) (leaf.Html y) kind.Html bs (length ps) qs (length qs) (cell_place v.columns place.column l.end) l.end l.number)) (sym (append-nil ps))))
+        (html_next text r fuel (suc fuel) at again (with_block x) y [] v cs bs ps [] (cell_place v.columns place.column l.end) l.end l.number found h
+        (record { past = tt; says = refl; room = omega (arith, room); few = few; count = omega (arith, count); fed = fed })
+        few_rest (λ q. inked)
+        (λ p more. html_read text r fuel at again (with_block x) y (dl ∷ []) cs bs ps (p ∷ []) (cell_place v.columns place.column l.end) l.end l.number found h more))
+      where
+        inked : is_blank v.bytes ≡ false
+        inked = html_inked place v.bytes y (f.begins ∙ e)
+
+    texted : is_quote_kind f.kind ≡ false → is_blank_kind f.kind ≡ false → Reads text r (begun start.Text) cs found (from_there fuel at (dl ∷ rest) (paragraph_of at (paragraph_lines (line_ink dl ∷ []) rest)))
+    texted no_quote not_blank =
+        let p : Piece = piece_in v.columns place l in
+        let first = paragraph_first text r fuel at (dl ∷ rest) cs ps p dl (line_ink dl) (f.ink not_blank) f.feedless f.plain refl room few_rest count in
+        subst (λ (s : State). Reads text r s cs found (from_there fuel at (dl ∷ rest) (paragraph_of at (paragraph_lines (line_ink dl ∷ []) rest))))
+        (sym (text_begins text r.outer x v.columns l place bs ps end number kept (f.some not_blank)))
+        (paragraph_read text r fuel at again (dl ∷ rest) cs bs found (with_block x) ps p [] (first_draft ps at_ink l) [] [] (line_ink dl ∷ []) h (first.0) (first.1))
+
+    by : is_quote_kind f.kind ≡ false → (k : Beginning) → f.kind ≡ k → is_leaf (ends_with_feed text) k ≡ true → Reads text r (begun (start_as place false false f.level k)) cs found (from_there fuel at (dl ∷ rest) (first_block inner at dl rest k))
+    by n BlankLine e leaf =
+        subst (λ (s : State). Reads text r s cs found (blocks_from fuel (at + 1) rest)) (sym (blank_passes text r.outer x v.columns l place bs ps end number kept))
+        (goal_of text r fuel (again fuel (omega arith)) (at + 1) cs x bs ps end number kept found h (omega (arith, room)) few_rest (omega (arith, count)))
+    by n CodeLine e leaf = coded e leaf
+    by n QuoteLine e leaf = absurd (true≢false (sym leaf))
+    by n (HeadingLine y) e leaf = headed y e
+    by n (FenceLine y) e leaf = fenced y e leaf
+    by n (HtmlLine y) e leaf =
+        subst (λ (o : Option HtmlKind). Reads text r (begun (html_start o)) cs found (from_there fuel at (dl ∷ rest) (html_block at y (dl ∷ rest)))) (sym (interrupts_first y)) (marked_up y e leaf)
+    by n RuleLine e leaf = ruled
+    by n (ItemLine y) e leaf = absurd (true≢false (sym leaf))
+    by n TextLine e leaf = texted n (ap is_blank_kind e)
+    by n LazyLine e leaf = absurd (true≢false (sym leaf))
+
+    quoted : is_quote_kind f.kind ≡ true → Next text (length r.outer) v → Reads text r (begin text v.columns l (length r.outer) place page) cs found (from_there fuel at (dl ∷ rest) (quote inner at (dl ∷ rest)))
+    quoted e n =
+        subst (λ (s : State). Reads text r s cs found (from_there fuel at (dl ∷ rest) (quote inner at (dl ∷ rest)))) (sym (quote_enters text r.outer v f e n x bs ps end number kept))
+        (λ legit. subst (λ (ds : List DeclaredLine). Ends text r (fold (taken text (length r.outer)) inner_page cs) found (from_there fuel at (dl ∷ rest) (quote_with inner at ds))) (sym fronts)
+        (quote_goes text r fuel all g [] cs
         (record {
-          texts = ap (λ (x : List ℕ). x ∷ []) (f.ink not_blank);
-          bracket = f.bracket;
-          clear = λ g. (f.clear g, tt);
-          plain = f.plain;
-          defines = none_defined;
-          reads = reads_none text p [] (line_ink dl) [] f.plain (ap (λ (x : List ℕ). x ∷ []) (f.ink not_blank)) none_defined;
+          legit_in = tt;
+          legit_out = legit;
           rest = refl;
-          room = same;
-          few = few;
-        }) facts)
-    by LazyLine e leaf = absurd (true≢false (sym leaf))
+          room = omega (arith, room);
+          few = let q : length n.seen.bytes < length v.bytes = n.fewer in omega (arith, few, q);
+          count = omega (arith, count);
+        })))
+      where
+        inner_page : State
+        inner_page = begin text n.seen.columns n.seen.line (suc (length r.outer)) n.seen.place (closed (entered (length bs) l x) (bs ++ quote_block (length r.outer) at_ink (length ps) ∷ []) ps end number kept)
 
-read_all : (text : List ℕ) (fuel : ℕ) → Goal text fuel
+        g : Quoting text r
+        g = record {
+          at = at;
+          whole = dl ∷ rest;
+          first = n.seen;
+          blocks = bs;
+          pieces = ps;
+          found = found;
+          block = quote_block (length r.outer) at_ink (length ps);
+          inner = entered (length bs) l x;
+          end = end;
+          number = number;
+          kept = kept;
+          holds = h;
+          depth = refl;
+          kind = refl;
+        }
+
+        within : List DeclaredLine → DeclaredLine → Option DeclaredLine
+        within = in_quote inner
+
+        fronts : front within [] (dl ∷ rest) ≡ front within (left_at n.seen.place n.seen.bytes ∷ []) rest
+        fronts =
+            ap (λ k. goes_on (λ y. front within ([] ++ y ∷ []) rest) [] (in_quote_as inner [] dl k)) (f.begins ∙ quote_kind_is f.kind e)
+            ∙ ap (λ y. front within (y ∷ []) rest) n.shown
+
+    with_mark : (k : Bool) → is_quote_kind f.kind ≡ k → Reads text r (begin text v.columns l (length r.outer) place page) cs found (from_there fuel at (dl ∷ rest) (first_block inner at dl rest f.kind))
+    with_mark true e = subst (λ (k : Beginning). Reads text r (begin text v.columns l (length r.outer) place page) cs found (from_there fuel at (dl ∷ rest) (first_block inner at dl rest k))) (sym (quote_kind_is f.kind e)) (quoted e (next_seen text (length r.outer) v f e))
+    with_mark false e =
+        subst (λ (s : State). Reads text r s cs found (from_there fuel at (dl ∷ rest) (first_block inner at dl rest f.kind))) (sym (plain_begins text (length r.outer) v f e page refl))
+        (by e f.kind refl (f.leaf e))
+
+read_all : (text : List ℕ) (fuel : ℕ) → All text fuel
 unfolding blocks_from
-read_all text zero at [] bs ps end number kept found h room few facts = ends_closed text bs ps end number kept found h
-read_all text zero at (l ∷ ls) bs ps end number kept found h room few facts = absurd (omega arith)
-read_all text (suc fuel) at [] bs ps end number kept found h room few facts = ends_closed text bs ps end number kept found h
-read_all text (suc fuel) at (l ∷ ls) bs ps end number kept found h room few facts =
-    line_read text fuel at (read_all text fuel) l ls (facts.0) bs ps end number kept found h room (let k : suc (length ls) ≤ suc fuel = few in omega (arith, k)) (facts.1)
+read_all text zero r m low at v cs x bs ps end number kept found h room few count = absurd (omega (arith, low, few))
+read_all text (suc fuel) r zero low at v cs x bs ps end number kept found h room few count = absurd (omega (arith, few))
+read_all text (suc fuel) r (suc m) low at v cs x bs ps end number kept found h room few count =
+    line_read text r m at (λ t k less. read_all text fuel t k (omega (arith, low, less))) v cs x bs ps end number kept found h room few count
 
--- the facts of all lines
-all_facts : (text : List ℕ) (ls : List Line) → IsPlain text → length text + 3 < 2 ^ 64 → AllByRecursion (Sound text) ls → AllByRecursion (IsLeafLine (ends_with_feed text) (has_label_end text)) (map (declared text) ls) → (ends_with_feed text ≡ true → AllByRecursion (Fed text) ls) → AllByRecursion (Facts text) ls
-all_facts text [] h fits sound leaves fed = tt
-all_facts text (l ∷ ls) h fits sound leaves fed = (leaf_facts text l h fits (sound.0) (leaves.0) (λ e. (fed e).0), all_facts text ls h fits (sound.1) (leaves.1) (λ e. (fed e).1))
+-- the premise of a text, line by line
+
+-- the content of a line begins a leaf
+abbrev IsLeaf : List ℕ → DeclaredLine → Type 0
+IsLeaf text l = IsLeafLine (ends_with_feed text) (content_of l)
+
+both_true : (a b : Bool) → (not a && b) ≡ true → (a ≡ false) × (b ≡ true)
+both_true true b h = absurd (true≢false (sym h))
+both_true false b h = (refl, h)
+
+leaves_of : (text : List ℕ) (ls : List DeclaredLine) → list_all (λ l. is_leaf (ends_with_feed text) (beginning (content_of l))) ls ≡ true → AllByRecursion (IsLeaf text) ls
+leaves_of text [] h = tt
+leaves_of text (l ∷ ls) h = by (is_leaf (ends_with_feed text) (beginning (content_of l))) refl h (λ e. leaves_of text ls e)
+  where
+    by : (k : Bool) → is_leaf (ends_with_feed text) (beginning (content_of l)) ≡ k → (k && list_all (λ x. is_leaf (ends_with_feed text) (beginning (content_of x))) ls) ≡ true
+        → (list_all (λ x. is_leaf (ends_with_feed text) (beginning (content_of x))) ls ≡ true → AllByRecursion (IsLeaf text) ls) → AllByRecursion (IsLeaf text) (l ∷ ls)
+    by true p e again = (p, again e)
+    by false p e again = absurd (true≢false (sym e))
+
+-- the lines of a text
+
+pub record Rows (text : List ℕ) (ls : List Line) : Type 0 where
+  pub rows : List (Seen text 0)
+  pub lines : map (λ (v : Seen text 0). v.line) rows ≡ ls
+  pub shows : map (λ (v : Seen text 0). left_at v.place v.bytes) rows ≡ map (declared text) ls
+
+abbrev row : (text : List ℕ) (l : Line) → IsPlain text → length text + 3 < 2 ^ 64 → Sound text l → IsLeaf text (declared text l) → has_feed (bytes_between text l.start l.end) ≡ false → (ends_with_feed text ≡ true → Fed text l) → Seen text 0
+row text l plain fits sound leaf feedless fed = record {
+  line = l;
+  columns = cells_at l.start [] xs;
+  place = place_at 0 xs;
+  bytes = xs;
+  fuel = length xs;
+  columns_are = refl;
+  bytes_are = refl;
+  place_is = refl;
+  inside = omega arith;
+  deep = omega arith;
+  reaches = cursor_same l.start xs (between_plain text l.start l.end plain) (let ordered : l.start ≤ l.end = sound.order in let within : l.end ≤ length text = sound.within in omega (arith, between_length text l.start l.end ordered within, within, fits));
+  plain = plain;
+  fits = fits;
+  sound = sound;
+  feedless = feedless;
+  fed = fed;
+  enough = omega arith;
+  leaf = leaf;
+}
+  where
+    xs : List ℕ
+    xs = bytes_between text l.start l.end
+
+all_rows : (text : List ℕ) (ls : List Line) → IsPlain text → length text + 3 < 2 ^ 64 → AllByRecursion (Sound text) ls → AllByRecursion (IsLeaf text) (map (declared text) ls) → AllByRecursion IsFeedless (map (declared text) ls) → (ends_with_feed text ≡ true → AllByRecursion (Fed text) ls) → Rows text ls
+all_rows text [] plain fits sound leaves feedless fed = record { rows = []; lines = refl; shows = refl }
+all_rows text (l ∷ ls) plain fits sound leaves feedless fed =
+    let rest : Rows text ls = all_rows text ls plain fits (sound.1) (leaves.1) (feedless.1) (λ e. (fed e).1) in
+    record {
+      rows = row text l plain fits (sound.0) (leaves.0) (feedless.0) (λ e. (fed e).0) ∷ rest.rows;
+      lines = ap (λ zs. l ∷ zs) rest.lines;
+      shows = ap (λ zs. declared text l ∷ zs) rest.shows;
+    }
+
+-- lines with all their markers, as they come in
+abbrev plainly : (text : List ℕ) → List (Seen text 0) → List (Coming text 0)
+plainly text vs = map (λ (v : Seen text 0). Plainly v) vs
+
+plainly_legit : (text : List ℕ) (vs : List (Seen text 0)) (s : State) → Legit text 0 s (plainly text vs)
+plainly_legit text [] s = tt
+plainly_legit text (v ∷ vs) s = ((λ e. absurd (true≢false (sym e))), plainly_legit text vs (line_taken text s v.line))
+
+plainly_taken : (text : List ℕ) (vs : List (Seen text 0)) (s : State) → fold (taken text 0) s (plainly text vs) ≡ fold (line_taken text) s (map (λ (v : Seen text 0). v.line) vs)
+plainly_taken text [] s = refl
+plainly_taken text (v ∷ vs) s = plainly_taken text vs (line_taken text s v.line)
+
+plainly_shown : (text : List ℕ) (vs : List (Seen text 0)) → map (shown text 0) (plainly text vs) ≡ map (λ (v : Seen text 0). left_at v.place v.bytes) vs
+plainly_shown text [] = refl
+plainly_shown text (v ∷ vs) = ap (λ zs. left_at v.place v.bytes ∷ zs) (plainly_shown text vs)
 
 -- the fuel of the declaration is enough for its lines
-size_from : (n : ℕ) (ls : List DeclaredLine) → n + length ls ≤ fold (λ (m : ℕ) (l : DeclaredLine). m + length (line_bytes l) + 1) n ls
-size_from n [] = omega arith
-size_from n (l ∷ ls) =
-    let later : n + length (line_bytes l) + 1 + length ls ≤ fold (λ (m : ℕ) (x : DeclaredLine). m + length (line_bytes x) + 1) (n + length (line_bytes l) + 1) ls = size_from (n + length (line_bytes l) + 1) ls in
+size_from : (text : List ℕ) (n : ℕ) (vs : List (Seen text 0)) → n + weigh text 0 (plainly text vs) ≤ fold (λ (m : ℕ) (l : DeclaredLine). m + length (line_bytes l) + 1) n (map (λ (v : Seen text 0). left_at v.place v.bytes) vs)
+size_from text n [] = omega arith
+size_from text n (v ∷ vs) =
+    let later : n + length v.bytes + 1 + weigh text 0 (plainly text vs) ≤ fold (λ (m : ℕ) (x : DeclaredLine). m + length (line_bytes x) + 1) (n + length v.bytes + 1) (map (λ (z : Seen text 0). left_at z.place z.bytes) vs) = size_from text (n + length v.bytes + 1) vs in
     omega (arith, later)
 
-pub leaves-declared : LeavesAreDeclared
-unfolding blocks_in page_in known_of blocks blocks_of
-leaves-declared text fits plain leaves = record { blocks = ends.blocks; definitions = ends.read ∙ sym ends.declares }
+-- nothing is open
+abbrev nothing_open : Open []
+nothing_open = record { opened = []; quotes = []; are = refl; places = refl }
+
+pub quotes-declared : QuotesAreDeclared
+unfolding blocks_in page_in known_of blocks blocks_of is_covered
+quotes-declared text fits holds = record {
+  blocks = ap (λ (s : State). tree_of (placed_in text s.pieces s.blocks)) page_is ∙ holds_read text run k.blocks k.pieces (told (tree declared_found)) refl k.holds;
+  definitions = ap (λ (s : State). s.definitions) page_is ∙ append-nil (defined (tree declared_found));
+}
   where
     ds : List DeclaredLine
     ds = declared_lines text
 
+    covered : (list_any is_special text ≡ false) × (list_all (λ l. is_leaf (ends_with_feed text) (beginning (content_of l))) ds ≡ true)
+    covered = both_true (list_any is_special text) (list_all (λ l. is_leaf (ends_with_feed text) (beginning (content_of l))) ds) holds
+
+    plain : IsPlain text
+    plain = covered.0
+
     same : map (declared text) (lines_of text) ≡ ds
     same = lines_same text plain
 
-    count : length ds ≡ length (lines_of text)
-    count = sym (ap length same) ∙ length-map (lines_of text) (declared text)
+    all : Rows text (lines_of text)
+    all = all_rows text (lines_of text) plain fits (lines_sound text plain) (subst (λ (ls : List DeclaredLine). AllByRecursion (IsLeaf text) ls) (sym same) (leaves_of text ds (covered.1))) (subst (λ (ls : List DeclaredLine). AllByRecursion IsFeedless ls) (sym same) (feedless_lines text)) (λ e. lines_fed text plain e)
 
-    enough : length (lines_of text) ≤ size ds
-    enough = let all : 0 + length ds ≤ size ds = size_from 0 ds in omega (arith, all, count)
+    cs : List (Coming text 0)
+    cs = plainly text all.rows
 
-    room : 0 + length (lines_of text) + 1 < 2 ^ 64
-    room = omega (arith, lines_few text, fits)
+    shows : map (shown text 0) cs ≡ ds
+    shows = plainly_shown text all.rows ∙ all.shows ∙ same
 
-    facts : AllByRecursion (Facts text) (lines_of text)
-    facts = all_facts text (lines_of text) plain fits (lines_sound text plain) (subst (λ (ls : List DeclaredLine). AllByRecursion (IsLeafLine (ends_with_feed text) (has_label_end text)) ls) (sym same) leaves) (λ e. lines_fed text plain e)
+    count : length cs ≡ length (lines_of text)
+    count = length-map all.rows (λ (v : Seen text 0). Plainly v) ∙ sym (length-map all.rows (λ (v : Seen text 0). v.line)) ∙ ap length all.lines
 
-    ends : Ends text (final text (closed [] [] 0 0 0) (lines_of text)) none (blocks_from (size ds) 0 ds)
-    ends = subst (λ (ls : List DeclaredLine). Ends text (final text (closed [] [] 0 0 0) (lines_of text)) none (blocks_from (size ds) 0 ls)) same
-        (read_all text (size ds) 0 (lines_of text) [] [] 0 0 0 none (holds_none text) room enough facts)
+    run : Run
+    run = record { outer = []; base = []; old = []; count = length cs; limit = 2 ^ 64; fits = omega arith }
+
+    enough : weigh text 0 cs ≤ size ds
+    enough = let q : 0 + weigh text 0 cs ≤ size (map (λ (v : Seen text 0). left_at v.place v.bytes) all.rows) = size_from text 0 all.rows in let e : size (map (λ (v : Seen text 0). left_at v.place v.bytes) all.rows) ≡ size ds = ap size (all.shows ∙ same) in omega (arith, q, e)
+
+    start_page : State
+    start_page = closed nothing_open [] [] 0 0 0
+
+    last_page : State
+    last_page = fold (line_taken text) start_page (lines_of text)
+
+    declared_found : List Found
+    declared_found = blocks_from (size ds) 0 ds
+
+    taken_all : fold (taken text 0) start_page cs ≡ last_page
+    taken_all = plainly_taken text all.rows start_page ∙ ap (fold (line_taken text) start_page) all.lines
+
+    ends : Ends text run last_page none declared_found
+    ends = subst (λ (s : State). Ends text run s none declared_found) taken_all
+        (subst (λ (ls : List DeclaredLine). Ends text run (fold (taken text 0) start_page cs) none (blocks_from (size ds) 0 ls)) shows
+        (goal_of text run (size ds) (read_all text (size ds) run (size ds) (omega arith)) 0 cs nothing_open [] [] 0 0 0 none (holds_none text run) (omega (arith, count, lines_few text, fits)) enough (omega arith) (plainly_legit text all.rows start_page)))
+
+    k : Shuts text run (with_open last_page ends.now) (told (tree declared_found)) (defined (tree declared_found))
+    k = ends.shuts ends.now
+
+    page_is : closed_to text 0 last_page ≡ after_these (defined (tree declared_found)) (closed k.now k.blocks k.pieces k.end k.number k.kept)
+    page_is = ap (closed_to text 0) (sym ends.opened) ∙ k.is

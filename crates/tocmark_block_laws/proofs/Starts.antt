@@ -1,5 +1,5 @@
 -- What a line without tabs begins: the reader sees at its column what the declaration sees in its bytes.
-use Rattle.std.proofs.Common.{◌≡◌, ◌⊎◌, inl, inr, ℕ, suc, ◌+◌, ◌-◌, ◌^◌, ◌<◌, ◌≤◌, Bool, true, false, not, ◌==◌, ◌&&◌, ◌||◌, cond, if◌then◌else◌, nat_lt, nat_le, List, [], ◌∷◌, length, take, drop, reverse, refl, ap, sym, subst, ◌∙◌, arith, length-drop, true≢false}
+use Rattle.std.proofs.Common.{◌≡◌, ◌⊎◌, inl, inr, ℕ, zero, suc, ◌+◌, ◌-◌, ◌^◌, ◌<◌, ◌≤◌, Bool, true, false, not, ◌==◌, ◌&&◌, ◌||◌, cond, if◌then◌else◌, nat_lt, nat_le, List, [], ◌∷◌, length, take, drop, reverse, refl, ap, sym, subst, ◌∙◌, arith, length-drop, true≢false}
 use Rattle.std.specs.Prelude.{take_while, unwrap_or, Option, Some, None, is_some}
 use Rattle.std.specs.List.{prefix_len}
 use Rattle.std.specs.Char.{is_ascii_digit}
@@ -29,21 +29,22 @@ use Rattle.tocmark_read_lines.proofs.Columns.{bytes_kept, length_kept, plain_cel
 use Rattle.tocmark_read_blocks.specs.Leaves.{leaf_at, mark_at, html_at, interrupting, underline_in, rule_at}
 use Rattle.tocmark_read_blocks.specs.declared.leaf.LeafStart.{LeafStart}
 use Rattle.tocmark_read_blocks.specs.declared.leaf.LeafStart.TheVariants as start
-use Rattle.tocmark_commonmark.specs.Lines.{Part, is_blank_byte, is_blank, indent, line_ink, without_last_blanks, cells, document_line}
-use Rattle.tocmark_commonmark.specs.Beginnings.{Beginning, BlankLine, CodeLine, QuoteLine, HeadingLine, FenceLine, HtmlLine, RuleLine, ItemLine, TextLine, LazyLine, html_if, begins_with, first_of_these, near_beginning, beginning_of, beginning, heading_text}
+use Rattle.tocmark_commonmark.specs.Lines.{Line as DeclaredLine, Part, Written, is_blank_byte, is_blank, indent, line_ink, without_last_blanks, cells}
+use Rattle.tocmark_commonmark.specs.Beginnings.{Beginning, BlankLine, CodeLine, QuoteLine, HeadingLine, FenceLine, HtmlLine, RuleLine, ItemLine, TextLine, LazyLine, html_if, first_of_these, near_beginning, beginning_of, beginning, heading_text}
 use Rattle.tocmark_commonmark.specs.Leaves.{info, underlined, underline}
-use Rattle.tocmark_block_laws.specs.Leaves.{IsPlain, ends_with_feed, is_leaf, has_label_end, IsLeafLine}
+use Rattle.tocmark_block_laws.specs.Quotes.{IsPlain, ends_with_feed, is_leaf}
 use Rattle.tocmark_read_blocks.specs.Codes.{info_of}
 use Rattle.tocmark_read_page.specs.declared.page.BlockKind.TheVariants as block_kind
 use Rattle.tocmark_block_laws.proofs.Columns.{length_on, ink_on, run_low, ink_low, Behind, byte_on, between_on, plus_low}
 use Rattle.tocmark_block_laws.proofs.Marks.{trimmed_on, heading_later, heading_on, fence_indented, fence_on, underline_on, marker_on, back_stops, rule_on}
-use Rattle.tocmark_block_laws.proofs.Fronts.{spaces_of, part_of, at_ink, indent_same, spaces_low, blank_same, cursor_same, behind_at, between_further, ink_first, byte_first, between_in}
-use Rattle.tocmark_block_laws.proofs.Labels.{clear_between, clear_drop}
-use Rattle.tocmark_block_laws.proofs.Codes.{Fed, CodeFacts, code_facts}
-use Rattle.tocmark_block_laws.proofs.Texts.{blanks_same, trimmed_high, trimmed_text, between_is, between_length, Trimmed, heading_text_trimmed, place_there, place_here}
-use Rattle.tocmark_block_laws.proofs.TextLines.{no_tab, declared, Sound, drop_plain, between_plain}
+use Rattle.tocmark_block_laws.proofs.Fronts.{spaces_of, part_at, place_at, indent_same, blank_same, behind_at, between_further, between_in}
+use Rattle.tocmark_block_laws.proofs.Open.{is_marked}
+use Rattle.tocmark_block_laws.proofs.Codes.{Fed, CodeFacts}
+use Rattle.tocmark_block_laws.proofs.Feeds.{has_feed}
+use Rattle.tocmark_block_laws.proofs.Texts.{blanks_same, trimmed_high, trimmed_text, between_is, Trimmed, heading_text_trimmed, place_there, place_here}
+use Rattle.tocmark_block_laws.proofs.TextLines.{no_tab, drop_plain}
 
--- what a line begins, to the reader: in a paragraph or not, and with these columns in front
+-- what a line begins, to the reader: in a paragraph or not, directly in it or not, at this place
 
 abbrev pub plain_start : Bool → Option HeadingLevel → LeafStart → LeafStart
 plain_start true (Some level) other = start.Underline level
@@ -54,17 +55,21 @@ abbrev pub html_start : Option HtmlKind → LeafStart
 html_start None = start.Text
 html_start (Some k) = start.Html k
 
-abbrev pub start_as : ℕ → Bool → Option HeadingLevel → Beginning → LeafStart
-start_as n p u BlankLine = start.Blank
-start_as n p u CodeLine = if p then start.Text else start.Indented (plus 0 4)
-start_as n p u QuoteLine = start.Text
-start_as n p u (HeadingLine h) = start.Heading (heading_later n h)
-start_as n p u (FenceLine f) = start.Fence f
-start_as n p u (HtmlLine k) = html_start (interrupting p k)
-start_as n p u RuleLine = plain_start p u start.Rule
-start_as n p u (ItemLine m) = start.Text
-start_as n p u TextLine = plain_start p u start.Text
-start_as n p u LazyLine = start.Text
+abbrev pub start_as : Cursor → Bool → Bool → Option HeadingLevel → Beginning → LeafStart
+start_as place p w u BlankLine = start.Blank
+start_as place p w u CodeLine = if p then start.Text else start.Indented (plus place.column 4)
+start_as place p w u QuoteLine = start.Text
+start_as place p w u (HeadingLine h) = start.Heading (heading_later place.ink h)
+start_as place p w u (FenceLine f) = start.Fence f
+start_as place p w u (HtmlLine k) = html_start (interrupting p k)
+start_as place p w u RuleLine = plain_start w u start.Rule
+start_as place p w u (ItemLine m) = start.Text
+start_as place p w u TextLine = plain_start w u start.Text
+start_as place p w u LazyLine = start.Text
+
+-- a line that begins a leaf
+abbrev pub IsLeafLine : Bool → DeclaredLine → Type 0
+IsLeafLine fed l = is_leaf fed (beginning l) ≡ true
 
 -- not the beginning of a container
 abbrev pub is_flat : Beginning → Bool
@@ -76,6 +81,10 @@ is_flat b = true
 abbrev pub is_blank_kind : Beginning → Bool
 is_blank_kind BlankLine = true
 is_blank_kind b = false
+
+abbrev pub is_quote_kind : Beginning → Bool
+is_quote_kind QuoteLine = true
+is_quote_kind b = false
 
 -- a line that may be an underline
 abbrev pub may_underline : Beginning → Bool
@@ -96,39 +105,42 @@ leaf_flat fed TextLine e = refl
 leaf_flat fed LazyLine e = absurd (true≢false (sym e))
 
 -- the text of a heading, if this is the ink of its line
-pub record HeadingFacts (text : List ℕ) (l : Line) (columns : List Cell) (spaces : ℕ) (h : Heading) (ys : List ℕ) : Type 0 where
-  pub says : bytes_between text (cell_place columns (spaces + h.from) l.end) (cell_place columns (spaces + h.to) l.end) ≡ heading_text h ys (cells ys)
+pub record HeadingFacts (text : List ℕ) (l : Line) (columns : List Cell) (at : ℕ) (h : Heading) (ys : List ℕ) : Type 0 where
+  pub says : bytes_between text (cell_place columns (at + h.from) l.end) (cell_place columns (at + h.to) l.end) ≡ heading_text h ys (cells ys)
   pub idle : without_last_blanks (heading_text h ys (cells ys)) ≡ heading_text h ys (cells ys)
 
 -- the info string of a fence, if this is the ink of its line
-pub record InfoFacts (text : List ℕ) (l : Line) (columns : List Cell) (spaces : ℕ) (f : Fence) (ys : List ℕ) : Type 0 where
+pub record InfoFacts (text : List ℕ) (l : Line) (columns : List Cell) (place : Cursor) (f : Fence) (ys : List ℕ) : Type 0 where
   pub from : ℕ
   pub to : ℕ
-  pub shape : info_of columns (at_ink spaces) f l ≡ block_kind.Fenced from to
+  pub shape : info_of columns place f l ≡ block_kind.Fenced from to
   pub says : bytes_between text from to ≡ info f ys
 
--- a line as both see it
-pub record Facts (text : List ℕ) (l : Line) : Type 0 where
-  pub spaces : ℕ
-  pub columns : List Cell
+-- what is left of a line at a place, as it is declared
+abbrev pub left_at : Cursor → List ℕ → DeclaredLine
+left_at place ys = Written (part_at place.column ys)
+
+-- a line as both see it at a place, where this is left of it
+pub record Facts (text : List ℕ) (l : Line) (columns : List Cell) (place : Cursor) (ys : List ℕ) : Type 0 where
   pub kind : Beginning
   pub level : Option HeadingLevel
   pub read : cells_of [] l.start (bytes_between text l.start l.end) ≡ columns
-  pub cursor : first_cursor columns ≡ at_ink spaces
-  pub opens : (p : Bool) → container_in CORE columns (tail_of columns) (at_ink spaces) p ≡ None
-  pub starts : (p : Bool) → leaf_at columns (bytes_between text (cell_place columns spaces l.end) l.end) (tail_of columns) (at_ink spaces) p p ≡ start_as spaces p level kind
-  pub begins : beginning (declared text l) ≡ kind
-  pub leaf : is_leaf (ends_with_feed text) kind ≡ true
+  pub marks : is_marked columns place ≡ is_quote_kind kind
+  pub left : is_quote_kind kind ≡ true → nat_le (length columns) place.column ≡ false
+  pub quoted : is_quote_kind kind ≡ true → (p : Bool) → container_in CORE columns (tail_of columns) place p ≡ Some begins.Quote
+  pub opens : is_quote_kind kind ≡ false → (p : Bool) → container_in CORE columns (tail_of columns) place p ≡ None
+  pub starts : is_quote_kind kind ≡ false → (p w : Bool) → leaf_at columns (bytes_between text (cell_place columns place.ink l.end) l.end) (tail_of columns) place p w ≡ start_as place p w level kind
+  pub begins : beginning (left_at place ys) ≡ kind
+  pub leaf : is_quote_kind kind ≡ false → is_leaf (ends_with_feed text) kind ≡ true
   pub marked : may_underline kind ≡ false → level ≡ None
-  pub under : is_blank_kind kind ≡ false → (texts : List (List ℕ)) → underline texts (declared text l) ≡ underlined texts level
-  pub ink : is_blank_kind kind ≡ false → bytes_between text (cell_place columns spaces l.end) l.end ≡ line_ink (declared text l)
-  pub some : is_blank_kind kind ≡ false → nat_lt (cell_place columns spaces l.end) l.next ≡ true
-  pub bracket : has_label_end text ≡ true → begins_with 91 (line_ink (declared text l)) ≡ false
-  pub clear : has_label_end text ≡ false → has_label_end (line_ink (declared text l)) ≡ false
+  pub under : is_blank_kind kind ≡ false → (texts : List (List ℕ)) → underline texts (left_at place ys) ≡ underlined texts level
+  pub ink : is_blank_kind kind ≡ false → bytes_between text (cell_place columns place.ink l.end) l.end ≡ line_ink (left_at place ys)
+  pub some : is_blank_kind kind ≡ false → nat_lt (cell_place columns place.ink l.end) l.next ≡ true
+  pub feedless : has_feed (line_ink (left_at place ys)) ≡ false
   pub plain : IsPlain text
-  pub heads : (h : Heading) → kind ≡ HeadingLine h → HeadingFacts text l columns spaces h (line_ink (declared text l))
-  pub infos : (x : Fence) → kind ≡ FenceLine x → InfoFacts text l columns spaces x (line_ink (declared text l))
-  pub code : CodeFacts text l columns spaces
+  pub heads : (h : Heading) → kind ≡ HeadingLine h → HeadingFacts text l columns place.ink h (line_ink (left_at place ys))
+  pub infos : (x : Fence) → kind ≡ FenceLine x → InfoFacts text l columns place x (line_ink (left_at place ys))
+  pub code : CodeFacts text l columns place ys
   pub fed : ends_with_feed text ≡ true → Fed text l
 
 -- a byte that a heading, a fence or HTML begins with begins nothing else
@@ -155,8 +167,13 @@ sign_none b h = by (one_of_four (b == 35) (b == 96) (b == 126) (b == 60) h)
     by (inr (inr (inl e))) = at 126 e (record { digit = refl; bullet = refl; underline = refl; rule = refl })
     by (inr (inr (inr e))) = at 60 e (record { digit = refl; bullet = refl; underline = refl; rule = refl })
 
+-- the marker of a quote is none of these either
+quote_none : (b : ℕ) → (b == 62) ≡ true → NoMark b
+unfolding is_underline_byte is_rule_byte
+quote_none b e = subst NoMark (sym (eq_of b 62 e)) (record { digit = refl; bullet = refl; underline = refl; rule = refl })
+
 -- columns whose first byte is this
-record First (r : List Cell) (b : ℕ) : Type 0 where
+pub record First (r : List Cell) (b : ℕ) : Type 0 where
   pub rest : List ℕ
   pub bytes : bytes_of r ≡ b ∷ rest
 
@@ -254,20 +271,20 @@ plain_starts true (Some l) other = refl
 plain_starts true None other = refl
 plain_starts false u other = refl
 
-near_starts : (part : Part) (q : Bool) (h : Option Heading) (f : Option Fence) (k : Option HtmlKind) (r : Bool) (m : Option Marker) (n indented : ℕ) (p : Bool) (u : Option HeadingLevel)
-    → is_flat (first_of_these part q h f k r m) ≡ true → indented ≡ indent part → (begins_sign h f k ≡ true → (u ≡ None) × (r ≡ false))
-    → unwrap_or (option_map (λ x. start.Heading x) (option_map (heading_later n) h))
-    (unwrap_or (option_map (λ x. start.Fence x) (option_map (fence_indented indented) f))
+near_starts : (part : Part) (q : Bool) (h : Option Heading) (f : Option Fence) (k : Option HtmlKind) (r : Bool) (m : Option Marker) (place : Cursor) (p w : Bool) (u : Option HeadingLevel)
+    → is_flat (first_of_these part q h f k r m) ≡ true → indent_of place ≡ indent part → (begins_sign h f k ≡ true → (u ≡ None) × (r ≡ false))
+    → unwrap_or (option_map (λ x. start.Heading x) (option_map (heading_later place.ink) h))
+    (unwrap_or (option_map (λ x. start.Fence x) (option_map (fence_indented (indent_of place)) f))
     (unwrap_or (option_map (λ x. start.Html x) (option_and_then (interrupting p) k))
-    (unwrap_or (option_map (λ x. start.Underline x) (if p then u else None)) (if r then start.Rule else start.Text))))
-    ≡ start_as n p u (first_of_these part q h f k r m)
-near_starts part true h f k r m n i p u e w g = absurd (true≢false (sym e))
-near_starts part false (Some x) f k r m n i p u e w g = refl
-near_starts part false None (Some f) k r m n i p u e w g = ap (λ d. start.Fence (fence_indented d f)) w
-near_starts part false None None (Some k) r m n i p u e w g = html_starts p r u (interrupting p k) (g refl)
-near_starts part false None None None true m n i p u e w g = plain_starts p u start.Rule
-near_starts part false None None None false (Some m) n i p u e w g = absurd (true≢false (sym e))
-near_starts part false None None None false None n i p u e w g = plain_starts p u start.Text
+    (unwrap_or (option_map (λ x. start.Underline x) (if w then u else None)) (if r then start.Rule else start.Text))))
+    ≡ start_as place p w u (first_of_these part q h f k r m)
+near_starts part true h f k r m place p w u e d g = absurd (true≢false (sym e))
+near_starts part false (Some x) f k r m place p w u e d g = refl
+near_starts part false None (Some f) k r m place p w u e d g = ap (λ n. start.Fence (fence_indented n f)) d
+near_starts part false None None (Some k) r m place p w u e d g = html_starts w r u (interrupting p k) (g refl)
+near_starts part false None None None true m place p w u e d g = plain_starts w u start.Rule
+near_starts part false None None None false (Some m) place p w u e d g = absurd (true≢false (sym e))
+near_starts part false None None None false None place p w u e d g = plain_starts w u start.Text
 
 near_marked : (part : Part) (q : Bool) (h : Option Heading) (f : Option Fence) (k : Option HtmlKind) (r : Bool) (m : Option Marker) (u : Option HeadingLevel)
     → is_flat (first_of_these part q h f k r m) ≡ true → (begins_sign h f k ≡ true → u ≡ None) → may_underline (first_of_these part q h f k r m) ≡ false → u ≡ None
@@ -318,152 +335,192 @@ html_same b bs = by (b == 60) refl
     by true q = refl
     by false q = rw q refl
 
+pub near_quote : (part : Part) (q : Bool) (h : Option Heading) (f : Option Fence) (k : Option HtmlKind) (r : Bool) (m : Option Marker) → is_quote_kind (first_of_these part q h f k r m) ≡ q
+near_quote part true h f k r m = refl
+near_quote part false (Some x) f k r m = refl
+near_quote part false None (Some f) k r m = refl
+near_quote part false None None (Some k) r m = refl
+near_quote part false None None None true m = refl
+near_quote part false None None None false (Some m) = refl
+near_quote part false None None None false None = refl
+
+-- what is known of each line
+
+-- a line and a column of it
+pub record At (text : List ℕ) (l : Line) (c : ℕ) (xs ys : List ℕ) : Type 0 where
+  pub same : bytes_between text l.start l.end ≡ xs
+  pub left : drop c xs ≡ ys
+  pub inside : c ≤ length xs
+  pub whole : IsPlain xs
+  pub plain : IsPlain ys
+  pub text_plain : IsPlain text
+  pub order : l.start ≤ l.end
+  pub within : l.end ≤ length text
+  pub next : l.end ≤ l.next
+  pub width : l.end ≡ l.start + length xs
+  pub count : length xs ≡ c + length ys
+  pub short : length xs + 3 < 2 ^ 64
+  pub end_fits : l.end + 3 < 2 ^ 64
+  pub code : CodeFacts text l (cells_at l.start [] xs) (place_at c ys) ys
+  pub fed : ends_with_feed text ≡ true → Fed text l
+  pub feedless : has_feed (line_ink (left_at (place_at c ys) ys)) ≡ false
+
+-- a line that begins a leaf at a column
+abbrev pub IsLeafAt : List ℕ → ℕ → List ℕ → Type 0
+IsLeafAt text c ys = IsLeafLine (ends_with_feed text) (left_at (place_at c ys) ys)
+
 -- a line without a tab that is blank
 
-blank_facts : (text : List ℕ) (l : Line) (xs : List ℕ) → bytes_between text l.start l.end ≡ xs → IsPlain xs → length xs + 3 < 2 ^ 64 → is_blank xs ≡ true → (has_label_end text ≡ true → begins_with 91 (line_ink (declared text l)) ≡ false) → (has_label_end text ≡ false → has_label_end (line_ink (declared text l)) ≡ false) → IsPlain text → CodeFacts text l (cells_at l.start [] xs) (spaces_of xs) → (ends_with_feed text ≡ true → Fed text l) → Facts text l
+past_end : (xs : List ℕ) (k : ℕ) → length xs ≤ k → byte_at xs k ≡ 10
+past_end [] k low = refl
+past_end (x ∷ xs) zero low = absurd (omega (arith, low))
+past_end (x ∷ xs) (suc k) low = past_end xs k (omega (arith, low))
+
+pub blank_facts : (text : List ℕ) (l : Line) (c : ℕ) (xs ys : List ℕ) → At text l c xs ys → is_blank ys ≡ true → IsLeafAt text c ys → Facts text l (cells_at l.start [] xs) (place_at c ys) ys
 unfolding container_in container_at definition_start note_start leaf_at beginning
-blank_facts text l xs same h fits blank bracket clear plain code fed =
+blank_facts text l c xs ys i blank leaf =
     record {
-      spaces = spaces_of xs;
-      columns = cells_at l.start [] xs;
       kind = BlankLine;
       level = None;
-      read = ap (cells_of [] l.start) same ∙ plain_cells l.start xs (no_tab xs h);
-      cursor = cursor_same l.start xs h fits;
-      opens = λ p. rw long refl;
-      starts = λ p. rw long refl;
-      begins = ap (λ ys. beginning_of (part_of ys) (is_blank ys) (nat_le 4 (indent (part_of ys)))) same ∙ ap (λ k. beginning_of (part_of xs) k (nat_le 4 (indent (part_of xs)))) blank;
-      leaf = refl;
+      read = ap (cells_of [] l.start) i.same ∙ plain_cells l.start xs (no_tab xs i.whole);
+      marks = ap (λ b. nat_le (c + n - c) 3 && (b == 62)) at_end ∙ never (nat_le (c + n - c) 3);
+      left = λ e. absurd (true≢false (sym e));
+      quoted = λ e. absurd (true≢false (sym e));
+      opens = λ e p. rw long refl;
+      starts = λ e p w. rw long refl;
+      begins = ap (λ k. beginning_of (part_at c ys) k (nat_le 4 (indent (part_at c ys)))) blank;
+      leaf = λ e. refl;
       marked = λ e. refl;
       under = λ e. absurd (true≢false e);
       ink = λ e. absurd (true≢false e);
       some = λ e. absurd (true≢false e);
-      bracket = bracket;
-      clear = clear;
-      plain = plain;
+      feedless = i.feedless;
+      plain = i.text_plain;
       heads = λ x e. absurd cc;
       infos = λ x e. absurd cc;
-      code = code;
-      fed = fed;
+      code = i.code;
+      fed = i.fed;
     }
   where
-    long : nat_le (length (cells_at l.start [] xs)) (spaces_of xs) ≡ true
-    long = ap (λ n. nat_le n (spaces_of xs)) (length_kept l.start [] xs) ∙ blank_same xs ∙ blank
+    n : ℕ
+    n = spaces_of ys
+
+    count : length xs ≡ c + length ys
+    count = i.count
+
+    ended : length ys ≤ n
+    ended = let q : nat_le (length ys) n ≡ true = blank_same ys ∙ blank in grind (arith, q, nat_tests)
+
+    long : nat_le (length (cells_at l.start [] xs)) (c + n) ≡ true
+    long = ap (λ m. nat_le m (c + n)) (length_kept l.start [] xs) ∙ (let q : length xs ≤ c + n = omega (arith, ended, count) in grind (arith, q, nat_tests))
+
+    at_end : cell_byte (cells_at l.start [] xs) (c + n) ≡ 10
+    at_end = byte_asked (cells_at l.start [] xs) (c + n) ∙ ap (λ bs. byte_at bs (c + n)) (bytes_kept l.start [] xs) ∙ past_end xs (c + n) (omega (arith, ended, count))
+
+    never : (k : Bool) → (k && (10 == 62)) ≡ false
+    never true = refl
+    never false = refl
 
 -- a line with ink after its spaces
-record Inked (text : List ℕ) (l : Line) (xs : List ℕ) (b : ℕ) (bs : List ℕ) : Type 0 where
-  pub same : bytes_between text l.start l.end ≡ xs
-  pub plain : IsPlain xs
-  pub inked : drop (spaces_of xs) xs ≡ b ∷ bs
+pub record Inked (text : List ℕ) (l : Line) (c : ℕ) (xs ys : List ℕ) (b : ℕ) (bs : List ℕ) : Type 0 where
+  pub inked : drop (spaces_of ys) ys ≡ b ∷ bs
   pub no_space : (b == 32) ≡ false
-  pub order : l.start ≤ l.end
-  pub within : l.end ≤ length text
-  pub short : length xs + 3 < 2 ^ 64
-  pub end_fits : l.end + 3 < 2 ^ 64
-  pub width : l.end ≡ l.start + length xs
-  pub count : length xs ≡ spaces_of xs + suc (length bs)
-  pub behind : Behind (spaces_of xs) (cells_at l.start [] xs) (cells (b ∷ bs))
-  pub long : nat_le (length (cells_at l.start [] xs)) (spaces_of xs) ≡ false
-  pub placed : cell_place (cells_at l.start [] xs) (spaces_of xs) l.end ≡ l.start + spaces_of xs
-  pub before_next : nat_lt (l.start + spaces_of xs) l.next ≡ true
-  pub rested : bytes_between text (cell_place (cells_at l.start [] xs) (spaces_of xs) l.end) l.end ≡ b ∷ bs
-  pub byte : byte_at text (l.start + spaces_of xs) ≡ b
+  pub fewer : length ys ≡ spaces_of ys + suc (length bs)
+  pub behind : Behind (c + spaces_of ys) (cells_at l.start [] xs) (cells (b ∷ bs))
+  pub long : nat_le (length (cells_at l.start [] xs)) (c + spaces_of ys) ≡ false
+  pub placed : cell_place (cells_at l.start [] xs) (c + spaces_of ys) l.end ≡ l.start + (c + spaces_of ys)
+  pub before_next : nat_lt (l.start + (c + spaces_of ys)) l.next ≡ true
+  pub rested : bytes_between text (cell_place (cells_at l.start [] xs) (c + spaces_of ys) l.end) l.end ≡ b ∷ bs
   pub rest_bytes : bytes_of (cells (b ∷ bs)) ≡ b ∷ bs
   pub rest_plain : IsPlain (b ∷ bs)
 
-inked_line : (text : List ℕ) (l : Line) (xs : List ℕ) → bytes_between text l.start l.end ≡ xs → IsPlain xs → length text + 3 < 2 ^ 64 → Sound text l → is_blank xs ≡ false
-    → (b : ℕ) (bs : List ℕ) → drop (spaces_of xs) xs ≡ b ∷ bs → is_blank_byte b ≡ false → Inked text l xs b bs
-inked_line text l xs same h fits sound blank b bs inked first_byte =
+pub inked_line : (text : List ℕ) (l : Line) (c : ℕ) (xs ys : List ℕ) → At text l c xs ys → (b : ℕ) (bs : List ℕ) → drop (spaces_of ys) ys ≡ b ∷ bs → is_blank_byte b ≡ false → Inked text l c xs ys b bs
+inked_line text l c xs ys i b bs inked first_byte =
     record {
-      same = same;
-      plain = h;
       inked = inked;
       no_space = (both_false (b == 32) (b == 9) first_byte).0;
-      order = ordered;
-      within = in_text;
-      short = short;
-      end_fits = omega (arith, in_text, fits);
-      width = omega (arith, width, ordered);
-      count = omega (arith, counted, suc_long);
-      behind = subst (λ (ys : List ℕ). Behind n whole (cells ys)) inked (behind_at l.start xs n (spaces_low xs) h short);
-      long = ap (λ k. nat_le k n) (length_kept l.start [] xs) ∙ blank_same xs ∙ blank;
+      fewer = fewer;
+      behind = subst (λ (zs : List ℕ). Behind (c + n) whole (cells zs)) further (behind_at l.start xs (c + n) (omega (arith, fewer, count)) i.whole i.short);
+      long = ap (λ k. nat_le k (c + n)) (length_kept l.start [] xs) ∙ (let q : c + n < length xs = omega (arith, fewer, count) in grind (arith, q, nat_tests));
       placed = placed;
-      before_next = let less : l.start + n < l.next = let order : l.end ≤ l.next = sound.next in omega (arith, fewer, width, ordered, order) in grind (arith, nat_tests);
+      before_next = let less : l.start + (c + n) < l.next = omega (arith, fewer, count, width, next) in grind (arith, less, nat_tests);
       rested = rested;
-      byte = byte_first text (l.start + n) l.end b bs (sym (ap (λ k. bytes_between text k l.end) placed) ∙ rested);
       rest_bytes = ap bytes_of (plain_cells 0 (b ∷ bs) (no_tab (b ∷ bs) rest_plain)) ∙ bytes_kept 0 [] (b ∷ bs);
       rest_plain = rest_plain;
     }
   where
     n : ℕ
-    n = spaces_of xs
+    n = spaces_of ys
 
     whole : List Cell
     whole = cells_at l.start [] xs
-
-    ordered : l.start ≤ l.end
-    ordered = sound.order
 
     in_text : l.end ≤ length text
-    in_text = sound.within
+    in_text = i.within
 
-    width : length xs ≡ l.end - l.start
-    width = sym (ap length same) ∙ between_length text l.start l.end ordered in_text
-
-    short : length xs + 3 < 2 ^ 64
-    short = omega (arith, width, in_text, fits)
-
-    counted : length (drop n xs) ≡ length xs - n
-    counted = length-drop n xs
-
-    suc_long : length (drop n xs) ≡ suc (length bs)
-    suc_long = ap length inked
-
-    fewer : n < length xs
-    fewer = omega (arith, counted, suc_long)
-
-    placed : cell_place whole n l.end ≡ l.start + n
-    placed = place_there l.start xs n l.end (omega (arith, fewer)) (omega (arith, width, ordered)) (omega (arith, in_text, fits))
-
-    rested : bytes_between text (cell_place whole n l.end) l.end ≡ b ∷ bs
-    rested =
-        ap (λ k. bytes_between text k l.end) placed
-        ∙ between_further text l.start n l.end (omega (arith, fewer, width, ordered)) in_text
-        ∙ ap (drop n) same ∙ inked
-
-    rest_plain : IsPlain (b ∷ bs)
-    rest_plain = subst (λ (ys : List ℕ). IsPlain ys) inked (drop_plain n xs h)
-
--- a part of the ink, in the text and by itself
-ink_part : (text : List ℕ) (l : Line) (xs : List ℕ) (b : ℕ) (bs : List ℕ) → Inked text l xs b bs → (from to : ℕ) → from ≤ length (b ∷ bs) → to ≤ length (b ∷ bs)
-    → bytes_between text (cell_place (cells_at l.start [] xs) (spaces_of xs + from) l.end) (cell_place (cells_at l.start [] xs) (spaces_of xs + to) l.end) ≡ bytes_between (b ∷ bs) from to
-ink_part text l xs b bs i from to low high =
-    ap (λ k. bytes_between text k (cell_place whole (n + to) l.end)) (place_there l.start xs (n + from) l.end (omega (arith, low, count)) width end_fits)
-    ∙ ap (bytes_between text (l.start + (n + from))) (place_there l.start xs (n + to) l.end (omega (arith, high, count)) width end_fits)
-    ∙ between_in text l.start l.end (n + from) (n + to) i.order i.within (omega (arith, high, count, width))
-    ∙ ap (λ ys. bytes_between ys (n + from) (n + to)) (i.same ∙ sym (bytes_kept l.start [] xs))
-    ∙ between_on n whole (cells (b ∷ bs)) from to i.behind
-    ∙ ap (λ ys. bytes_between ys from to) i.rest_bytes
-  where
-    n : ℕ
-    n = spaces_of xs
-
-    whole : List Cell
-    whole = cells_at l.start [] xs
-
-    count : length xs ≡ n + suc (length bs)
-    count = i.count
+    next : l.end ≤ l.next
+    next = i.next
 
     width : l.end ≡ l.start + length xs
     width = i.width
 
+    count : length xs ≡ c + length ys
+    count = i.count
+
     end_fits : l.end + 3 < 2 ^ 64
     end_fits = i.end_fits
 
-heading_facts : (text : List ℕ) (l : Line) (xs : List ℕ) (b : ℕ) (bs : List ℕ) → Inked text l xs b bs → (h : Heading) → heading_at (cells (b ∷ bs)) 0 ≡ Some h → HeadingFacts text l (cells_at l.start [] xs) (spaces_of xs) h (b ∷ bs)
-heading_facts text l xs b bs i h e =
+    further : drop (c + n) xs ≡ b ∷ bs
+    further = sym (drop-drop n c xs) ∙ ap (drop n) i.left ∙ inked
+
+    fewer : length ys ≡ n + suc (length bs)
+    fewer = let counted : length (drop n ys) ≡ length ys - n = length-drop n ys in let suc_long : length (drop n ys) ≡ suc (length bs) = ap length inked in omega (arith, counted, suc_long)
+
+    placed : cell_place whole (c + n) l.end ≡ l.start + (c + n)
+    placed = place_there l.start xs (c + n) l.end (omega (arith, fewer, count)) width end_fits
+
+    rested : bytes_between text (cell_place whole (c + n) l.end) l.end ≡ b ∷ bs
+    rested =
+        ap (λ k. bytes_between text k l.end) placed
+        ∙ between_further text l.start (c + n) l.end (omega (arith, fewer, count, width)) in_text
+        ∙ ap (drop (c + n)) i.same ∙ further
+
+    rest_plain : IsPlain (b ∷ bs)
+    rest_plain = subst (λ (zs : List ℕ). IsPlain zs) inked (drop_plain n ys i.plain)
+
+-- a part of the ink, in the text and by itself
+ink_part : (text : List ℕ) (l : Line) (c : ℕ) (xs ys : List ℕ) (b : ℕ) (bs : List ℕ) → At text l c xs ys → Inked text l c xs ys b bs → (from to : ℕ) → from ≤ length (b ∷ bs) → to ≤ length (b ∷ bs)
+    → bytes_between text (cell_place (cells_at l.start [] xs) (c + spaces_of ys + from) l.end) (cell_place (cells_at l.start [] xs) (c + spaces_of ys + to) l.end) ≡ bytes_between (b ∷ bs) from to
+ink_part text l c xs ys b bs a i from to low high =
+    ap (λ k. bytes_between text k (cell_place whole (n + to) l.end)) (place_there l.start xs (n + from) l.end (omega (arith, low, count, fewer)) width end_fits)
+    ∙ ap (bytes_between text (l.start + (n + from))) (place_there l.start xs (n + to) l.end (omega (arith, high, count, fewer)) width end_fits)
+    ∙ between_in text l.start l.end (n + from) (n + to) a.order a.within (omega (arith, high, count, fewer, width))
+    ∙ ap (λ zs. bytes_between zs (n + from) (n + to)) (a.same ∙ sym (bytes_kept l.start [] xs))
+    ∙ between_on n whole (cells (b ∷ bs)) from to i.behind
+    ∙ ap (λ zs. bytes_between zs from to) i.rest_bytes
+  where
+    n : ℕ
+    n = c + spaces_of ys
+
+    whole : List Cell
+    whole = cells_at l.start [] xs
+
+    count : length xs ≡ c + length ys
+    count = a.count
+
+    fewer : length ys ≡ spaces_of ys + suc (length bs)
+    fewer = i.fewer
+
+    width : l.end ≡ l.start + length xs
+    width = a.width
+
+    end_fits : l.end + 3 < 2 ^ 64
+    end_fits = a.end_fits
+
+heading_facts : (text : List ℕ) (l : Line) (c : ℕ) (xs ys : List ℕ) (b : ℕ) (bs : List ℕ) → At text l c xs ys → Inked text l c xs ys b bs → (h : Heading) → heading_at (cells (b ∷ bs)) 0 ≡ Some h → HeadingFacts text l (cells_at l.start [] xs) (c + spaces_of ys) h (b ∷ bs)
+heading_facts text l c xs ys b bs a i h e =
     record {
-      says = ink_part text l xs b bs i h.from h.to low high ∙ sym is;
+      says = ink_part text l c xs ys b bs a i h.from h.to low high ∙ sym is;
       idle = ap without_last_blanks (is ∙ sym read) ∙ t.idle ∙ read ∙ sym is;
     }
   where
@@ -474,7 +531,7 @@ heading_facts text l xs b bs i h e =
     count = ap length i.rest_bytes
 
     t : Trimmed r h.from h.to
-    t = heading_text_trimmed r h (subst (λ (ys : List ℕ). IsPlain ys) (sym i.rest_bytes) i.rest_plain) (sym (length-map r (λ (c : Cell). c.byte))) e
+    t = heading_text_trimmed r h (subst (λ (zs : List ℕ). IsPlain zs) (sym i.rest_bytes) i.rest_plain) (sym (length-map r (λ (d : Cell). d.byte))) e
 
     low : h.from ≤ length (b ∷ bs)
     low = omega (arith, t.begins, count)
@@ -483,43 +540,44 @@ heading_facts text l xs b bs i h e =
     high = omega (arith, t.ends, count)
 
     read : bytes_between (bytes_of r) h.from h.to ≡ bytes_between (b ∷ bs) h.from h.to
-    read = ap (λ ys. bytes_between ys h.from h.to) i.rest_bytes
+    read = ap (λ zs. bytes_between zs h.from h.to) i.rest_bytes
 
     fits : length (b ∷ bs) + 3 < 2 ^ 64
-    fits = let k : length xs ≡ spaces_of xs + suc (length bs) = i.count in omega (arith, k, i.short)
+    fits = let one : length xs ≡ c + length ys = a.count in let two : length ys ≡ spaces_of ys + suc (length bs) = i.fewer in let three : length xs + 3 < 2 ^ 64 = a.short in omega (arith, one, two, three)
 
     is : heading_text h (b ∷ bs) r ≡ bytes_between (b ∷ bs) h.from h.to
     is = ap (λ k. bytes_between (b ∷ bs) k (cell_place r h.to (length (b ∷ bs)))) (place_here (b ∷ bs) h.from i.rest_plain low fits)
         ∙ ap (bytes_between (b ∷ bs) h.from) (place_here (b ∷ bs) h.to i.rest_plain high fits)
 
-info_facts : (text : List ℕ) (l : Line) (xs : List ℕ) (b : ℕ) (bs : List ℕ) → Inked text l xs b bs → (first_cursor (cells (b ∷ bs))).ink ≡ 0 → (x y : Fence) → fence_at (cells (b ∷ bs)) (first_cursor (cells (b ∷ bs))) ≡ Some y → x.count ≡ y.count → InfoFacts text l (cells_at l.start [] xs) (spaces_of xs) x (b ∷ bs)
+info_facts : (text : List ℕ) (l : Line) (c : ℕ) (xs ys : List ℕ) (b : ℕ) (bs : List ℕ) → At text l c xs ys → Inked text l c xs ys b bs → (first_cursor (cells (b ∷ bs))).ink ≡ 0 → (x y : Fence) → fence_at (cells (b ∷ bs)) (first_cursor (cells (b ∷ bs))) ≡ Some y → x.count ≡ y.count
+    → InfoFacts text l (cells_at l.start [] xs) (place_at c ys) x (b ∷ bs)
 unfolding info_of
-info_facts text l xs b bs i z x y e same =
+info_facts text l c xs ys b bs a i z x y e same =
     record {
       from = cell_place whole (n + from) l.end;
       to = cell_place whole (n + to) l.end;
       shape = ap (λ k. block_kind.Fenced (cell_place whole k l.end) (cell_place whole (trimmed whole k (length whole) 32) l.end)) first
           ∙ ap (λ k. block_kind.Fenced (cell_place whole (n + from) l.end) (cell_place whole k l.end)) second;
-      says = ink_part text l xs b bs i from to low_from low_to
-          ∙ sym (ap (λ zs. bytes_between zs from to) i.rest_bytes)
+      says = ink_part text l c xs ys b bs a i from to low_from low_to
+          ∙ sym (ap (λ ws. bytes_between ws from to) i.rest_bytes)
           ∙ ap (λ k. bytes_between (bytes_of r) from (trimmed r from k 32)) (sym long)
-          ∙ trimmed_text r from (length (bytes_of r)) (subst (λ (zs : List ℕ). IsPlain zs) (sym i.rest_bytes) i.rest_plain) (omega (arith, low_from, long_bytes)) (omega arith)
-          ∙ ap (λ zs. without_last_blanks (bytes_between zs from (length zs))) i.rest_bytes
-          ∙ ap without_last_blanks (between_is ys from (length ys) low_from (omega arith) ∙ take_all (length ys - from) (drop from ys) (omega (arith, length-drop from ys)))
-          ∙ ap without_last_blanks (ap (λ k. drop k ys) from_is ∙ sym (drop-drop (length (take_while is_blank_byte (drop x.count ys))) x.count ys));
+          ∙ trimmed_text r from (length (bytes_of r)) (subst (λ (ws : List ℕ). IsPlain ws) (sym i.rest_bytes) i.rest_plain) (omega (arith, low_from, long_bytes)) (omega arith)
+          ∙ ap (λ ws. without_last_blanks (bytes_between ws from (length ws))) i.rest_bytes
+          ∙ ap without_last_blanks (between_is zs from (length zs) low_from (omega arith) ∙ take_all (length zs - from) (drop from zs) (omega (arith, length-drop from zs)))
+          ∙ ap without_last_blanks (ap (λ k. drop k zs) from_is ∙ sym (drop-drop (length (take_while is_blank_byte (drop x.count zs))) x.count zs));
     }
   where
-    ys : List ℕ
-    ys = b ∷ bs
+    zs : List ℕ
+    zs = b ∷ bs
 
     n : ℕ
-    n = spaces_of xs
+    n = c + spaces_of ys
 
     whole : List Cell
     whole = cells_at l.start [] xs
 
     r : List Cell
-    r = cells ys
+    r = cells zs
 
     from : ℕ
     from = ink_from r x.count
@@ -528,9 +586,9 @@ info_facts text l xs b bs i z x y e same =
     to = trimmed r from (length r) 32
 
     long : length (bytes_of r) ≡ length r
-    long = length-map r (λ (c : Cell). c.byte)
+    long = length-map r (λ (d : Cell). d.byte)
 
-    long_bytes : length (bytes_of r) ≡ length ys
+    long_bytes : length (bytes_of r) ≡ length zs
     long_bytes = ap length i.rest_bytes
 
     low : x.count ≤ length r
@@ -542,10 +600,10 @@ info_facts text l xs b bs i z x y e same =
     fits : n + length r + 3 < 2 ^ 64
     fits = let h : Behind n whole r = i.behind in h.fits
 
-    low_from : from ≤ length ys
+    low_from : from ≤ length zs
     low_from = omega (arith, ink_low r x.count low, long, long_bytes)
 
-    low_to : to ≤ length ys
+    low_to : to ≤ length zs
     low_to = omega (arith, trimmed_high r from (length r) 32, long, long_bytes)
 
     first : ink_from whole (plus n x.count) ≡ n + from
@@ -554,63 +612,50 @@ info_facts text l xs b bs i z x y e same =
     second : trimmed whole (n + from) (length whole) 32 ≡ n + to
     second = ap (λ k. trimmed whole (n + from) k 32) (length_on n whole r i.behind) ∙ trimmed_on n whole r from (length r) 32 i.behind
 
-    run : run_of r x.count 32 ≡ length (take_while is_blank_byte (drop x.count ys))
-    run = run_asked r x.count 32 ∙ ap (λ (zs : List ℕ). length (take_while (λ k. k == 32) (drop x.count zs))) i.rest_bytes ∙ blanks_same (drop x.count ys) (drop_plain x.count ys i.rest_plain)
+    run : run_of r x.count 32 ≡ length (take_while is_blank_byte (drop x.count zs))
+    run = run_asked r x.count 32 ∙ ap (λ (ws : List ℕ). length (take_while (λ k. k == 32) (drop x.count ws))) i.rest_bytes ∙ blanks_same (drop x.count zs) (drop_plain x.count zs i.rest_plain)
 
-    from_is : from ≡ x.count + length (take_while is_blank_byte (drop x.count ys))
+    from_is : from ≡ x.count + length (take_while is_blank_byte (drop x.count zs))
     from_is = omega (arith, run, run_low r x.count 32 low, fits)
 
 -- a line that isn't indented so far
 
-near_facts : (text : List ℕ) (l : Line) (xs : List ℕ) (b : ℕ) (bs : List ℕ) → Inked text l xs b bs → is_blank xs ≡ false
-    → nat_le 4 (indent (part_of xs)) ≡ false
-    → is_leaf (ends_with_feed text) (near_beginning (part_of xs) (b ∷ bs) (cells (b ∷ bs))) ≡ true
-    → (has_label_end text ≡ true → begins_with 91 (line_ink (declared text l)) ≡ false)
-    → (has_label_end text ≡ false → has_label_end (line_ink (declared text l)) ≡ false)
-    → IsPlain text
-    → CodeFacts text l (cells_at l.start [] xs) (spaces_of xs)
-    → (ends_with_feed text ≡ true → Fed text l)
-    → Facts text l
-unfolding container_in container_at item_at definition_start note_start leaf_at mark_at html_at underline_in rule_at beginning first_cursor
-near_facts text l xs b bs i blank near leaf bracket clear plain code fed =
+-- what both see of its ink
+pub record Near (c : ℕ) (xs ys : List ℕ) (start b : ℕ) (bs : List ℕ) : Type 0 where
+  pub first : First (cells (b ∷ bs)) b
+  pub ink_is : line_ink (left_at (place_at c ys) ys) ≡ b ∷ bs
+  pub indented : c + spaces_of ys - c ≡ indent (part_at c ys)
+  pub not_far : nat_le 4 (c + spaces_of ys - c) ≡ false
+  pub narrow : nat_lt (c + spaces_of ys - c) 4 ≡ true
+  pub quote : (cell_byte (cells_at start [] xs) (c + spaces_of ys) == 62) ≡ (b == 62)
+  pub marks : is_marked (cells_at start [] xs) (place_at c ys) ≡ (b == 62)
+  pub no_spaces : (first_cursor (cells (b ∷ bs))).ink ≡ 0
+  pub begins : beginning (left_at (place_at c ys) ys) ≡ near_beginning (part_at c ys) (b ∷ bs) (cells (b ∷ bs))
+  pub kind_quote : is_quote_kind (near_beginning (part_at c ys) (b ∷ bs) (cells (b ∷ bs))) ≡ (b == 62)
+  pub under : (texts : List (List ℕ)) → underline texts (left_at (place_at c ys) ys) ≡ underlined texts (underline_at (cells (b ∷ bs)) 0)
+
+pub near_line : (text : List ℕ) (l : Line) (c : ℕ) (xs ys : List ℕ) (b : ℕ) (bs : List ℕ) → At text l c xs ys → Inked text l c xs ys b bs → is_blank ys ≡ false → nat_le 4 (indent (part_at c ys)) ≡ false → Near c xs ys l.start b bs
+unfolding beginning first_cursor
+near_line text l c xs ys b bs a i blank near =
     record {
-      spaces = n;
-      columns = whole;
-      kind = near_beginning (part_of xs) (b ∷ bs) rest;
-      level = underline_at rest 0;
-      read = ap (cells_of [] l.start) i.same ∙ plain_cells l.start xs (no_tab xs i.plain);
-      cursor = cursor_same l.start xs i.plain i.short;
-      opens = λ p. rw (i.long, not_far, quote, rule_same, marker_on n whole rest i.behind)
-          (near_opens (part_of xs) (b == 62) (heading_at rest 0) (fence_at rest (first_cursor rest)) (html_if (b == 60) (b ∷ bs)) (is_rule rest (tail_of rest) 0) (marker_at rest 0) (item_from whole (at_ink n) p) flat
-          (λ e. no_marker rest b first (signs e)));
-      starts = λ p. rw (i.long, narrow, heading_on n whole rest i.behind, fence_on n whole rest (at_ink n) (first_cursor rest) i.behind refl no_spaces, i.rested, html_same b bs, underline_on n whole rest i.behind, rule_same)
-          (near_starts (part_of xs) (b == 62) (heading_at rest 0) (fence_at rest (first_cursor rest)) (html_if (b == 60) (b ∷ bs)) (is_rule rest (tail_of rest) 0) (marker_at rest 0) n (n - 0) p (underline_at rest 0) flat indented
-          (λ e. (no_underline rest b first (signs e), no_rule rest b first (signs e))));
-      begins = ap (λ ys. beginning_of (part_of ys) (is_blank ys) (nat_le 4 (indent (part_of ys)))) i.same
-          ∙ ap (λ k. beginning_of (part_of xs) k (nat_le 4 (indent (part_of xs)))) blank
-          ∙ ap (λ k. beginning_of (part_of xs) false k) near
-          ∙ ap (λ ys. near_beginning (part_of xs) ys (cells ys)) i.inked;
-      leaf = leaf;
-      marked = near_marked (part_of xs) (b == 62) (heading_at rest 0) (fence_at rest (first_cursor rest)) (html_if (b == 60) (b ∷ bs)) (is_rule rest (tail_of rest) 0) (marker_at rest 0) (underline_at rest 0) flat
-          (λ e. no_underline rest b first (signs e));
-      under = λ e texts. ap (λ ys. underline texts (document_line ys)) i.same
-          ∙ ap (λ k. if k then None else underlined texts (underline_at (cells (drop n xs)) 0)) near
-          ∙ ap (λ ys. underlined texts (underline_at (cells ys) 0)) i.inked;
-      ink = λ e. i.rested ∙ sym ink_is;
-      some = λ e. ap (λ k. nat_lt k l.next) i.placed ∙ i.before_next;
-      bracket = bracket;
-      clear = clear;
-      plain = plain;
-      heads = λ x e. subst (λ (ys : List ℕ). HeadingFacts text l whole n x ys) (sym ink_is) (heading_facts text l xs b bs i x
-          (near_heading (part_of xs) (b == 62) (heading_at rest 0) (fence_at rest (first_cursor rest)) (html_if (b == 60) (b ∷ bs)) (is_rule rest (tail_of rest) 0) (marker_at rest 0) x e));
-      infos = λ x e. subst (λ (ys : List ℕ). InfoFacts text l whole n x ys) (sym ink_is) (info_from x
-          (near_fence (part_of xs) (b == 62) (heading_at rest 0) (fence_at rest (first_cursor rest)) (html_if (b == 60) (b ∷ bs)) (is_rule rest (tail_of rest) 0) (marker_at rest 0) x e));
-      code = code;
-      fed = fed;
+      first = record { rest = bs; bytes = i.rest_bytes };
+      ink_is = i.inked;
+      indented = back ∙ sym (indent_same c ys a.plain);
+      not_far = not_far;
+      narrow = grind (arith, not_far, nat_tests);
+      quote = quote;
+      marks = ap (λ k. k && (cell_byte whole (c + n) == 62)) (let q : nat_le (c + n - c) 3 ≡ true = grind (arith, not_far, nat_tests) in q) ∙ quote;
+      no_spaces = ap (λ cs. plus 0 (run_of cs 0 32)) rest_cells ∙ rw i.no_space refl;
+      begins = ap (λ k. beginning_of (part_at c ys) k (nat_le 4 (indent (part_at c ys)))) blank
+          ∙ ap (λ k. beginning_of (part_at c ys) false k) near
+          ∙ ap (λ zs. near_beginning (part_at c ys) zs (cells zs)) i.inked;
+      kind_quote = near_quote (part_at c ys) (b == 62) (heading_at rest 0) (fence_at rest (first_cursor rest)) (html_if (b == 60) (b ∷ bs)) (is_rule rest (tail_of rest) 0) (marker_at rest 0);
+      under = λ texts. ap (λ k. if k then None else underlined texts (underline_at (cells (drop n ys)) 0)) near
+          ∙ ap (λ zs. underlined texts (underline_at (cells zs) 0)) i.inked;
     }
   where
     n : ℕ
-    n = spaces_of xs
+    n = spaces_of ys
 
     whole : List Cell
     whole = cells_at l.start [] xs
@@ -618,45 +663,78 @@ near_facts text l xs b bs i blank near leaf bracket clear plain code fed =
     rest : List Cell
     rest = cells (b ∷ bs)
 
-    first : First rest b
-    first = record { rest = bs; bytes = i.rest_bytes }
+    back : c + n - c ≡ n
+    back = omega arith
 
-    flat : is_flat (near_beginning (part_of xs) (b ∷ bs) rest) ≡ true
-    flat = leaf_flat (ends_with_feed text) (near_beginning (part_of xs) (b ∷ bs) rest) leaf
+    not_far : nat_le 4 (c + n - c) ≡ false
+    not_far = ap (nat_le 4) (back ∙ sym (indent_same c ys a.plain)) ∙ near
 
-    ink_is : line_ink (declared text l) ≡ b ∷ bs
-    ink_is = ap (λ ys. line_ink (document_line ys)) i.same ∙ i.inked
+    rest_cells : cells (b ∷ bs) ≡ cells_at 0 [] (b ∷ bs)
+    rest_cells = plain_cells 0 (b ∷ bs) (no_tab (b ∷ bs) i.rest_plain)
 
-    indented : n - 0 ≡ indent (part_of xs)
-    indented = (let q : n - 0 ≡ n = omega arith in q) ∙ sym (indent_same xs i.plain)
+    quote : (cell_byte whole (c + n) == 62) ≡ (b == 62)
+    quote = ap (λ k. cell_byte whole k == 62) (let q : c + n ≡ c + n + 0 = omega arith in q) ∙ ap (λ k. k == 62) (byte_on (c + n) whole (cells (b ∷ bs)) 0 i.behind) ∙ ap (λ cs. cell_byte cs 0 == 62) rest_cells
 
-    few : nat_le 4 n ≡ false
-    few = ap (nat_le 4) (sym (indent_same xs i.plain)) ∙ near
+pub near_facts : (text : List ℕ) (l : Line) (c : ℕ) (xs ys : List ℕ) (b : ℕ) (bs : List ℕ) → At text l c xs ys → Inked text l c xs ys b bs → Near c xs ys l.start b bs → (b == 62) ≡ false → IsLeafAt text c ys → Facts text l (cells_at l.start [] xs) (place_at c ys) ys
+unfolding container_in container_at item_at definition_start note_start leaf_at mark_at html_at underline_in rule_at
+near_facts text l c xs ys b bs a i k no_quote leaf =
+    record {
+      kind = near_beginning (part_at c ys) (b ∷ bs) rest;
+      level = underline_at rest 0;
+      read = ap (cells_of [] l.start) a.same ∙ plain_cells l.start xs (no_tab xs a.whole);
+      marks = k.marks ∙ sym k.kind_quote;
+      left = λ e. absurd (true≢false (sym e ∙ k.kind_quote ∙ no_quote));
+      quoted = λ e. absurd (true≢false (sym e ∙ k.kind_quote ∙ no_quote));
+      opens = λ e p. rw (i.long, k.not_far, k.quote, rule_same, marker_on n whole rest i.behind)
+          (near_opens (part_at c ys) (b == 62) (heading_at rest 0) (fence_at rest (first_cursor rest)) (html_if (b == 60) (b ∷ bs)) (is_rule rest (tail_of rest) 0) (marker_at rest 0) (item_from whole (place_at c ys) p) flat
+          (λ e. no_marker rest b k.first (signs e)));
+      starts = λ e p w. rw (i.long, k.narrow, heading_on n whole rest i.behind, fence_on n whole rest (place_at c ys) (first_cursor rest) i.behind refl k.no_spaces, i.rested, html_same b bs, underline_on n whole rest i.behind, rule_same)
+          (near_starts (part_at c ys) (b == 62) (heading_at rest 0) (fence_at rest (first_cursor rest)) (html_if (b == 60) (b ∷ bs)) (is_rule rest (tail_of rest) 0) (marker_at rest 0) (place_at c ys) p w (underline_at rest 0) flat k.indented
+          (λ e. (no_underline rest b k.first (signs e), no_rule rest b k.first (signs e))));
+      begins = k.begins;
+      leaf = λ e. is_leaf_kind;
+      marked = near_marked (part_at c ys) (b == 62) (heading_at rest 0) (fence_at rest (first_cursor rest)) (html_if (b == 60) (b ∷ bs)) (is_rule rest (tail_of rest) 0) (marker_at rest 0) (underline_at rest 0) flat
+          (λ e. no_underline rest b k.first (signs e));
+      under = λ e texts. k.under texts;
+      ink = λ e. i.rested ∙ sym k.ink_is;
+      some = λ e. ap (λ m. nat_lt m l.next) i.placed ∙ i.before_next;
+      feedless = a.feedless;
+      plain = a.text_plain;
+      heads = λ x e. subst (λ (zs : List ℕ). HeadingFacts text l whole n x zs) (sym k.ink_is) (heading_facts text l c xs ys b bs a i x
+          (near_heading (part_at c ys) (b == 62) (heading_at rest 0) (fence_at rest (first_cursor rest)) (html_if (b == 60) (b ∷ bs)) (is_rule rest (tail_of rest) 0) (marker_at rest 0) x e));
+      infos = λ x e. subst (λ (zs : List ℕ). InfoFacts text l whole (place_at c ys) x zs) (sym k.ink_is) (info_from x
+          (near_fence (part_at c ys) (b == 62) (heading_at rest 0) (fence_at rest (first_cursor rest)) (html_if (b == 60) (b ∷ bs)) (is_rule rest (tail_of rest) 0) (marker_at rest 0) x e));
+      code = a.code;
+      fed = a.fed;
+    }
+  where
+    n : ℕ
+    n = c + spaces_of ys
 
-    not_far : nat_le 4 (n - 0) ≡ false
-    not_far = ap (nat_le 4) (let q : n - 0 ≡ n = omega arith in q) ∙ few
+    whole : List Cell
+    whole = cells_at l.start [] xs
 
-    narrow : nat_lt (n - 0) 4 ≡ true
-    narrow = grind (arith, not_far, nat_tests)
+    rest : List Cell
+    rest = cells (b ∷ bs)
+
+    is_leaf_kind : is_leaf (ends_with_feed text) (near_beginning (part_at c ys) (b ∷ bs) rest) ≡ true
+    is_leaf_kind = ap (is_leaf (ends_with_feed text)) (sym k.begins) ∙ leaf
+
+    flat : is_flat (near_beginning (part_at c ys) (b ∷ bs) rest) ≡ true
+    flat = leaf_flat (ends_with_feed text) (near_beginning (part_at c ys) (b ∷ bs) rest) is_leaf_kind
+
+    info_from : (x : Fence) → (y : Fence) × (fence_at rest (first_cursor rest) ≡ Some y) × (x.count ≡ y.count) → InfoFacts text l whole (place_at c ys) x (b ∷ bs)
+    info_from x (y, found, same) = info_facts text l c xs ys b bs a i k.no_spaces x y found same
+
+    signs : begins_sign (heading_at rest 0) (fence_at rest (first_cursor rest)) (html_if (b == 60) (b ∷ bs)) ≡ true → NoMark b
+    signs e = sign_begins rest b (b ∷ bs) (first_cursor rest) k.first k.no_spaces e
 
     rest_cells : rest ≡ cells_at 0 [] (b ∷ bs)
     rest_cells = plain_cells 0 (b ∷ bs) (no_tab (b ∷ bs) i.rest_plain)
 
-    quote : (cell_byte whole n == 62) ≡ (b == 62)
-    quote = ap (λ k. cell_byte whole k == 62) (let q : n ≡ n + 0 = omega arith in q) ∙ ap (λ k. k == 62) (byte_on n whole rest 0 i.behind) ∙ ap (λ cs. cell_byte cs 0 == 62) rest_cells
-
-    no_spaces : (first_cursor rest).ink ≡ 0
-    no_spaces = ap (λ cs. plus 0 (run_of cs 0 32)) rest_cells ∙ rw i.no_space refl
-
-    info_from : (x : Fence) → (y : Fence) × (fence_at rest (first_cursor rest) ≡ Some y) × (x.count ≡ y.count) → InfoFacts text l whole n x (b ∷ bs)
-    info_from x (y, found, same) = info_facts text l xs b bs i no_spaces x y found same
-
-    signs : begins_sign (heading_at rest 0) (fence_at rest (first_cursor rest)) (html_if (b == 60) (b ∷ bs)) ≡ true → NoMark b
-    signs e = sign_begins rest b (b ∷ bs) (first_cursor rest) first no_spaces e
-
     tail_short : trailing rest 32 < length rest
     tail_short =
-        let asked : trailing (cells_at 0 [] (b ∷ bs)) 32 ≡ length (take_while (λ x. x == 32) (reverse (b ∷ bs))) = trailing_asked (cells_at 0 [] (b ∷ bs)) 32 ∙ ap (λ (ys : List ℕ). length (take_while (λ x. x == 32) (reverse ys))) (bytes_kept 0 [] (b ∷ bs)) in
+        let asked : trailing (cells_at 0 [] (b ∷ bs)) 32 ≡ length (take_while (λ x. x == 32) (reverse (b ∷ bs))) = trailing_asked (cells_at 0 [] (b ∷ bs)) 32 ∙ ap (λ (zs : List ℕ). length (take_while (λ x. x == 32) (reverse zs))) (bytes_kept 0 [] (b ∷ bs)) in
         let kept : length (cells_at 0 [] (b ∷ bs)) ≡ length (b ∷ bs) = length_kept 0 [] (b ∷ bs) in
         let stops : length (take_while (λ x. x == 32) (reverse (b ∷ bs))) < length (b ∷ bs) = back_stops (λ x. x == 32) b bs i.no_space in
         let one : trailing rest 32 ≡ trailing (cells_at 0 [] (b ∷ bs)) 32 = ap (λ cs. trailing cs 32) rest_cells in
@@ -666,106 +744,82 @@ near_facts text l xs b bs i blank near leaf bracket clear plain code fed =
     rule_same : is_rule whole (tail_of whole) n ≡ is_rule rest (tail_of rest) 0
     rule_same = rule_on n whole rest i.behind tail_short
 
--- a line that is indented by four columns or more
+-- a line with a block quote marker
 
-far_facts : (text : List ℕ) (l : Line) (xs : List ℕ) (b : ℕ) (bs : List ℕ) → Inked text l xs b bs → is_blank xs ≡ false
-    → nat_le 4 (indent (part_of xs)) ≡ true
-    → is_leaf (ends_with_feed text) CodeLine ≡ true
-    → (has_label_end text ≡ true → begins_with 91 (line_ink (declared text l)) ≡ false)
-    → (has_label_end text ≡ false → has_label_end (line_ink (declared text l)) ≡ false)
-    → IsPlain text
-    → CodeFacts text l (cells_at l.start [] xs) (spaces_of xs)
-    → (ends_with_feed text ≡ true → Fed text l)
-    → Facts text l
-unfolding container_in container_at definition_start note_start leaf_at beginning
-far_facts text l xs b bs i blank far leaf bracket clear plain code fed =
+pub quote_facts : (text : List ℕ) (l : Line) (c : ℕ) (xs ys : List ℕ) (b : ℕ) (bs : List ℕ) → At text l c xs ys → Inked text l c xs ys b bs → Near c xs ys l.start b bs → (b == 62) ≡ true → Facts text l (cells_at l.start [] xs) (place_at c ys) ys
+unfolding container_in container_at definition_start note_start
+quote_facts text l c xs ys b bs a i k is =
     record {
-      spaces = n;
-      columns = whole;
-      kind = CodeLine;
+      kind = QuoteLine;
       level = None;
-      read = ap (cells_of [] l.start) i.same ∙ plain_cells l.start xs (no_tab xs i.plain);
-      cursor = cursor_same l.start xs i.plain i.short;
-      opens = λ p. rw (i.long, deep) refl;
-      starts = λ p. rw (i.long, wide) refl;
-      begins = ap (λ ys. beginning_of (part_of ys) (is_blank ys) (nat_le 4 (indent (part_of ys)))) i.same
-          ∙ ap (λ k. beginning_of (part_of xs) k (nat_le 4 (indent (part_of xs)))) blank
-          ∙ ap (λ k. beginning_of (part_of xs) false k) far;
-      leaf = leaf;
+      read = ap (cells_of [] l.start) a.same ∙ plain_cells l.start xs (no_tab xs a.whole);
+      marks = k.marks ∙ is;
+      left = λ e. ap (λ m. nat_le m c) (length_kept l.start [] xs) ∙ (let q : c < length xs = omega (arith, count, fewer) in grind (arith, q, nat_tests));
+      quoted = λ e p. rw (i.long, k.not_far, k.quote, is) refl;
+      opens = λ e. absurd (true≢false e);
+      starts = λ e. absurd (true≢false e);
+      begins = k.begins ∙ ap (λ q. first_of_these (part_at c ys) q (heading_at rest 0) (fence_at rest (first_cursor rest)) (html_if (b == 60) (b ∷ bs)) (is_rule rest (tail_of rest) 0) (marker_at rest 0)) is;
+      leaf = λ e. absurd (true≢false e);
       marked = λ e. refl;
-      under = λ e texts. ap (λ ys. underline texts (document_line ys)) i.same
-          ∙ ap (λ k. if k then None else underlined texts (underline_at (cells (drop n xs)) 0)) far;
-      ink = λ e. i.rested ∙ sym ink_is;
-      some = λ e. ap (λ k. nat_lt k l.next) i.placed ∙ i.before_next;
-      bracket = bracket;
-      clear = clear;
-      plain = plain;
+      under = λ e texts. k.under texts ∙ ap (underlined texts) (no_underline rest b k.first (quote_none b is));
+      ink = λ e. i.rested ∙ sym k.ink_is;
+      some = λ e. ap (λ m. nat_lt m l.next) i.placed ∙ i.before_next;
+      feedless = a.feedless;
+      plain = a.text_plain;
       heads = λ x e. absurd cc;
       infos = λ x e. absurd cc;
-      code = code;
-      fed = fed;
+      code = a.code;
+      fed = a.fed;
+    }
+  where
+    rest : List Cell
+    rest = cells (b ∷ bs)
+
+    count : length xs ≡ c + length ys
+    count = a.count
+
+    fewer : length ys ≡ spaces_of ys + suc (length bs)
+    fewer = i.fewer
+
+-- a line that is indented by four columns or more
+
+pub far_facts : (text : List ℕ) (l : Line) (c : ℕ) (xs ys : List ℕ) (b : ℕ) (bs : List ℕ) → At text l c xs ys → Inked text l c xs ys b bs → is_blank ys ≡ false → nat_le 4 (indent (part_at c ys)) ≡ true → IsLeafAt text c ys → Facts text l (cells_at l.start [] xs) (place_at c ys) ys
+unfolding container_in container_at definition_start note_start leaf_at beginning
+far_facts text l c xs ys b bs a i blank far leaf =
+    record {
+      kind = CodeLine;
+      level = None;
+      read = ap (cells_of [] l.start) a.same ∙ plain_cells l.start xs (no_tab xs a.whole);
+      marks = ap (λ k. k && (cell_byte whole (c + n) == 62)) (let q : nat_le (c + n - c) 3 ≡ false = grind (arith, deep, nat_tests) in q);
+      left = λ e. absurd (true≢false (sym e));
+      quoted = λ e. absurd (true≢false (sym e));
+      opens = λ e p. rw (i.long, deep) refl;
+      starts = λ e p w. rw (i.long, wide) refl;
+      begins = begins_so;
+      leaf = λ e. ap (is_leaf (ends_with_feed text)) (sym begins_so) ∙ leaf;
+      marked = λ e. refl;
+      under = λ e texts. ap (λ k. if k then None else underlined texts (underline_at (cells (drop n ys)) 0)) far;
+      ink = λ e. i.rested ∙ sym i.inked;
+      some = λ e. ap (λ k. nat_lt k l.next) i.placed ∙ i.before_next;
+      feedless = a.feedless;
+      plain = a.text_plain;
+      heads = λ x e. absurd cc;
+      infos = λ x e. absurd cc;
+      code = a.code;
+      fed = a.fed;
     }
   where
     n : ℕ
-    n = spaces_of xs
+    n = spaces_of ys
 
     whole : List Cell
     whole = cells_at l.start [] xs
 
-    ink_is : line_ink (declared text l) ≡ b ∷ bs
-    ink_is = ap (λ ys. line_ink (document_line ys)) i.same ∙ i.inked
+    begins_so : beginning (left_at (place_at c ys) ys) ≡ CodeLine
+    begins_so = ap (λ k. beginning_of (part_at c ys) k (nat_le 4 (indent (part_at c ys)))) blank ∙ ap (λ k. beginning_of (part_at c ys) false k) far
 
-    deep : nat_le 4 (n - 0) ≡ true
-    deep = ap (nat_le 4) ((let q : n - 0 ≡ n = omega arith in q) ∙ sym (indent_same xs i.plain)) ∙ far
+    deep : nat_le 4 (c + n - c) ≡ true
+    deep = ap (nat_le 4) ((let q : c + n - c ≡ n = omega arith in q) ∙ sym (indent_same c ys a.plain)) ∙ far
 
-    wide : nat_lt (n - 0) 4 ≡ false
+    wide : nat_lt (c + n - c) 4 ≡ false
     wide = grind (arith, deep, nat_tests)
-
--- the facts of a line that begins a leaf
-pub leaf_facts : (text : List ℕ) (l : Line) → IsPlain text → length text + 3 < 2 ^ 64 → Sound text l → IsLeafLine (ends_with_feed text) (has_label_end text) (declared text l) → (ends_with_feed text ≡ true → Fed text l) → Facts text l
-unfolding beginning
-leaf_facts text l h fits sound leaf fed = by (is_blank xs) (nat_le 4 (indent (part_of xs))) refl refl
-  where
-    xs : List ℕ
-    xs = bytes_between text l.start l.end
-
-    inner : IsPlain xs
-    inner = between_plain text l.start l.end h
-
-    bracket : has_label_end text ≡ true → begins_with 91 (line_ink (declared text l)) ≡ false
-    bracket e = sym (ap (λ k. k && begins_with 91 (line_ink (declared text l))) e) ∙ leaf.bracket
-
-    clear : has_label_end text ≡ false → has_label_end (line_ink (declared text l)) ≡ false
-    clear e = clear_drop (spaces_of xs) xs (clear_between text l.start l.end e)
-
-    code : CodeFacts text l (cells_at l.start [] xs) (spaces_of xs)
-    code = code_facts text l inner fits sound
-
-    begins_leaf : is_leaf (ends_with_feed text) (beginning_of (part_of xs) (is_blank xs) (nat_le 4 (indent (part_of xs)))) ≡ true
-    begins_leaf = leaf.begins
-
-    ordered : l.start ≤ l.end
-    ordered = sound.order
-
-    in_text : l.end ≤ length text
-    in_text = sound.within
-
-    short : length xs + 3 < 2 ^ 64
-    short = omega (arith, between_length text l.start l.end ordered in_text, in_text, fits)
-
-    begins_so : (far : Bool) → is_blank xs ≡ false → nat_le 4 (indent (part_of xs)) ≡ far → is_leaf (ends_with_feed text) (beginning_of (part_of xs) false far) ≡ true
-    begins_so far blank near =
-        sym (ap (λ k. is_leaf (ends_with_feed text) (beginning_of (part_of xs) k (nat_le 4 (indent (part_of xs))))) blank
-        ∙ ap (λ k. is_leaf (ends_with_feed text) (beginning_of (part_of xs) false k)) near) ∙ begins_leaf
-
-    inked : (far : Bool) → is_blank xs ≡ false → nat_le 4 (indent (part_of xs)) ≡ far → (b : ℕ) × (bs : List ℕ) × (drop (spaces_of xs) xs ≡ b ∷ bs) × (is_blank_byte b ≡ false) → Facts text l
-    inked true blank near (b, bs, e, no_blank) = far_facts text l xs b bs (inked_line text l xs refl inner fits sound blank b bs e no_blank) blank near
-        (begins_so true blank near)
-        bracket clear h code fed
-    inked false blank near (b, bs, e, no_blank) = near_facts text l xs b bs (inked_line text l xs refl inner fits sound blank b bs e no_blank) blank near
-        (sym (ap (λ ys. is_leaf (ends_with_feed text) (near_beginning (part_of xs) ys (cells ys))) e) ∙ begins_so false blank near)
-        bracket clear h code fed
-
-    by : (k far : Bool) → is_blank xs ≡ k → nat_le 4 (indent (part_of xs)) ≡ far → Facts text l
-    by true far blank near = blank_facts text l xs refl inner short blank bracket clear h code fed
-    by false far blank near = inked far blank near (ink_first xs blank)

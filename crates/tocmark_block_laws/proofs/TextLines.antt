@@ -9,7 +9,7 @@ use Rattle.tocmark_read_lines.specs.Lines.{ends_here, line_stop, line, lines_fro
 use Rattle.tocmark_read_lines.specs.declared.line.Line.{Line}
 use Rattle.tocmark_read_blocks.proofs.Steps.{never}
 use Rattle.tocmark_commonmark.specs.Lines.{Line as DeclaredLine, document_line, plain_bytes, line_ended, lines_after, lines_of as declared_lines}
-use Rattle.tocmark_block_laws.specs.Leaves.{is_special, IsPlain}
+use Rattle.tocmark_block_laws.specs.Quotes.{is_special, IsPlain}
 
 none_of : (a b c : Bool) → (a || b || c) ≡ false → (a ≡ false) × (b ≡ false) × (c ≡ false)
 none_of true b c h = absurd (true≢false h)

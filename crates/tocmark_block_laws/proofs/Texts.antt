@@ -16,7 +16,7 @@ use Rattle.tocmark_read_lines.specs.declared.beginnings.Heading.{Heading}
 use Rattle.tocmark_read_lines.specs.declared.cell.Cell.{Cell}
 use Rattle.tocmark_read_lines.proofs.Columns.{plain_cells, place_kept, part_trailing}
 use Rattle.tocmark_commonmark.specs.Lines.{is_blank_byte, without_first_blanks, without_last_blanks, cells}
-use Rattle.tocmark_block_laws.specs.Leaves.{is_special, IsPlain}
+use Rattle.tocmark_block_laws.specs.Quotes.{is_special, IsPlain}
 use Rattle.tocmark_block_laws.proofs.Columns.{front_low, run_low, plus_low, ink_low}
 use Rattle.tocmark_block_laws.proofs.TextLines.{Plain, plain_head, no_tab, between_plain}
 

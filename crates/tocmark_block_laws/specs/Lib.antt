@@ -1,2 +1,5 @@
 pub mod Trees
-pub mod Leaves
+pub mod Quotes
+pub mod Named
+pub mod Short
+pub mod Coverage

@@ -2,4 +2,6 @@
 //! declares.
 #![tactic(auto)]
 
-pub mod leaves;
+pub mod definitions;
+pub mod names;
+pub mod quotes;

@@ -3,16 +3,16 @@ use Rattle.std.proofs.Common.{◌≡◌, ℕ, List, sym, subst}
 use Rattle.tocmark_event.specs.Options.{OptionsView}
 use Rattle.tocmark_event.specs.Validation.{fault_of}
 use Rattle.tocmark_event.specs.declared.options.Error.TheVariants as error
-use Rattle.tocmark_interchange.specs.Interchange.{AreOptions, IsCause, IsOptionsCause}
-use Rattle.tocmark_interchange.specs.declared.fault.OptionsTextError.{OptionsTextError}
-use Rattle.tocmark_interchange.specs.declared.fault.OptionsTextError.TheVariants as options_error
-use Rattle.tocmark_interchange.specs.declared.fault.WriteError.{WriteError}
-use Rattle.tocmark_interchange.specs.declared.fault.WriteError.TheVariants as write_error
+use Rattle.tocmark_documents.specs.Interchange.{AreOptions, IsCause, IsOptionsCause}
+use Rattle.tocmark_documents.specs.declared.fault.OptionsTextError.{OptionsTextError}
+use Rattle.tocmark_documents.specs.declared.fault.OptionsTextError.TheVariants as options_error
+use Rattle.tocmark_documents.specs.declared.fault.WriteError.{WriteError}
+use Rattle.tocmark_documents.specs.declared.fault.WriteError.TheVariants as write_error
 use Rattle.tocmark_c.specs.declared.cause.Cause.{Cause}
 use Rattle.tocmark_c.specs.declared.cause.Cause.TheVariants as cause
-use Rattle.tocmark_interchange.specs.Document.{IsDocumentCause}
-use Rattle.tocmark_interchange.specs.declared.fault.DocumentError.{DocumentError}
-use Rattle.tocmark_interchange.specs.declared.fault.DocumentError.TheVariants as document_error
+use Rattle.tocmark_documents.specs.Document.{IsDocumentCause}
+use Rattle.tocmark_documents.specs.declared.fault.DocumentError.{DocumentError}
+use Rattle.tocmark_documents.specs.declared.fault.DocumentError.TheVariants as document_error
 use Rattle.tocmark_c.specs.Calls.{IsDocumentCauseOf, IsWriteCause, flags_of, has_source}
 use Rattle.tocmark_c.specs.Codes.{document_cause, options_cause, write_cause}
 

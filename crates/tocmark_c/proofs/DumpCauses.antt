@@ -3,12 +3,12 @@ use Rattle.std.proofs.Common.{◌≡◌, ℕ, List, sym, subst}
 use Rattle.tocmark_event.specs.Options.{OptionsView}
 use Rattle.tocmark_event.specs.Validation.{fault_of}
 use Rattle.tocmark_event.specs.declared.options.Error.TheVariants as error
-use Rattle.tocmark_interchange.specs.Interchange.{AreOptions, IsOptionsCause}
-use Rattle.tocmark_interchange.specs.MarshalWriting.{IsDumpCause}
-use Rattle.tocmark_interchange.specs.declared.fault.OptionsTextError.{OptionsTextError}
-use Rattle.tocmark_interchange.specs.declared.fault.OptionsTextError.TheVariants as options_error
-use Rattle.tocmark_interchange.specs.declared.fault.WriteError.{WriteError}
-use Rattle.tocmark_interchange.specs.declared.fault.WriteError.TheVariants as write_error
+use Rattle.tocmark_documents.specs.Interchange.{AreOptions, IsOptionsCause}
+use Rattle.tocmark_documents.specs.MarshalWriting.{IsDumpCause}
+use Rattle.tocmark_documents.specs.declared.fault.OptionsTextError.{OptionsTextError}
+use Rattle.tocmark_documents.specs.declared.fault.OptionsTextError.TheVariants as options_error
+use Rattle.tocmark_documents.specs.declared.fault.WriteError.{WriteError}
+use Rattle.tocmark_documents.specs.declared.fault.WriteError.TheVariants as write_error
 use Rattle.tocmark_c.specs.Calls.{flags_of, has_source}
 use Rattle.tocmark_c.specs.Codes.{options_cause, write_cause}
 use Rattle.tocmark_c.specs.MarshalWriting.{IsDumpWriteCause}

@@ -3,12 +3,12 @@ use Rattle.std.proofs.Common.{◌≡◌, ℕ, List, sym, subst}
 use Rattle.tocmark_event.specs.Options.{OptionsView}
 use Rattle.tocmark_event.specs.Validation.{fault_of}
 use Rattle.tocmark_event.specs.declared.options.Error.TheVariants as error
-use Rattle.tocmark_interchange.specs.Interchange.{AreOptions, IsOptionsCause}
-use Rattle.tocmark_interchange.specs.PackedWriting.{IsPackedCause}
-use Rattle.tocmark_interchange.specs.declared.fault.OptionsTextError.{OptionsTextError}
-use Rattle.tocmark_interchange.specs.declared.fault.OptionsTextError.TheVariants as options_error
-use Rattle.tocmark_interchange.specs.declared.packed_writing.PackedWriteError.{PackedWriteError}
-use Rattle.tocmark_interchange.specs.declared.packed_writing.PackedWriteError.TheVariants as packed_error
+use Rattle.tocmark_documents.specs.Interchange.{AreOptions, IsOptionsCause}
+use Rattle.tocmark_documents.specs.PackedWriting.{IsPackedCause}
+use Rattle.tocmark_documents.specs.declared.fault.OptionsTextError.{OptionsTextError}
+use Rattle.tocmark_documents.specs.declared.fault.OptionsTextError.TheVariants as options_error
+use Rattle.tocmark_documents.specs.declared.packed_writing.PackedWriteError.{PackedWriteError}
+use Rattle.tocmark_documents.specs.declared.packed_writing.PackedWriteError.TheVariants as packed_error
 use Rattle.tocmark_c.specs.Calls.{flags_of, has_source}
 use Rattle.tocmark_c.specs.Codes.{options_cause, packed_cause}
 use Rattle.tocmark_c.specs.PackedCalls.{IsPackedWriteCause}

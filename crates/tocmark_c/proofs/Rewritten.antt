@@ -3,12 +3,12 @@ use Rattle.std.proofs.Common.{◌≡◌, ℕ, List, None, sym, subst, string_byt
 use Rattle.tocmark_event.specs.Options.{OptionsView}
 use Rattle.tocmark_event.specs.Validation.{fault_of, validation}
 use Rattle.tocmark_event.specs.declared.options.Error.TheVariants as error
-use Rattle.tocmark_interchange.specs.Interchange.{AreOptions, IsOptionsCause}
-use Rattle.tocmark_interchange.specs.Rewriting.{IsRewriteCause, IsRewrittenFrom}
-use Rattle.tocmark_interchange.specs.declared.fault.OptionsTextError.{OptionsTextError}
-use Rattle.tocmark_interchange.specs.declared.fault.OptionsTextError.TheVariants as options_error
-use Rattle.tocmark_interchange.specs.declared.fault.RewriteError.{RewriteError}
-use Rattle.tocmark_interchange.specs.declared.fault.RewriteError.TheVariants as rewrite_error
+use Rattle.tocmark_documents.specs.Interchange.{AreOptions, IsOptionsCause}
+use Rattle.tocmark_documents.specs.Rewriting.{IsRewriteCause, IsRewrittenFrom}
+use Rattle.tocmark_documents.specs.declared.fault.OptionsTextError.{OptionsTextError}
+use Rattle.tocmark_documents.specs.declared.fault.OptionsTextError.TheVariants as options_error
+use Rattle.tocmark_documents.specs.declared.fault.RewriteError.{RewriteError}
+use Rattle.tocmark_documents.specs.declared.fault.RewriteError.TheVariants as rewrite_error
 use Rattle.tocmark_rewrite.specs.declared.answer.Rewritten.{Rewritten}
 use Rattle.tocmark_c.specs.Calls.{flags_of}
 use Rattle.tocmark_c.specs.Codes.{options_cause, rewriting_cause}

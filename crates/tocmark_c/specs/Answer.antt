@@ -3,7 +3,7 @@ use Rattle.std.specs.Prelude.{◌≡◌, ◌++◌, if◌then◌else◌, ℕ, ℤ
 use Rattle.tocmark_c.specs.Codes.{code_of, error_text, number_of}
 use Rattle.tocmark_c.specs.declared.cause.Cause.{Cause}
 
--- a text stands in the front of the room where that is large enough, and else nothing is written
+-- a text is in the front of the room where that is large enough, and else nothing is written
 abbrev pub laid : List ℕ → List ℕ → List ℕ
 laid text room = if leb (length text) (length room) then text ++ drop (length text) room else room
 

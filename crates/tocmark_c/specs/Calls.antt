@@ -11,9 +11,9 @@ use Rattle.tocmark_event.specs.declared.options.Error.TheVariants as error
 use Rattle.tocmark_json.specs.Elements.{IsNoList}
 use Rattle.tocmark_json.specs.declared.fault.JsonError.{JsonError}
 use Rattle.tocmark_state.specs.Ranges.{Pair}
-use Rattle.tocmark_interchange.specs.Document.{IsChange, IsWrittenTheSame}
-use Rattle.tocmark_interchange.specs.Options.{is_options_object}
-use Rattle.tocmark_interchange.specs.Interchange.{AreOptions, IsTextOf, IsWrittenFrom, in_source, reading_json, writing}
+use Rattle.tocmark_documents.specs.Document.{IsChange, IsWrittenTheSame}
+use Rattle.tocmark_documents.specs.Options.{is_options_object}
+use Rattle.tocmark_documents.specs.Interchange.{AreOptions, IsTextOf, IsWrittenFrom, in_source, reading_json, writing}
 use Rattle.tocmark_reader.specs.Reading.{reading_of}
 use Rattle.tocmark_reader.specs.Flags.{syntax_of}
 use Rattle.tocmark_read_scan.specs.declared.syntax.Names.TheVariants.{All}

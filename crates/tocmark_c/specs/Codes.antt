@@ -2,16 +2,16 @@
 use Rattle.std.specs.Prelude.{◌==◌, if◌then◌else◌, ℕ, ℤ, pos, negsuc, List, int_lt, unsigned_abs, codes}
 use Rattle.tocmark_event.specs.declared.options.Error.{Error}
 use Rattle.tocmark_event.specs.declared.options.Error.TheVariants as error
-use Rattle.tocmark_interchange.specs.declared.fault.DocumentError.{DocumentError}
-use Rattle.tocmark_interchange.specs.declared.fault.DocumentError.TheVariants as document_error
-use Rattle.tocmark_interchange.specs.declared.fault.OptionsTextError.{OptionsTextError}
-use Rattle.tocmark_interchange.specs.declared.fault.OptionsTextError.TheVariants as options_error
-use Rattle.tocmark_interchange.specs.declared.fault.RewriteError.{RewriteError}
-use Rattle.tocmark_interchange.specs.declared.fault.RewriteError.TheVariants as rewrite_error
-use Rattle.tocmark_interchange.specs.declared.fault.WriteError.{WriteError}
-use Rattle.tocmark_interchange.specs.declared.fault.WriteError.TheVariants as write_error
-use Rattle.tocmark_interchange.specs.declared.packed_writing.PackedWriteError.{PackedWriteError}
-use Rattle.tocmark_interchange.specs.declared.packed_writing.PackedWriteError.TheVariants as packed_error
+use Rattle.tocmark_documents.specs.declared.fault.DocumentError.{DocumentError}
+use Rattle.tocmark_documents.specs.declared.fault.DocumentError.TheVariants as document_error
+use Rattle.tocmark_documents.specs.declared.fault.OptionsTextError.{OptionsTextError}
+use Rattle.tocmark_documents.specs.declared.fault.OptionsTextError.TheVariants as options_error
+use Rattle.tocmark_documents.specs.declared.fault.RewriteError.{RewriteError}
+use Rattle.tocmark_documents.specs.declared.fault.RewriteError.TheVariants as rewrite_error
+use Rattle.tocmark_documents.specs.declared.fault.WriteError.{WriteError}
+use Rattle.tocmark_documents.specs.declared.fault.WriteError.TheVariants as write_error
+use Rattle.tocmark_documents.specs.declared.packed_writing.PackedWriteError.{PackedWriteError}
+use Rattle.tocmark_documents.specs.declared.packed_writing.PackedWriteError.TheVariants as packed_error
 use Rattle.tocmark_c.specs.declared.cause.Cause.{Cause}
 use Rattle.tocmark_c.specs.declared.cause.Cause.TheVariants as cause
 

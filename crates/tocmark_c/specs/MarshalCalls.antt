@@ -1,7 +1,7 @@
 -- What Python gets, and why it gets nothing.
 use Rattle.std.specs.Prelude.{◌≡◌, ℕ, List, false, IsUtf8}
 use Rattle.tocmark_json.specs.Marshal.{fits}
-use Rattle.tocmark_interchange.specs.MarshalReading.{reading_bytes}
+use Rattle.tocmark_documents.specs.MarshalReading.{reading_bytes}
 use Rattle.tocmark_c.specs.Calls.{flags_of}
 use Rattle.tocmark_c.specs.declared.cause.Cause.{Cause}
 use Rattle.tocmark_c.specs.declared.cause.Cause.TheVariants as cause

@@ -9,9 +9,9 @@ use Rattle.tocmark_event.specs.declared.options.Error.TheVariants as error
 use Rattle.tocmark_state.specs.Ranges.{Pair}
 use Rattle.tocmark_json.specs.Unmarshal.{IsDumped, IsNoDump}
 use Rattle.tocmark_json.specs.declared.fault.JsonError.{JsonError}
-use Rattle.tocmark_interchange.specs.Interchange.{AreOptions, in_source, writing}
-use Rattle.tocmark_interchange.specs.Options.{is_options_object}
-use Rattle.tocmark_interchange.specs.MarshalWriting.{IsWrittenDump}
+use Rattle.tocmark_documents.specs.Interchange.{AreOptions, in_source, writing}
+use Rattle.tocmark_documents.specs.Options.{is_options_object}
+use Rattle.tocmark_documents.specs.MarshalWriting.{IsWrittenDump}
 use Rattle.tocmark_c.specs.Calls.{flags_of, has_source}
 use Rattle.tocmark_c.specs.declared.cause.Cause.{Cause}
 use Rattle.tocmark_c.specs.declared.cause.Cause.TheVariants as cause

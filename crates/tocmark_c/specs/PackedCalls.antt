@@ -7,12 +7,12 @@ use Rattle.tocmark_event.specs.Validation.{OptionsFault, validation}
 use Rattle.tocmark_event.specs.declared.options.Error.{Error}
 use Rattle.tocmark_event.specs.declared.options.Error.TheVariants as error
 use Rattle.tocmark_state.specs.Ranges.{Pair}
-use Rattle.tocmark_interchange.specs.Interchange.{AreOptions, in_source, writing}
-use Rattle.tocmark_interchange.specs.Options.{is_options_object}
-use Rattle.tocmark_interchange.specs.Packed.{packed_pairs}
-use Rattle.tocmark_interchange.specs.PackedWriting.{IsWrittenPacked}
-use Rattle.tocmark_interchange.specs.Unpacked.{IsNotPacked}
-use Rattle.tocmark_interchange.specs.declared.packed.PackedError.TheVariants as packed_error
+use Rattle.tocmark_documents.specs.Interchange.{AreOptions, in_source, writing}
+use Rattle.tocmark_documents.specs.Options.{is_options_object}
+use Rattle.tocmark_documents.specs.Packed.{packed_pairs}
+use Rattle.tocmark_documents.specs.PackedWriting.{IsWrittenPacked}
+use Rattle.tocmark_documents.specs.Unpacked.{IsNotPacked}
+use Rattle.tocmark_documents.specs.declared.packed.PackedError.TheVariants as packed_error
 use Rattle.tocmark_c.specs.Calls.{flags_of, has_source}
 use Rattle.tocmark_c.specs.declared.cause.Cause.{Cause}
 use Rattle.tocmark_c.specs.declared.cause.Cause.TheVariants as cause

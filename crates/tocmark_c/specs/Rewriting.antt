@@ -2,8 +2,8 @@
 use Rattle.std.specs.Prelude.{◌≡◌, ℕ, List, None}
 use Rattle.tocmark_event.specs.Options.{OptionsView}
 use Rattle.tocmark_event.specs.Validation.{validation}
-use Rattle.tocmark_interchange.specs.Interchange.{AreOptions}
-use Rattle.tocmark_interchange.specs.Rewriting.{IsEdited, IsEditedInVain, IsRewrittenText}
+use Rattle.tocmark_documents.specs.Interchange.{AreOptions}
+use Rattle.tocmark_documents.specs.Rewriting.{IsEdited, IsEditedInVain, IsRewrittenText}
 use Rattle.tocmark_c.specs.Calls.{IsWriteCause, flags_of}
 use Rattle.tocmark_c.specs.declared.cause.Cause.{Cause}
 use Rattle.tocmark_c.specs.declared.cause.Cause.TheVariants as cause

@@ -4,7 +4,7 @@ ghost use Rattle.std.specs.Prelude.{◌≡◌};
 ghost use Rattle.tocmark_c.specs.Codes.{code_of, document_cause, error_text, number_of, options_cause, packed_cause, refusal_cause, rewriting_cause, write_cause};
 
 use tocmark::Error;
-use tocmark_interchange::{
+use tocmark_documents::{
     DocumentError, OptionsTextError, PackedWriteError, RewriteError, WriteError,
 };
 

@@ -7,7 +7,7 @@
 //! `writing` and `packed_events` write events, too, and `rewriting` rewrites a source. `comparing` lists what two texts say
 //! differently, and `outlining` what a text has.
 //!
-//! The crate uses `tocmark_interchange` for events, `tocmark_format` for formatting, `tocmark_differences` for comparing, and
+//! The crate uses `tocmark_documents` for events, `tocmark_format` for formatting, `tocmark_differences` for comparing, and
 //! `tocmark_outline` for lists.
 #![tactic(auto)]
 
@@ -47,8 +47,8 @@ use room::{answer, lay, lay_bytes};
 use std::alloc::{AllocError, Global};
 use style::{TocmarkStyle, style_of};
 use tocmark::event::ParserOptions;
+use tocmark_documents::read_json;
 use tocmark_format::formatted;
-use tocmark_interchange::read_json;
 use tocmark_reader::{ExtendedReader, Names};
 use writing::write;
 

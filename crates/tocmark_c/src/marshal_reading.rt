@@ -6,7 +6,7 @@ ghost use Rattle.tocmark_c.specs.MarshalCalls.{IsMarshalCause, IsMarshalOf};
 use crate::cause::Cause;
 use std::alloc::Global;
 use tocmark::event::ParserOptions;
-use tocmark_interchange::read_marshal;
+use tocmark_documents::read_marshal;
 use tocmark_json::marshalling::MarshalError;
 
 /// The bytes for Python of the events of a text, if that is UTF-8.

@@ -4,7 +4,7 @@ ghost use Rattle.std.specs.Prelude.{IfErr, IfOk, string_bytes};
 ghost use Rattle.tocmark_c.specs.Calls.{has_source};
 ghost use Rattle.tocmark_c.specs.MarshalWriting.{IsDumpMarkdown, IsDumpWriteCause};
 ghost use Rattle.tocmark_event.specs.Options.{options_view};
-ghost use Rattle.tocmark_interchange.specs.MarshalWriting.{IsDumpCause, IsWrittenDump};
+ghost use Rattle.tocmark_documents.specs.MarshalWriting.{IsDumpCause, IsWrittenDump};
 
 use crate::cause::Cause;
 use crate::refusal::Refusal;
@@ -12,7 +12,7 @@ use crate::writing::source_of;
 use std::alloc::Global;
 use tocmark::Options;
 use tocmark::event::ParserOptions;
-use tocmark_interchange::{WriteError, options_from_text, write_marshal};
+use tocmark_documents::{WriteError, options_from_text, write_marshal};
 
 /// Writes events that Python gives as Markdown under options that were read, over the source that a text stands for.
 fn marshal_under(

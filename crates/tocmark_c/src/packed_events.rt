@@ -4,7 +4,7 @@ ghost use Rattle.std.specs.Prelude.{◌≡◌, IfErr, IfOk, string_bytes};
 ghost use Rattle.tocmark_c.specs.PackedCalls.{IsPackedMarkdown, IsPackedWriteCause};
 ghost use Rattle.tocmark_c.specs.Calls.{has_source};
 ghost use Rattle.tocmark_event.specs.Options.{options_view};
-ghost use Rattle.tocmark_interchange.specs.PackedWriting.{IsPackedCause, IsWrittenPacked};
+ghost use Rattle.tocmark_documents.specs.PackedWriting.{IsPackedCause, IsWrittenPacked};
 
 use crate::cause::Cause;
 use crate::refusal::Refusal;
@@ -12,7 +12,7 @@ use crate::writing::source_of;
 use std::alloc::Global;
 use tocmark::Options;
 use tocmark::event::ParserOptions;
-use tocmark_interchange::{PackedWriteError, options_from_text, write_packed};
+use tocmark_documents::{PackedWriteError, options_from_text, write_packed};
 
 /// Writes packed events as Markdown under options that were read, over the source that a text stands for.
 fn packed_under(

@@ -6,7 +6,7 @@ ghost use Rattle.tocmark_c.specs.Place.{IsFilled};
 
 use crate::cause::Cause;
 use crate::place::TocmarkPlace;
-use tocmark_interchange::{
+use tocmark_documents::{
     DocumentError, OptionsTextError, PackedWriteError, RewriteError, WriteError,
 };
 use tocmark_json::fault::JsonError;

@@ -7,7 +7,7 @@ use crate::cause::Cause;
 use crate::refusal::Refusal;
 use std::alloc::Global;
 use tocmark::event::ParserOptions;
-use tocmark_interchange::{options_from_text, rewrite_json};
+use tocmark_documents::{options_from_text, rewrite_json};
 
 #[tactic(auto, using(crate::proofs::Rewritten::rewritten_told, crate::proofs::Rewritten::options_told, crate::proofs::Rewritten::rewriting_told))]
 fn rewrite_text(

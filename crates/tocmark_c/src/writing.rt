@@ -3,20 +3,18 @@
 ghost use Rattle.std.specs.Prelude.{◌≡◌, IfErr, IfOk, is_some, string_bytes};
 ghost use Rattle.tocmark_c.specs.Calls.{IsAsked, IsAskedCause, IsDocumentCauseOf, IsMarkdownOf, IsSameMarkdownOf, IsWriteCause, has_source};
 ghost use Rattle.tocmark_event.specs.Options.{options_view};
-ghost use Rattle.tocmark_interchange.specs.Document.{IsDocumentCause, IsWrittenTheSame};
-ghost use Rattle.tocmark_interchange.specs.Interchange.{IsCause, IsWrittenFrom, source_text};
+ghost use Rattle.tocmark_documents.specs.Document.{IsDocumentCause, IsWrittenTheSame};
+ghost use Rattle.tocmark_documents.specs.Interchange.{IsCause, IsWrittenFrom, source_text};
 
 use crate::cause::Cause;
 use crate::refusal::Refusal;
 use std::alloc::Global;
 use tocmark::Options;
 use tocmark::event::ParserOptions;
-use tocmark_interchange::{
-    DocumentError, WriteError, options_from_text, write_checked, write_json,
-};
+use tocmark_documents::{DocumentError, WriteError, options_from_text, write_checked, write_json};
 
 /// The source that a text stands for: none if the text is empty.
-#[tactic(auto, using(tocmark_interchange::proofs::Empty::empty_text))]
+#[tactic(auto, using(tocmark_documents::proofs::Empty::empty_text))]
 pub fn source_of(text: &str) -> Option<&str>
     ensures there { is_some result ≡ has_source text.now }
     ensures text { source_text result ≡ text.now }

@@ -1,4 +1,4 @@
-//! The options of a command line, which stand in tables.
+//! The options of a command line, which are in tables.
 
 use clap::{Arg, ArgAction, Command};
 use std::alloc::{AllocError, Global};
@@ -19,9 +19,9 @@ pub enum Takes<'a> {
 /// An option of a command line.
 #[derive(Clone, Copy)]
 pub struct CommandOption<'a> {
-    /// Its name, which stands behind two hyphens.
+    /// Its name, which is after two hyphens.
     pub name: &'a str,
-    /// Its letter, which stands behind one hyphen, if it has one.
+    /// Its letter, which is after one hyphen, if it has one.
     pub letter: Option<char>,
     /// What it takes.
     pub takes: Takes<'a>,

@@ -8,7 +8,7 @@ use std::fmt::Write;
 use tocmark_event::event::ParserOptions;
 use tocmark_reader::{EXTENSIONS, GFM, NAMED_EXTENSIONS};
 
-/// How wide a line of an option's help may be. The names of options stand before it, and 80 columns are all.
+/// How wide a line of an option's help may be. The names of options are before it, and 80 columns are all.
 const HELP_WIDTH: usize = 51;
 
 /// The flags of the syntax with this name.
@@ -31,7 +31,7 @@ pub fn extension_named(name: &str) -> Option<ParserOptions> {
     None
 }
 
-/// Adds the extension with this name to the flags, or removes it if `no-` stands before the name.
+/// Adds the extension with this name to the flags, or removes it if `no-` is before the name.
 ///
 /// The answer is `None` if there is no such extension.
 pub fn extended(flags: ParserOptions, name: &str) -> Option<ParserOptions> {
@@ -84,7 +84,7 @@ fn name_extensions(help: &mut String, start: &str, flags: ParserOptions) -> fmt:
                 help.write_str(",")?;
             }
             is_later = true;
-            // A name has a space before it and a comma behind it.
+            // A name has a space before it and a comma after it.
             let wider = width.saturating_add(name.len()).saturating_add(2);
             if wider <= HELP_WIDTH {
                 help.write_str(" ")?;

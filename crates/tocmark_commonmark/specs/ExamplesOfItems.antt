@@ -14,7 +14,7 @@ abbrev pub an_item_of_two_paragraphs : Row
 an_item_of_two_paragraphs = row (codes "- a\n\n  b\n") (more (BulletList 45 false (more (Item (more (Paragraph (codes "a")) (more (Paragraph (codes "b")) none))) none)) none)
     ([])
 
--- a paragraph behind an item
+-- a paragraph after an item
 abbrev pub a_paragraph_behind_an_item : Row
 a_paragraph_behind_an_item = row (codes "- a\n\n b\n") (more (BulletList 45 true (more (Item (more (Paragraph (codes "a")) none)) none)) (more (Paragraph (codes "b")) none))
     ([])
@@ -44,7 +44,7 @@ abbrev pub an_empty_item : Row
 an_empty_item = row (codes "-\n  a\n") (more (BulletList 45 true (more (Item (more (Paragraph (codes "a")) none)) none)) none)
     ([])
 
--- an empty item with spaces behind it
+-- an empty item with spaces after it
 abbrev pub an_empty_item_with_spaces_behind_it : Row
 an_empty_item_with_spaces_behind_it = row (codes "-   \n  a\n") (more (BulletList 45 true (more (Item (more (Paragraph (codes "a")) none)) none)) none)
     ([])

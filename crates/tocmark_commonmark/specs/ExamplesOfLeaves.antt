@@ -74,7 +74,7 @@ abbrev pub seven_marks : Row
 seven_marks = row (codes "####### a\n") (more (Paragraph (codes "####### a")) none)
     ([])
 
--- no space behind the marks
+-- no space after the marks
 abbrev pub no_space_behind_the_marks : Row
 no_space_behind_the_marks = row (codes "#a\n") (more (Paragraph (codes "#a")) none)
     ([])
@@ -124,7 +124,7 @@ abbrev pub an_underline_with_spaces_within : Row
 an_underline_with_spaces_within = row (codes "a\n= =\n") (more (Paragraph (codes "a\n= =")) none)
     ([])
 
--- a rule behind an underlined heading
+-- a rule after an underlined heading
 abbrev pub a_rule_behind_an_underlined_heading : Row
 a_rule_behind_an_underlined_heading = row (codes "a\n---\n---\n") (more (Heading level.H2 (codes "a")) (more Rule none))
     ([])

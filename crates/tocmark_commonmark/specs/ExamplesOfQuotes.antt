@@ -19,17 +19,17 @@ abbrev pub a_lazy_line : Row
 a_lazy_line = row (codes "> a\nb\n") (more (Quote (more (Paragraph (codes "a\nb")) none)) none)
     ([])
 
--- no lazy line behind a rule
+-- no lazy line after a rule
 abbrev pub no_lazy_line_behind_a_rule : Row
 no_lazy_line_behind_a_rule = row (codes "> ***\nb\n") (more (Quote (more Rule none)) (more (Paragraph (codes "b")) none))
     ([])
 
--- no lazy line behind code
+-- no lazy line after code
 abbrev pub no_lazy_line_behind_code : Row
 no_lazy_line_behind_code = row (codes ">     a\n    b\n") (more (Quote (more (IndentedCode (codes "a\n")) none)) (more (IndentedCode (codes "b\n")) none))
     ([])
 
--- no lazy line behind a fence
+-- no lazy line after a fence
 abbrev pub no_lazy_line_behind_a_fence : Row
 no_lazy_line_behind_a_fence = row (codes "> ```\na\n") (more (Quote (more (FencedCode [] []) none)) (more (Paragraph (codes "a")) none))
     ([])

@@ -14,7 +14,7 @@ use Rattle.tocmark_spelling.specs.declared.buffered.BufferedEvent.{BufferedEvent
 use Rattle.tocmark_compare.specs.Agrees.{begins_paragraph}
 use Rattle.tocmark_compare.specs.InParagraph.{in_paragraph, stands_alone}
 
--- a text stands first
+-- a text is first
 abbrev pub begins_with_text : List EventView → Bool
 begins_with_text (Leaf (Text t) ∷ es) = true
 begins_with_text es = false
@@ -158,7 +158,7 @@ module _ (xs : List EventView) (bs : List BufferedEvent) (stays : Bool) (is : st
       ∙ ap (same_events xs) (sym (as-they-are (map event_of bs) (sym views-stay ∙ h)))
       ∙ ap (λ ys. same_events xs (in_paragraph (merged ys))) (events-are bs)
 
-  -- any other stands in a paragraph
+  -- any other is in a paragraph
   pub agrees-in-paragraph : stays ≡ false → same_events xs (with_ends (merged (map event_of bs))) ≡ same_events xs (in_paragraph (merged (map unsourced (map buffered_view bs))))
   agrees-in-paragraph h =
       ap (same_events xs) (sym (in-paragraph (map event_of bs) (sym views-stay ∙ h)))
@@ -188,7 +188,7 @@ begun : (es ys : List EventView) → begins_paragraph es ≡ true → same_event
 begun [] ys h = absurd (false≢true h)
 begun (e ∷ es) ys h = sym (ap (λ b. b && same_events (merged es) ys) h) ∙ first-then e es ys
 
--- what stands behind the start of a paragraph is compared with the events and its end
+-- what is after the start of a paragraph is compared with the events and its end
 pub behind-start : {A : Type 0} (f : A → EventView) (found rest : List A) (es : List EventView) → rest ≡ drop 1 found → begins_paragraph (map f found) ≡ true
     → same_events (merged (map f rest)) (merged (es ++ End end.Paragraph ∷ [])) ≡ same_events (merged (map f found)) (with_ends (merged es))
 behind-start f found rest es is h =

@@ -29,7 +29,7 @@ alike-sym : (b : Bool) (xs ys : List EventView) → alike b xs ys ≡ alike b ys
 alike-sym true xs ys = same-sym (after_text [] (merged xs)) (after_text [] (merged ys))
 alike-sym false xs ys = same-sym (merged xs) (merged ys)
 
--- the text that joins a text in front, and what stands behind it
+-- the text that joins a text in front, and what is after it
 abbrev lead_of : List EventView → List ℕ
 lead_of (Leaf (Text t) ∷ es) = t
 lead_of es = []
@@ -120,7 +120,7 @@ module _ (b : Bool) (xs ys : List EventView) (t u : List ℕ) (i j : ℕ) (x : t
   pub expected-differs : length (drop j u) ≤ length (drop i t) → read_to t i (drop j u) ≡ None → false ≡ alike b (cut i xs) (cut j ys)
   expected-differs le h = found-differs b ys xs u t j i y x le h ∙ alike-sym b (cut j ys) (cut i xs)
 
--- where no text stands first, none is cut
+-- where no text is first, none is cut
 no-cut : (es : List EventView) (n : ℕ) → text_in (first es) ≡ None → cut n es ≡ es
 no-cut [] n h = refl
 no-cut (Leaf (Text t) ∷ es) n h = absurd cc
@@ -131,7 +131,7 @@ no-text [] h = refl
 no-text (Leaf (Text t) ∷ es) h = absurd cc
 no-text (e ∷ es) h = refl
 
--- where none stands first, a begun stretch is an empty text
+-- where none is first, a begun stretch is an empty text
 begun-text : (es : List EventView) → text_in (first es) ≡ None → after_text [] (merged es) ≡ Leaf (Text []) ∷ merged es
 begun-text es h = empty-text (merged es) (merged-begins es (no-text es h))
 

@@ -12,7 +12,7 @@ use Rattle.tocmark_event.proofs.Merging.{after_text-twice}
 use Rattle.tocmark_compare.specs.declared.digest.Digest.{Digest}
 use Rattle.tocmark_compare.specs.Digest.{IsLinkOf, IsTextOf, SaysFirst, Texts, Mark, Words, linked, marked, marks, next_said, next_spelled, said, says, spelled, worded}
 
--- what is merged behind further events
+-- what is merged after further events
 pub merged-behind : (zs xs ys : List EventView) → merged xs ≡ merged ys → merged (zs ++ xs) ≡ merged (zs ++ ys)
 merged-behind [] xs ys h = h
 merged-behind (Start t ∷ zs) xs ys h = ap (λ es. Start t ∷ es) (merged-behind zs xs ys h)
@@ -67,7 +67,7 @@ spells-text (b ∷ t) e h bytes others =
     ∙ singles-merged b t (said Texts bytes others)
     ∙ ap (λ f. merged (f ∷ said Texts bytes others)) (sym h.text)
 
--- the marks of events without texts stand before those of events with some
+-- the marks of events without texts are before those of events with some
 early : (m : ℕ) (e : EventView) → marked m ≡ Some e → nat_lt 75 m ≡ false
 early m e h =
     let within : m < 75 = slice_get_within marks m e h in
@@ -79,7 +79,7 @@ spells-mark m e h bytes others =
     (ap (λ c. if c then said (Words m [] []) bytes others else next_said (marked m) (said Texts bytes) others) (early m e h)
     ∙ ap (λ o. next_said o (said Texts bytes) others) h)
 
--- the rest of a text behind a mark
+-- the rest of a text after a mark
 words-said : (m : ℕ) (texts : List (List ℕ)) (t u : List ℕ) → list_any (λ b. b == 255) t ≡ false → (bytes : List ℕ) (others : List EventView) → said (Words m texts u) (t ++ 255 ∷ bytes) others ≡ next_spelled (spelled m (texts ++ (u ++ t) ∷ [])) (said Texts bytes others) (said (Words m (texts ++ (u ++ t) ∷ []) []) bytes others)
 words-said m texts [] u h bytes others =
     ap (λ t. next_spelled (spelled m (texts ++ t ∷ [])) (said Texts bytes others) (said (Words m (texts ++ t ∷ []) []) bytes others)) (sym (append-nil u))
@@ -89,7 +89,7 @@ words-said m texts (b ∷ t) u h bytes others =
     ∙ words-said m texts t (u ++ b ∷ []) parts.1 bytes others
     ∙ ap (λ v. next_spelled (spelled m (texts ++ v ∷ [])) (said Texts bytes others) (said (Words m (texts ++ v ∷ []) []) bytes others)) (append_assoc u (b ∷ []) t)
 
--- a mark from 76 on, behind which stands a text
+-- a mark from 76 on, after which is a text
 late-one : (c : Bool) (o : Option EventView) (e : EventView) → (if c then o else None) ≡ Some e → c ≡ true
 late-one true o e h = refl
 late-one false o e h = absurd (none-some e h)
@@ -106,7 +106,7 @@ spells-word m t e plain is bytes others =
     (first-said m t (late-one (nat_lt 75 m) (option_map (λ f. f t) (slice_get worded (m - 76))) e is) plain bytes others
     ∙ ap (λ o. next_spelled o (said Texts bytes others) (said (Words m (t ∷ []) []) bytes others)) is)
 
--- three texts behind a mark
+-- three texts after a mark
 abbrev pub three : ℕ → List ℕ → List ℕ → List ℕ → List ℕ
 three m d t i = 255 ∷ m ∷ (d ++ 255 ∷ (t ++ 255 ∷ (i ++ 255 ∷ [])))
 
@@ -167,7 +167,7 @@ word-put old new m t e plain is longer same =
     (ap (λ os. map (event_view text_of) os.items) same ∙ sym (append-nil (map (event_view text_of) old.others.items)))
     (spells-word m t e plain is)
 
--- the bytes of a link, as they are put one behind the other
+-- the bytes of a link, as they are put one after the other
 three-put : (m : ℕ) (d t i bytes : List ℕ) → ((((((bytes ++ 255 ∷ m ∷ []) ++ d) ++ 255 ∷ []) ++ t) ++ 255 ∷ []) ++ i) ++ 255 ∷ [] ≡ bytes ++ three m d t i
 three-put m d t i bytes =
     append_assoc (((((bytes ++ 255 ∷ m ∷ []) ++ d) ++ 255 ∷ []) ++ t) ++ 255 ∷ []) i (255 ∷ [])

@@ -34,14 +34,14 @@ append-same E (a ∷ xs) [] us vs e = absurd (omega arith)
 append-same E (a ∷ xs) (b ∷ ys) us vs e =
     ap (λ t. E a b && t) (append-same E xs ys us vs (omega arith)) ∙ sym (and-assoc (E a b) (pointwise E xs ys) (pointwise E us vs))
 
--- the names of two headings, before which the number of the classes stands
+-- the names of two headings, before which the number of the classes is
 pub names-same : (xs ys us vs : List (List ℕ)) → pointwise bytes_eq (number (length xs) ∷ xs ++ us) (number (length ys) ∷ ys ++ vs) ≡ (pointwise bytes_eq xs ys && pointwise bytes_eq us vs)
 names-same xs ys us vs = elim (eqb_tells (length xs) (length ys)) [
   | inl t ↦ ap (λ b. (b && true) && pointwise bytes_eq (xs ++ us) (ys ++ vs)) t.0 ∙ append-same bytes_eq xs ys us vs t.1
   | inr f ↦ ap (λ b. (b && true) && pointwise bytes_eq (xs ++ us) (ys ++ vs)) f.0 ∙ sym (ap (λ b. b && pointwise bytes_eq us vs) (unequal bytes_eq xs ys f.1))
 ]
 
--- lists seen from a place on: the items there, and those behind them
+-- lists seen from a place on: the items there, and those after them
 pub same-at : {A B X Y : Type 0} (E : X → Y → Bool) (f : A → X) (g : B → Y) (xs : List A) (ys : List B) (i : ℕ) (x : A) (y : B) → i < length xs → i < length ys → x ≡ get_or xs i x → y ≡ get_or ys i y → pointwise E (map f (drop i xs)) (map g (drop i ys)) ≡ (E (f x) (g y) && pointwise E (map f (drop (i + 1) xs)) (map g (drop (i + 1) ys)))
 same-at E f g xs ys i x y h k p q =
     let there = at_drop_more (map f) xs i x h ∙ ap (λ z. f z ∷ map f (drop (i + 1) xs)) (sym p) in

@@ -8,7 +8,7 @@ use Rattle.tocmark_compare.specs.declared.alike.Expected.{Expected}
 use Rattle.tocmark_compare.specs.declared.alike.Step.{Step}
 use Rattle.tocmark_compare.specs.declared.alike.Step.TheVariants as step
 
--- both lists are the same, each stretch of texts as one; if a stretch is begun, a text stands before both
+-- both lists are the same, each stretch of texts as one; if a stretch is begun, a text is before both
 abbrev pub alike : Bool → List EventView → List EventView → Bool
 alike true xs ys = same_events (after_text [] (merged xs)) (after_text [] (merged ys))
 alike false xs ys = same_events (merged xs) (merged ys)
@@ -33,7 +33,7 @@ abbrev pub text_in : Option EventView → Option (List ℕ)
 text_in (Some (Leaf (Text t))) = Some t
 text_in e = None
 
--- the events that must be read: those of a body, and those behind it
+-- the events that must be read: those of a body, and those after it
 abbrev pub expected_view : Expected → List EventView
 expected_view e = map event_of e.body.now ++ map (event_view string_bytes) e.behind.now
 

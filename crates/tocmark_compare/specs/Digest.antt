@@ -90,7 +90,7 @@ spelled m (d ∷ t ∷ i ∷ []) =
     if nat_lt 75 m then option_map (λ tag. Start (tag d t i)) (slice_get linked (m - 86)) else None
 spelled m texts = None
 
--- what is awaited: texts, a mark, or more of the texts behind a mark, of which some have ended
+-- what is awaited: texts, a mark, or more of the texts after a mark, of which some have ended
 pub data Awaited : Type 0 where
   Texts : Awaited
   Mark : Awaited
@@ -107,7 +107,7 @@ abbrev pub next_spelled : Option EventView → List EventView → List EventView
 next_spelled (Some e) rest more = e ∷ rest
 next_spelled None rest more = more
 
--- what bytes say, with the events that have no marks: behind 255 stands a mark, behind a mark from 76 on stand its texts,
+-- what bytes say, with the events that have no marks: after 255 is a mark, after a mark from 76 on are its texts,
 -- each up to the next 255, and any other byte is one of a text
 abbrev pub said : Awaited → List ℕ → List EventView → List EventView
 said w [] others = []
@@ -123,7 +123,7 @@ said (Words m texts t) (b ∷ bytes) others =
 abbrev pub says : Digest → List EventView
 says d = merged (said Texts d.bytes.items (map (event_view text_of) d.others.items))
 
--- a digest says these events, and then what else is put behind it
+-- a digest says these events, and then what else is put after it
 abbrev pub SaysFirst : Digest → List EventView → Type 0
 SaysFirst d events =
     (bytes : List ℕ) (others : List EventView)
@@ -140,7 +140,7 @@ pub record IsTextOf (bytes : List ℕ) (e : EventView) : Type 0 where
   pub some : (length bytes == 0) ≡ false
   pub plain : list_any (λ b. b == 255) bytes ≡ false
 
--- the mark of a link or an image, behind which stand three texts
+-- the mark of a link or an image, after which are three texts
 pub record IsLinkMark (m : ℕ) (tag : List ℕ → List ℕ → List ℕ → TagView) : Type 0 where
   pub more : (d : List ℕ) → spelled m (d ∷ []) ≡ None
   pub all : (d t i : List ℕ) → spelled m (d ∷ t ∷ i ∷ []) ≡ Some (Start (tag d t i))

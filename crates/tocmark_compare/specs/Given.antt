@@ -4,7 +4,7 @@ use Rattle.tocmark_event.specs.Text.{ParserEvent, text_of}
 use Rattle.tocmark_event.specs.View.{EventView, event_view}
 use Rattle.tocmark_event.specs.Reading.{ReadingView}
 
--- the events without what stands beside each, as its range
+-- the events without what is beside each, as its range
 abbrev pub given_events : {X : Type 0} → List (ParserEvent × X) → List EventView
 given_events = map (λ e. event_view text_of e.0)
 

@@ -1,4 +1,4 @@
--- What must be read for a unit: inline events stand in a Paragraph.
+-- What must be read for a unit: inline events are in a Paragraph.
 use Rattle.std.specs.Prelude.{Bool, true, false, not, if◌then◌else◌, List, [], ◌∷◌, ◌++◌}
 use Rattle.std.specs.List.{list_any}
 use Rattle.tocmark_event.specs.View.{Paragraph, Html, Rule, EventView, Start, End, Leaf}

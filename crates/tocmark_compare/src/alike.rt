@@ -1,4 +1,4 @@
-//! Whether what a reader found is a body and what stands behind it. No event is copied.
+//! Whether what a reader found is a body and what is after it. No event is copied.
 
 ghost use Rattle.std.specs.Prelude.{◌≡◌, ◌++◌, ◌+◌, List, Option, Some, None, IsSome, false, map, string_bytes, drop, length, nat_eq, if◌then◌else◌};
 ghost use Rattle.std.specs.List.{starts_with};
@@ -18,7 +18,7 @@ use tocmark_spelling::buffered::BufferedEvent;
 #[derive(Clone, Copy)]
 struct Expected<'e> {
     body: &'e [BufferedEvent],
-    /// The events behind the body.
+    /// The events after the body.
     behind: &'e [OwnedEvent],
 }
 
@@ -93,7 +93,7 @@ fn first_found<'e, 't>(found: &'e [(Event<'t>, (usize, usize))]) -> Option<&'e E
     }
 }
 
-/// All that was found behind the first event.
+/// All that was found after the first event.
 pub(crate) fn rest_found<'e, 't>(
     found: &'e [(Event<'t>, (usize, usize))],
 ) -> &'e [(Event<'t>, (usize, usize))]
@@ -239,7 +239,7 @@ fn compare(found: Option<&Event<'_>>, expected: Option<&OwnedEvent>, at: Reached
     }
 }
 
-/// Whether what a reader found is these events and those behind them, each stretch of texts as one.
+/// Whether what a reader found is these events and those after them, each stretch of texts as one.
 /// It takes no memory, and ends at the first difference.
 pub fn alike(
     found: &[(Event<'_>, (usize, usize))],

@@ -14,9 +14,9 @@ use crate::number::{alignment_number, end_number, link_number};
 use std::alloc::{AllocError, Global};
 use tocmark_event::event::{Alignment, CodeBlockKind, Event, LinkType, Tag, TagEnd};
 
-/// What stands before a mark. No text has such a byte.
+/// What is before a mark. No text has such a byte.
 const SIGN: u8 = 255;
-/// How many marks Ends have, and as many Starts behind them.
+/// How many marks Ends have, and as many Starts after them.
 const ENDS: u8 = 35;
 /// The marks of leaves without a text.
 const SOFT_BREAK: u8 = 70;
@@ -28,9 +28,9 @@ const RULE: u8 = 72;
 const UNCHECKED: u8 = 73;
 
 const CHECKED: u8 = 74;
-/// The mark of an event that stands among the others.
+/// The mark of an event that is among the others.
 const OTHER: u8 = 75;
-/// The marks of events with one text, behind which stand the text and a sign.
+/// The marks of events with one text, after which are the text and a sign.
 const CODE: u8 = 76;
 
 const INLINE_MATH: u8 = 77;
@@ -50,7 +50,7 @@ const FOOTNOTE: u8 = 83;
 const NUMBER: u8 = 84;
 /// The mark of a table, whose text has a byte for each column: the number of its alignment.
 const TABLE: u8 = 85;
-/// The first mark of a link, behind which stand its destination, title and label, and a sign behind each. Each type of
+/// The first mark of a link, after which are its destination, title and label, and a sign after each. Each type of
 /// link has a mark.
 const LINKS: u8 = 86;
 /// The first mark of an image.
@@ -66,7 +66,7 @@ pub struct Digest {
     others: Vec<Event<'static>>,
 }
 
-/// Where a tree at the top ends: the byte and the other event behind it.
+/// Where a tree at the top ends: the byte and the other event after it.
 #[derive(Clone, Copy)]
 pub struct TreeEnd {
     byte: usize,
@@ -127,7 +127,7 @@ fn mark_of(event: &Event<'_>) -> Option<u8>
     }
 }
 
-/// The bytes of a text that can stand among the bytes of a digest.
+/// The bytes of a text that can be among the bytes of a digest.
 fn bytes_of<'e>(event: &'e Event<'_>) -> Option<&'e [u8]>
     ensures { IfSome result (λ bytes. IsTextOf bytes.now (event_view text_of event.now)) }
 {
@@ -250,7 +250,7 @@ fn link_of<'e>(event: &'e Event<'_>) -> Option<Linked<'e>>
     }
 }
 
-/// Whether a text can stand among the bytes of a digest.
+/// Whether a text can be among the bytes of a digest.
 fn can_stand(text: &str) -> bool
     ensures { result ≡ true → list_any (λ b. b == 255) text.now ≡ false }
 {
@@ -262,11 +262,11 @@ fn can_stand(text: &str) -> bool
 enum Next {
     Text,
     Mark,
-    /// A byte of a text behind a mark. The number counts this text and those behind it.
+    /// A byte of a text after a mark. The number counts this text and those after it.
     Words(u8),
 }
 
-/// How deep a byte stands, and how many of the other events stand before it.
+/// How deep a byte is, and how many of the other events are before it.
 #[derive(Clone, Copy)]
 struct Walk {
     next: Next,
@@ -344,7 +344,7 @@ impl Digest {
         self.put_bytes(&[SIGN, mark])
     }
 
-    /// Puts a text and a sign behind it.
+    /// Puts a text and a sign after it.
     fn put_text(&mut self, text: &[u8]) -> Result<(), AllocError>
         ensures bytes { OnOk result (self.new.bytes.items
             ≡ (self.old.bytes.items ++ text.now) ++ 255 ∷ []) }
@@ -364,7 +364,7 @@ impl Digest {
         self.put_text(text)
     }
 
-    /// Puts an event that has one text, if it can stand among the bytes; whether it does.
+    /// Puts an event that has one text, if it can be among the bytes; whether it is.
     fn put_worded(&mut self, event: &Event<'_>) -> Result<bool, AllocError>
         ensures done { IfOk result (λ done. done ≡ true
             → Adds self.old self.new (event_view text_of event.now)) }
@@ -411,7 +411,7 @@ impl Digest {
         Ok(true)
     }
 
-    /// Puts a link or an image, if it can stand among the bytes; whether it does.
+    /// Puts a link or an image, if it can be among the bytes; whether it is.
     fn put_linked(&mut self, event: &Event<'_>) -> Result<bool, AllocError>
         ensures done { IfOk result (λ done. done ≡ true
             → Adds self.old self.new (event_view text_of event.now)) }

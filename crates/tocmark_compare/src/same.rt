@@ -1,4 +1,4 @@
-//! Whether two lists of events say the same. Beside each event stands anything, as its range: it isn't compared.
+//! Whether two lists of events say the same. Beside each event is anything, as its range: it isn't compared.
 
 ghost use Rattle.std.specs.Prelude.{◌≡◌, ◌↔◌, map, IfOk, IsTrue};
 ghost use Rattle.tocmark_event.specs.Merged.{merged};
@@ -38,7 +38,7 @@ fn are_equal<X, Y>(found: &[(Event<'_>, X)], given: &[(Event<'_>, Y)]) -> bool
     true
 }
 
-/// The events without what stands beside each.
+/// The events without what is beside each.
 fn events_alone<X>(
     alloc: Global,
     events: &[(Event<'_>, X)],
@@ -52,7 +52,7 @@ fn events_alone<X>(
     Ok(all)
 }
 
-/// The events without what stands beside each, and each longest stretch of texts as one.
+/// The events without what is beside each, and each longest stretch of texts as one.
 pub fn merged_events<X>(
     alloc: Global,
     events: &[(Event<'_>, X)],

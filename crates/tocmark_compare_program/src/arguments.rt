@@ -16,7 +16,7 @@ use tocmark_event::event::ParserOptions;
 pub enum Measure {
     /// What a reader finds in them.
     Events,
-    /// The same, and then their letters.
+    /// What a reader finds in them, and their letters.
     EventsAndLetters,
     /// Their letters alone.
     Letters,
@@ -88,7 +88,7 @@ pub const NAME: &str = "tocmark-compare";
 
 /// What `--help` says of the paths.
 const PATHS: &str =
-    "Two files, or two folders. One file can be - for standard\ninput. Of folders, the files *.md and *.markdown are compared";
+    "Two files, or two folders. One file can be - for standard\ninput. Of folders, the files *.md, *.markdown, *.mdown and *.mkd\nare compared";
 
 /// The options of this program alone.
 static OPTIONS: [CommandOption<'static>; 9] = [

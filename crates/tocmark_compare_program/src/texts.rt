@@ -79,6 +79,22 @@ pub fn joined(alloc: Global, folder: &str, name: &str) -> Result<String, AllocEr
     Ok(path)
 }
 
+/// The endings of Markdown files, in any case.
+const ENDINGS: [&str; 4] = ["md", "markdown", "mdown", "mkd"];
+
+/// Whether a file has a name of Markdown.
+fn is_markdown(name: &str) -> bool {
+    let Some((_, ending)) = name.rsplit_once('.') else {
+        return false;
+    };
+    for known in &ENDINGS {
+        if ending.eq_ignore_ascii_case(known) {
+            return true;
+        }
+    }
+    false
+}
+
 impl Walk {
     /// Adds something that is found in a folder. Links and hidden names are passed over.
     fn add(&mut self, rt: &HostRuntime, folder: &str, entry: &DirEntry) -> io::Result<()> {
@@ -90,7 +106,7 @@ impl Walk {
         let path = joined(rt.alloc(), folder, name)?;
         if found.is_dir() {
             self.folders.push(path)?;
-        } else if found.is_file() && (name.ends_with(".md") || name.ends_with(".markdown")) {
+        } else if found.is_file() && is_markdown(name) {
             self.files.push(path)?;
         }
         Ok(())

@@ -4,7 +4,7 @@ use crate::erase::Within;
 use crate::marks::Mark;
 use std::alloc::{AllocError, Global};
 use std::fmt;
-use tocmark_event::event::{CodeBlockKind, Event, HeadingLevel, Tag};
+use tocmark_event::event::{Alignment, BlockQuoteKind, CodeBlockKind, Event, HeadingLevel, Tag};
 
 /// How many characters of a text a message shows.
 const SHOWN: usize = 60;
@@ -156,6 +156,37 @@ fn info_of<'c>(kind: &'c CodeBlockKind<'static>) -> &'c str {
     }
 }
 
+/// The kind of a quote, as its first line names it; nothing for none.
+fn quote_text(kind: Option<BlockQuoteKind>) -> &'static str {
+    match kind {
+        None => "",
+        Some(BlockQuoteKind::Note) => "[!NOTE]",
+        Some(BlockQuoteKind::Tip) => "[!TIP]",
+        Some(BlockQuoteKind::Important) => "[!IMPORTANT]",
+        Some(BlockQuoteKind::Warning) => "[!WARNING]",
+        Some(BlockQuoteKind::Caution) => "[!CAUTION]",
+    }
+}
+
+/// The box of a task.
+fn box_text(is_done: bool) -> &'static str {
+    if is_done { "[x]" } else { "[ ]" }
+}
+
+/// How the columns of a table are aligned, as its second line says it.
+fn alignments_text(alloc: Global, alignments: &[Alignment]) -> Result<String, AllocError> {
+    let mut text = String::from_str(alloc, "|")?;
+    for alignment in alignments {
+        text.push_str(match alignment {
+            Alignment::None => "-|",
+            Alignment::Left => ":-|",
+            Alignment::Center => ":-:|",
+            Alignment::Right => "-:|",
+        })?;
+    }
+    Ok(text)
+}
+
 /// The first number of a list; none for bullets.
 fn number_text(alloc: Global, number: Option<u64>) -> Result<String, AllocError> {
     let Some(number) = number else {
@@ -195,6 +226,12 @@ fn common_end(was: &str, is: &str) -> usize {
         }
     }
     common
+}
+
+/// How many lines two texts have in common at their front.
+fn common_lines(was: &str, is: &str) -> usize {
+    let front = was.get(..common_front(was, is)).unwrap_or("");
+    front.bytes().filter(|byte| *byte == b'\n').count()
 }
 
 /// The words of two texts from the first one that differs to the last one.
@@ -252,6 +289,9 @@ fn start_change<'c>(
             Some((Kind::Level, level_text(*was), level_text(*is)))
         }
         (Tag::CodeBlock(was), Tag::CodeBlock(is)) => Some((Kind::Info, info_of(was), info_of(is))),
+        (Tag::BlockQuote(was), Tag::BlockQuote(is)) => {
+            Some((Kind::Structure, quote_text(*was), quote_text(*is)))
+        }
         _ => {
             let (was, is) = (link_texts(old)?, link_texts(new)?);
             if was.destination != is.destination {
@@ -286,27 +326,64 @@ fn words_of<'c>(mark: &'c Mark) -> Option<(Kind, &'c str)> {
     }
 }
 
-/// What differs between two marks of the same word: its kind, and what each says.
-pub fn change_between(
+/// What differs between two marks of the same word.
+#[derive(Drop)]
+pub struct Change {
+    /// What kind of thing it is.
+    pub kind: Kind,
+    /// What the old mark says.
+    pub was: String,
+    /// What the new mark says.
+    pub is: String,
+    /// How many lines after its start the thing differs.
+    pub line: usize,
+}
+
+/// What two marks of the same word say differently, in texts of their own.
+fn composed_change(
     alloc: Global,
     old: &Mark,
     new: &Mark,
 ) -> Result<Option<(Kind, String, String)>, AllocError> {
-    let change = match (&old.event, &new.event) {
+    match (&old.event, &new.event) {
         (Event::Start(Tag::List(was)), Event::Start(Tag::List(is))) => {
             let (was, is) = (number_text(alloc, *was)?, number_text(alloc, *is)?);
-            return Ok(Some((Kind::Number, was, is)));
+            Ok(Some((Kind::Number, was, is)))
         }
+        (Event::Start(Tag::Table(was)), Event::Start(Tag::Table(is))) => {
+            let (was, is) = (alignments_text(alloc, was)?, alignments_text(alloc, is)?);
+            Ok(Some((Kind::Structure, was, is)))
+        }
+        _ => Ok(None),
+    }
+}
+
+/// What two marks of the same word say differently, in texts that they have.
+fn plain_change<'c>(old: &'c Mark, new: &'c Mark) -> Option<(Kind, &'c str, &'c str)> {
+    match (&old.event, &new.event) {
         (Event::Start(was), Event::Start(is)) => start_change(was, is),
-        _ => match (words_of(old), words_of(new)) {
-            (Some((_, was)), Some((kind, is))) => {
-                let (was, is) = differing(was, is);
-                Some((kind, was, is))
-            }
-            _ => None,
-        },
-    };
-    let Some((kind, was, is)) = change else {
+        (Event::TaskListMarker(was), Event::TaskListMarker(is)) => {
+            Some((Kind::Structure, box_text(*was), box_text(*is)))
+        }
+        _ => {
+            let ((_, was), (kind, is)) = (words_of(old)?, words_of(new)?);
+            Some((kind, was, is))
+        }
+    }
+}
+
+/// What differs between two marks of the same word, if that can be said in a few words.
+pub fn change_between(alloc: Global, old: &Mark, new: &Mark) -> Result<Option<Change>, AllocError> {
+    if let Some((kind, was, is)) = composed_change(alloc, old, new)? {
+        let line = 0;
+        return Ok(Some(Change {
+            kind,
+            was,
+            is,
+            line,
+        }));
+    }
+    let Some((kind, was, is)) = plain_change(old, new) else {
         return Ok(None);
     };
     let kind = if new.is_definition {
@@ -314,9 +391,17 @@ pub fn change_between(
     } else {
         kind
     };
-    let was = String::from_str(alloc, was)?;
-    let is = String::from_str(alloc, is)?;
-    Ok(Some((kind, was, is)))
+    let line = common_lines(was, is);
+    let (was, is) = match kind {
+        Kind::Text | Kind::Code | Kind::FrontMatter | Kind::Html => differing(was, is),
+        _ => (was, is),
+    };
+    Ok(Some(Change {
+        kind,
+        was: String::from_str(alloc, was)?,
+        is: String::from_str(alloc, is)?,
+        line,
+    }))
 }
 
 /// What of a thing differs, in words; none if it is the thing itself.

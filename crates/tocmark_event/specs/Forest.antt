@@ -4,7 +4,7 @@ use Rattle.tocmark_event.specs.Ends.{same_end}
 use Rattle.tocmark_event.specs.View.{EventWith, Start, End, Leaf, TagView, end_of}
 use Rattle.tocmark_event.specs.declared.event.TagEnd.{TagEnd}
 
--- a forest is empty, a leaf and what stands to its right, or a container with its children and what stands to its right
+-- a forest is empty, a leaf and what is to its right, or a container with its children and what is to its right
 pub data Forest (L : Type 0) : Type 0 where
   empty : Forest L
   leaf : L → Forest L → Forest L

@@ -64,7 +64,7 @@ default_options = record {
   check_plain_blocks = false;
 }
 
--- two line feeds behind most blocks, fences of four backticks, `*` wherever there is a choice, and only units with
+-- two line feeds after most blocks, fences of four backticks, `*` wherever there is a choice, and only units with
 -- delimiters are checked
 abbrev pub IsDefault : OptionsOf (Bor (List ℕ)) → Type 0
 IsDefault o = options_view o ≡ default_options

@@ -91,7 +91,7 @@ pub enum LinkType {
     Email,
     /// `[[page]]`, or with a pothole `[[page|text]]`
     WikiLink {
-        /// Whether a text stands behind a bar.
+        /// Whether a text is after a bar.
         has_pothole: bool,
     },
 }
@@ -112,7 +112,7 @@ pub enum TagOf<T> {
     Paragraph,
     /// A heading of inline events.
     Heading {
-        /// How many `#` stand before it.
+        /// How many `#` are before it.
         level: HeadingLevel,
         /// Its `{#id}`, if it has one.
         id: Option<T>,

@@ -17,7 +17,7 @@ pub fn equal_options_have_equal_fields(a: &Options<'_>, b: &Options<'_>)
 {}
 
 /// Of two options that one is the smaller which has the smaller field, at the first field in which they
-/// differ, in the order in which the fields stand. The answer of `partial_cmp`, and so `<`, is the same.
+/// differ, in the order in which the fields are. The answer of `partial_cmp`, and so `<`, is the same.
 pub fn options_are_ordered_by_their_fields(a: &Options<'_>, b: &Options<'_>)
     ensures total { ⟦<Options<'static> as Ord>⟧.cmp a.now b.now
         ≡ options_order (options_view a.now) (options_view b.now) }

@@ -40,7 +40,7 @@ const SCRIPTS: ParserOptions = ParserOptions(
 /// How events are written, with a strong token of type `T`. Newlines and the count are numbers of
 /// characters.
 ///
-/// Equality, order and hash are those of the fields, in the order in which they stand here.
+/// Equality, order and hash are those of the fields, in the order in which they are here.
 #[derive(Clone, Copy, Debug, PartialEq, Eq, PartialOrd, Ord, Hash)]
 pub struct OptionsOf<T> {
     /// Line feeds after a heading.
@@ -69,7 +69,7 @@ pub struct OptionsOf<T> {
     pub code_block_token: char,
     /// The marker of a bullet list: `*`, `-` or `+`.
     pub list_token: char,
-    /// What stands behind the number of an ordered list: `.` or `)`.
+    /// What is after the number of an ordered list: `.` or `)`.
     pub ordered_list_token: char,
     /// Whether the numbers of an ordered list go up, or all are the first one.
     pub increment_ordered_list_bullets: bool,
@@ -352,7 +352,7 @@ pub enum Error {
     /// The writer refused a text.
     FormatFailed(fmt::Error),
     /// An End that isn't the innermost open container's, a container that is open at the end, or
-    /// events that cannot stand where they do.
+    /// events that aren't allowed where they are.
     UnexpectedEvent,
     /// None of the spellings that are tried for a block reads back.
     Unrepresentable,

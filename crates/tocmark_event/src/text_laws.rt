@@ -16,7 +16,7 @@ pub fn equal_texts_have_equal_bytes(a: &CowStr<'_>, b: &CowStr<'_>)
 {}
 
 /// Texts are ordered by their bytes, at the first place where they differ, and a text comes before those
-/// that go on behind it. The answer of `partial_cmp`, and so `<`, is the same.
+/// that go on after it. The answer of `partial_cmp`, and so `<`, is the same.
 pub fn texts_are_ordered_by_their_bytes(a: &CowStr<'_>, b: &CowStr<'_>)
     ensures total { ⟦<CowStr<'static> as Ord>⟧.cmp a.now b.now
         ≡ slice_cmp nat_cmp (text_of a.now) (text_of b.now) }

@@ -1,7 +1,7 @@
--- What stands behind what was there where a call fails.
+-- What is after what was there where a call fails.
 use Rattle.std.proofs.Common.{ℕ, List, Option, Some, Result, Ok, Err, inr}
 use Rattle.std.specs.Prelude.{OnErr}
-use Rattle.tocmark_interchange.specs.Lines.{AppendsFront}
+use Rattle.tocmark_documents.specs.Lines.{AppendsFront}
 use Rattle.tocmark_events_program.specs.Events.{IsOutput, WritesLate}
 use Rattle.tocmark_events_program.specs.declared.arguments.Call.{Call}
 

@@ -4,10 +4,10 @@ use Rattle.std.specs.Io.KnownBytes.{Appends}
 use Rattle.serde_json.specs.Written.{IsInOrder}
 use Rattle.tocmark_event.specs.Options.{options_view}
 use Rattle.tocmark_event.specs.declared.event.flags.ParserOptions.{ParserOptions}
-use Rattle.tocmark_interchange.specs.Document.{IsWrittenTheSame}
-use Rattle.tocmark_interchange.specs.Interchange.{IsWrittenAgain, IsWrittenFrom, reading_json, reading_located}
-use Rattle.tocmark_interchange.specs.Lines.{AppendsFront, IsWrittenFromLines, json_of, reading_lines, reading_located_lines}
-use Rattle.tocmark_interchange.specs.Rewriting.{IsRewrittenText}
+use Rattle.tocmark_documents.specs.Document.{IsWrittenTheSame}
+use Rattle.tocmark_documents.specs.Interchange.{IsWrittenAgain, IsWrittenFrom, reading_json, reading_located}
+use Rattle.tocmark_documents.specs.Lines.{AppendsFront, IsWrittenFromLines, json_of, reading_lines, reading_located_lines}
+use Rattle.tocmark_documents.specs.Rewriting.{IsRewrittenText}
 use Rattle.tocmark_outline.specs.Defining.{IsDefinitionsJson}
 use Rattle.tocmark_events_program.specs.declared.arguments.Call.{Call}
 use Rattle.tocmark_events_program.specs.declared.arguments.Call.TheVariants as call
@@ -68,13 +68,13 @@ IsWriteFault fault.OutOfMemory = ⊥
 IsWriteFault fault.Write = Unit {0}
 IsWriteFault (fault.NotReplaced name e) = ⊥
 
--- the output of a call stands behind what was there
+-- the output of a call is after what was there
 pub record IsAnswered (c : Call) (source input : List ℕ) (old new : Option (List ℕ)) : Type 0 where
   pub output : List ℕ
   pub is_output : IsOutput c source input output
   pub appended : Appends old new output
 
--- a front of the output of a call stands behind what was there
+-- a front of the output of a call is after what was there
 pub record IsAnsweredUpTo (c : Call) (source input : List ℕ) (old new : Option (List ℕ)) : Type 0 where
   pub output : List ℕ
   pub is_output : IsOutput c source input output

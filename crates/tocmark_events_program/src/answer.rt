@@ -3,10 +3,10 @@
 ghost use Rattle.std.specs.Prelude.{◌≡◌, IfErr, IfOk, string_bytes};
 ghost use Rattle.serde_json.specs.Written.{IsInOrder};
 ghost use Rattle.tocmark_event.specs.Options.{options_view};
-ghost use Rattle.tocmark_interchange.specs.Document.{IsWrittenTheSame};
-ghost use Rattle.tocmark_interchange.specs.Interchange.{IsWrittenAgain, IsWrittenFrom, reading_json, reading_located};
-ghost use Rattle.tocmark_interchange.specs.Lines.{IsWrittenFromLines, array_of};
-ghost use Rattle.tocmark_interchange.specs.Rewriting.{IsRewrittenText};
+ghost use Rattle.tocmark_documents.specs.Document.{IsWrittenTheSame};
+ghost use Rattle.tocmark_documents.specs.Interchange.{IsWrittenAgain, IsWrittenFrom, reading_json, reading_located};
+ghost use Rattle.tocmark_documents.specs.Lines.{IsWrittenFromLines, array_of};
+ghost use Rattle.tocmark_documents.specs.Rewriting.{IsRewrittenText};
 ghost use Rattle.tocmark_outline.specs.Defining.{IsDefinitionsJson};
 ghost use Rattle.tocmark_events_program.specs.Events.{IsAnswer, IsMade, IsReadAs, IsWriteFault};
 
@@ -15,7 +15,7 @@ use crate::fault::Fault;
 use std::alloc::Global;
 use tocmark::Options;
 use tocmark::event::ParserOptions;
-use tocmark_interchange::{
+use tocmark_documents::{
     array_of, check_json, checked_over, read_json, read_located, rewrite_json, write_lines,
     write_over,
 };

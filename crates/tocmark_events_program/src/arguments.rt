@@ -8,7 +8,7 @@ use tocmark::event::ParserOptions;
 use tocmark::{Options, OptionsError};
 use tocmark_command::options::{CommandOption, Takes, with_options};
 use tocmark_command::syntax::{extended, syntax_named, with_syntax};
-use tocmark_interchange::OptionFault;
+use tocmark_documents::OptionFault;
 
 /// What a call asks for.
 #[derive(Clone, Copy, Drop)]
@@ -45,7 +45,7 @@ pub enum Job<'a> {
         source: Option<&'a str>,
         /// Whether the output must parse to just these events.
         is_document: bool,
-        /// Whether each event stands on a line of its own.
+        /// Whether each event is on a line of its own.
         lines: bool,
     },
     /// The document in a file, rewritten to events that were read from it under these flags.
@@ -55,7 +55,7 @@ pub enum Job<'a> {
         source: &'a str,
         /// Whether standard error gets a line about each block.
         reports: bool,
-        /// Whether each event stands on a line of its own.
+        /// Whether each event is on a line of its own.
         lines: bool,
     },
 }

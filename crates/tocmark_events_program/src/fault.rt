@@ -8,11 +8,11 @@ use std::alloc::{AllocError, AllocFailed};
 use std::io;
 use thiserror::Error;
 use tocmark_command::streams::InputError;
+use tocmark_documents::{DocumentError, OptionsTextError, RewriteError, StreamError, WriteError};
 use tocmark_files::replace::ReplaceError;
-use tocmark_interchange::{DocumentError, OptionsTextError, RewriteError, StreamError, WriteError};
 use tocmark_json::fault::JsonError;
 
-/// A fault, shown as one line on standard error, behind the name of the program.
+/// A fault, shown as one line on standard error, after the name of the program.
 #[derive(Debug, Drop, Error)]
 pub enum Fault {
     #[error("cannot read the input")]

@@ -1,7 +1,7 @@
 //! The program for other languages: Markdown to events as JSON on standard output, and back.
 //! `docs/JSON.md` has the form.
 //!
-//! It stands on `tocmark_interchange`, which makes its answers, and on `tocmark_command`, which has what it shares with the
+//! It is on `tocmark_documents`, which makes its answers, and on `tocmark_command`, which has what it shares with the
 //! formatter. `answer` asks for the answer to a call, and `edited` puts it in the place of a file. `arguments` has the
 //! program's options, `settings` sets those of the writer, and `fault` has the messages on standard error.
 #![tactic(auto)]
@@ -14,7 +14,7 @@ mod settings;
 
 ghost use Rattle.std.specs.Prelude.{◌≡◌, ◌≤◌, IfErr, IfSome, OnErr, OnOk, Some, string_bytes};
 ghost use Rattle.std.specs.Io.KnownBytes.{Appends};
-ghost use Rattle.tocmark_interchange.specs.Lines.{AppendsFront};
+ghost use Rattle.tocmark_documents.specs.Lines.{AppendsFront};
 ghost use Rattle.tocmark_events_program.specs.Events.{IsAnswered, IsWriteFault, WritesLate, lines_read};
 
 use answer::answered;
@@ -32,10 +32,10 @@ use tocmark::event::ParserOptions;
 use tocmark_command::program::{Program, words_of};
 use tocmark_command::streams::text_in;
 use tocmark_command::syntax::syntax_help;
-use tocmark_files::quoted::in_quotes;
-use tocmark_interchange::{
+use tocmark_documents::{
     StreamError, options_in_json, stream_lines, stream_located_lines, write_bytes,
 };
+use tocmark_files::quoted::in_quotes;
 use tocmark_rewrite::{Fate, RewrittenTree};
 
 /// This program.

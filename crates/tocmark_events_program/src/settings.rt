@@ -3,7 +3,7 @@
 use serde_json::Value;
 use std::alloc::{AllocError, Global};
 use tocmark::Options;
-use tocmark_interchange::{OptionFault, set_option};
+use tocmark_documents::{OptionFault, set_option};
 
 /// Why a word sets no option.
 #[derive(Clone, Copy, Drop)]

@@ -23,7 +23,7 @@ enum Token {
     Star,
     /// `**` at the end: any characters.
     Rest,
-    /// `**/`, behind a fork that passes it by: folders, each with its `/`.
+    /// `**/`, after a fork that passes it by: folders, each with its `/`.
     Folders,
     /// Either the next place or this one.
     Fork(usize),
@@ -149,7 +149,7 @@ fn is_marked(places: &[bool], at: usize) -> bool {
 
 impl Glob {
     /// Parses a glob, of Git or of this program. `Ok(None)`: a bracket or brace isn't closed, a class has no known name, or a
-    /// backslash stands at the end.
+    /// backslash is at the end.
     pub fn new(alloc: Global, text: &str, is_git: bool) -> Result<Option<Glob>, AllocError> {
         let mut parser = Parser::new(alloc, text, is_git)?;
         if !parser.parse()? || !parser.groups.is_empty() {
@@ -251,7 +251,7 @@ impl Glob {
         }
     }
 
-    /// Whether a character leads to the place behind a token.
+    /// Whether a character leads to the place after a token.
     fn passes(&self, token: Token, c: char) -> bool {
         match token {
             Token::Literal(literal) => literal == c,
@@ -278,7 +278,7 @@ impl Glob {
     }
 }
 
-/// Whether a character can belong to a token that goes on behind it.
+/// Whether a character can belong to a token that goes on after it.
 fn stays(token: Token, c: char) -> bool {
     match token {
         Token::Star => c != '/',
@@ -388,7 +388,7 @@ impl Parser {
         }
     }
 
-    /// Whether a part of a path begins behind the character before this place. To Git, it also does behind characters that all
+    /// Whether a part of a path begins after the character before this place. To Git, it also begins after characters that all
     /// stand for themselves, because it compares these first, and then matches the rest.
     fn is_start(&self, at: usize) -> bool {
         if self.is_git && self.is_plain {
@@ -428,7 +428,7 @@ impl Parser {
         self.push(Token::Folders)
     }
 
-    /// Parses a class from behind its bracket on.
+    /// Parses a class from after its bracket on.
     fn class(&mut self) -> Result<bool, AllocError> {
         let is_negated = self.skip('!') || self.skip('^');
         let from = self.glob.ranges.len();

@@ -64,7 +64,7 @@ pub fn name_of(path: &str) -> &str {
     }
 }
 
-/// A line of `.gitignore` without the blanks at its end, unless a backslash stands before the first of them.
+/// A line of `.gitignore` without the blanks at its end, unless a backslash is before the first of them.
 fn without_blanks(line: &str) -> &str {
     let line = line.strip_suffix('\r').unwrap_or(line);
     let begin = line.trim_end_matches(' ');

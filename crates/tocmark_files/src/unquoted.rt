@@ -16,7 +16,7 @@ fn octal(digits: &[u8]) -> Option<u8> {
     Some(value)
 }
 
-/// The byte of an escape whose backslash is passed, and what stands behind it.
+/// The byte of an escape whose backslash is passed, and what is after it.
 fn unescaped(rest: &[u8]) -> Option<(u8, &[u8])> {
     let byte = match rest.first()? {
         b'a' => 7,
@@ -32,7 +32,7 @@ fn unescaped(rest: &[u8]) -> Option<(u8, &[u8])> {
     Some((byte, rest.get(1..)?))
 }
 
-/// What stands between quotation marks.
+/// What is between quotation marks.
 fn within_marks(quoted: &[u8]) -> Option<&[u8]> {
     quoted.strip_prefix(b"\"")?.strip_suffix(b"\"")
 }

@@ -20,7 +20,7 @@ impl fmt::Display for Reason {
     }
 }
 
-/// A block that was left as it stands.
+/// A block that was left as it is.
 #[derive(Drop)]
 pub struct Left {
     /// Its first and its last line in the source, counted from 1.
@@ -32,6 +32,6 @@ pub struct Left {
 #[derive(Drop)]
 pub struct Formatted {
     pub text: String,
-    /// The blocks that were left as they stand, in their order.
+    /// The blocks that were left as they are, in their order.
     pub left: Vec<Left>,
 }

@@ -26,7 +26,7 @@ pub(crate) struct ReadBack {
     depth: usize,
 }
 
-/// Adds where further trees begin, from so many open containers on; how many are open behind them.
+/// Adds where further trees begin, from so many open containers on; how many are open after them.
 fn add_starts(starts: &mut Places, open: usize, events: &[Placed]) -> Result<usize, AllocError> {
     let mut depth = open;
     for (event, range) in events {

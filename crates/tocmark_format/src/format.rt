@@ -79,7 +79,7 @@ fn line_ending(text: &str) -> &'static str {
     }
 }
 
-/// A text whose lines end with line feeds in place of carriage returns, with line feeds behind them or without.
+/// A text whose lines end with line feeds in place of carriage returns, with line feeds after them or without.
 fn with_line_feeds(alloc: Global, text: &str) -> Result<String, AllocError> {
     let pairless = text.replace(alloc, "\r\n", "\n")?;
     pairless.as_str().replace(alloc, "\r", "\n")
@@ -375,7 +375,7 @@ impl<R: PartReader> Formatter<'_, R> {
 /// The letters of both texts are the same, in the same order, whatever the reader finds: ASCII letters and all characters past
 /// ASCII (`letters`).
 ///
-/// It fails if memory runs out, or if a line begins behind 4 GiB.
+/// It fails if memory runs out, or if a line begins after 4 GiB.
 ///
 /// ```
 /// let answer = formatted(alloc, "a\n=\n -  b\n", &CoreReader, ParserOptions::empty(), Style::new(), &[])?;

@@ -41,7 +41,7 @@ pub(crate) struct Patch<'p> {
 }
 
 impl Lines {
-    /// The lines on which a block stands, without blank ones: definitions have those beside them.
+    /// The lines on which a block is, without blank ones: definitions have those beside them.
     pub(crate) fn of(source: &Source<'_>, block: Block) -> Lines {
         let (from, to) = block.range;
         let text = source.text.get(from..to).unwrap_or("");

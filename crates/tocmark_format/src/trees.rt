@@ -7,12 +7,12 @@ use tocmark_print::numbers::Numbers;
 /// Places in their order.
 #[derive(Drop)]
 pub(crate) struct Places {
-    /// How far each is behind the one before it.
+    /// How far each is after the one before it.
     numbers: Numbers,
     last: usize,
 }
 
-/// How many places stand before a place that only moves on.
+/// How many places are before a place that only moves on.
 #[derive(Clone, Copy)]
 pub(crate) struct Count {
     at: usize,
@@ -28,7 +28,7 @@ impl Places {
         }
     }
 
-    /// Adds a place behind the others.
+    /// Adds a place after the others.
     pub(crate) fn push(&mut self, place: usize) -> Result<(), AllocError> {
         self.numbers.push(place.saturating_sub(self.last))?;
         self.last = self.last.max(place);
@@ -45,7 +45,7 @@ impl Count {
         }
     }
 
-    /// Moves on to a place; how many of the places stand before it.
+    /// Moves on to a place; how many of the places are before it.
     pub(crate) fn move_to(&mut self, places: &Places, place: usize) -> usize {
         for _ in self.at..places.numbers.len() {
             let mut behind = self.at;
@@ -91,7 +91,7 @@ impl TreeWalk {
         }
     }
 
-    /// Moves behind the next block that has trees: its number, its first tree and where its text begins.
+    /// Moves after the next block that has trees: its number, its first tree and where its text begins.
     fn step(&mut self, blocks: &Blocks) -> Option<(usize, usize, usize)> {
         for _ in self.at..blocks.len() {
             let block = blocks.take(&mut self.place)?;

@@ -78,7 +78,7 @@ impl<T: Drop> From<AllocFailed<T>> for ConfigError {
     }
 }
 
-/// The line, behind the name of the file that stands before it.
+/// The line, after the name of the file that is before it.
 fn place<W: fmt::Write>(f: &mut fmt::Formatter<W>, line: Option<usize>) -> fmt::Result {
     match line {
         Some(line) => write!(f, ":{line}: "),
@@ -86,7 +86,7 @@ fn place<W: fmt::Write>(f: &mut fmt::Formatter<W>, line: Option<usize>) -> fmt::
     }
 }
 
-/// What stands behind the name of the file: `:LINE: ` and what is wrong.
+/// What is after the name of the file: `:LINE: ` and what is wrong.
 impl fmt::Display for ConfigError {
     fn fmt<W: fmt::Write>(&self, f: &mut fmt::Formatter<W>) -> fmt::Result {
         match self {
@@ -114,7 +114,7 @@ impl fmt::Display for ConfigError {
     }
 }
 
-/// The line of a text, counted from 1, in which this byte stands.
+/// The line of a text, counted from 1, in which this byte is.
 fn line_at(text: &str, at: usize) -> usize {
     line_behind(text.as_bytes().get(..at).unwrap_or(&[]))
 }
@@ -145,7 +145,7 @@ fn is_list(key: Key) -> bool {
 }
 
 impl<'t> Source<'t> {
-    /// The source from behind the first line that begins with this key, if one does.
+    /// The source from after the first line that begins with this key, if one does.
     fn behind(self, key: &str) -> Option<Source<'t>> {
         let (mut passed, mut at) = (self.passed, 0usize);
         for line in self.rest.split_inclusive('\n') {
@@ -296,7 +296,7 @@ impl<'t> Source<'t> {
         Ok(())
     }
 
-    /// The source from behind the next line that names `overrides`. If none does, no key is looked for any more.
+    /// The source from after the next line that names `overrides`. If none does, no key is looked for any more.
     fn next_override(self) -> Source<'t> {
         match self.behind("overrides") {
             Some(next) => next,

@@ -10,7 +10,7 @@ use thiserror::Error;
 use tocmark_files::replace::ReplaceError;
 use tocmark_files::trust::Distrust;
 
-/// What is wrong with one file. The message stands behind its name.
+/// What is wrong with one file. The message is after its name.
 #[derive(Debug, Drop, Error)]
 pub enum Fault {
     #[error("cannot be read: {0}")]

@@ -222,7 +222,7 @@ fn outcome_said(
     }
 }
 
-/// Formats a text and reports what became of it, and whether no other one is formatted behind it.
+/// Formats a text and reports what became of it, and whether no other one is formatted after it.
 fn do_one(
     rt: &HostRuntime,
     work: Work,

@@ -309,7 +309,7 @@ impl<E: Write + Drop> Report<E> {
         })
     }
 
-    /// Reports a file that was changed; or that would be, from a line on, which only a program that reads this is told.
+    /// Reports a file that was changed; or that would be, from a line on, which only the formats for programs report.
     pub fn changed(&mut self, path: &str, line: usize) -> Result<(), AllocError> {
         if !self.is_dry {
             self.note(path, "formatted");

@@ -29,7 +29,7 @@ pub struct Target {
     pub settings: Settings,
 }
 
-/// A file below a folder that looks as if an interrupted call left it behind.
+/// A file below a folder that looks as if an interrupted call left it after.
 #[derive(Drop)]
 pub struct Left {
     /// The path as it is shown.
@@ -53,7 +53,7 @@ pub struct Found {
     pub excluded: Vec<String>,
     /// Folders that are named and have no files to format.
     pub empty: Vec<String>,
-    /// Files below folders that look as if an interrupted call left them behind.
+    /// Files below folders that look as if an interrupted call left them after.
     pub left_behind: Vec<Left>,
     /// Files of MkDocs above those that are formatted.
     pub site_files: Vec<String>,

@@ -7,7 +7,7 @@ use crate::fault::Fault;
 use std::alloc::Global;
 use std::io::Read;
 
-/// The line, counted from 1, in which the byte behind these stands.
+/// The line, counted from 1, in which the byte after these is.
 pub(crate) fn line_behind(bytes: &[u8]) -> usize {
     let mut line = 1usize;
     for byte in bytes {

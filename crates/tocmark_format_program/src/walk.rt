@@ -262,7 +262,7 @@ impl Search {
         }
     }
 
-    /// Adds a file of a folder that looks as if an interrupted call left it behind.
+    /// Adds a file of a folder that looks as if an interrupted call left it after.
     fn add_left(&mut self, rt: &HostRuntime, scope: Scope<'_>, item: Item) -> Result<(), Refused> {
         let Item { path, identity, .. } = item;
         let place = Place::new(

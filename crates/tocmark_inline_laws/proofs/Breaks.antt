@@ -47,7 +47,7 @@ space_here = refl
 space_plain : (c : ℕ) → (c == 32) ≡ true → is_mark c ≡ false
 space_plain c h = ap is_mark (eq_of c 32 h) ∙ space_here
 
--- the roles of spaces and the line feed behind them
+-- the roles of spaces and the line feed after them
 abbrev break_roles : ℕ → List ℕ → List Role
 break_roles end [] = role.Single leaf.SoftBreak end ∷ []
 break_roles end (c ∷ []) = role.Hidden ∷ role.Single leaf.SoftBreak end ∷ []
@@ -111,7 +111,7 @@ break_set fs s p n (c ∷ d ∷ more) l h m e =
     yes : nat_le 2 (q - p) ≡ true
     yes = let k : p + suc (suc (length more)) - p ≡ suc (suc (length more)) = omega arith in ap (λ w. nat_le 2 w) k ∙ (let z : nat_le 2 (suc (suc (length more))) ≡ true = grind (arith, nat_tests) in z)
 
--- 6.7 and 6.8: a line feed behind spaces
+-- 6.7 and 6.8: a line feed after spaces
 pub break_goes : (bytes : List ℕ) (ahead : Known) (defs : List ℕ → Option Entry) (p : ℕ) (s : State) (done : List Atom) (xs rest : List ℕ) → Sim bytes p s done → p ≤ length bytes → length bytes + 1 < 2 ^ 64 → drop p bytes ≡ xs ++ 10 ∷ rest → AllByRecursion (λ c. (c == 32) ≡ true) xs → before_space bytes p ≡ None → Goes bytes ahead defs p s done (token (line_break (length xs)) (p + length xs + 1))
 break_goes bytes ahead defs p s done xs rest a in_it fits e h clear = record {
   after = with_place (q + 1) t;

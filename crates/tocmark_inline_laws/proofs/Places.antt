@@ -28,7 +28,7 @@ set_next xs ys x y z n e = ap (λ k. slice_set (xs ++ x ∷ y ∷ ys) k z) e ∙
     here [] ys x y z = refl
     here (w ∷ xs) ys x y z = ap (λ l. w ∷ l) (here xs ys x y z)
 
--- the plain bytes of a token, and those behind it
+-- the plain bytes of a token, and those after it
 pub plain_split : (n p k : ℕ) → p + suc k ≤ n → replicate (n - p) role.Plain ≡ role.Plain ∷ (replicate k role.Plain ++ replicate (n - (p + suc k)) role.Plain)
 plain_split n p k h =
     ap (λ m. replicate m role.Plain) (let e : n - p ≡ suc (k + (n - (p + suc k))) = omega arith in e)
@@ -43,7 +43,7 @@ before_at bytes m q e =
     ap (λ (z : Bool). if z && (byte_at bytes (m - 1) == 32) then Some (m - 1) else None) some
     ∙ ap (λ (r : ℕ). if byte_at bytes r == 32 then Some r else None) one
 
--- a place behind a byte that is no space
+-- a place after a byte that is no space
 pub clean_after : (bytes : List ℕ) (p e : ℕ) → e ≡ suc p → (byte_at bytes p == 32) ≡ false → Clean bytes e
 clean_after bytes p e at h c is gap = before_at bytes e p at ∙ ap (λ (z : Bool). if z then Some p else None) h
 

@@ -101,7 +101,7 @@ pub record Sim (bytes : List ℕ) (p : ℕ) (s : State) (done : List Atom) : Typ
 abbrev pub Grown : List ℕ → State → Type 0
 Grown texts s = (further : List ℕ) × (s.texts ≡ texts ++ further)
 
--- a state from which the pass goes on behind a token
+-- a state from which the pass goes on after a token
 pub record Goes (bytes : List ℕ) (ahead : Known) (defs : List ℕ → Option Entry) (p : ℕ) (s : State) (done : List Atom) (t : Token) : Type 0 where
   pub after : State
   pub same : fold (step bytes ahead defs) s (drop p bytes) ≡ fold (step bytes ahead defs) after (drop t.end bytes)
@@ -126,7 +126,7 @@ pub record TookAtom (bytes : List ℕ) (p end : ℕ) (s t : State) (front seg : 
 abbrev pub Took : List ℕ → ℕ → ℕ → State → State → List Role → List Role → Inline → Type 0
 Took bytes p end s t front seg i = TookAtom bytes p end s t front seg (Whole i)
 
--- the state behind a token
+-- the state after a token
 pub took_atom : (bytes : List ℕ) (p end : ℕ) (s t : State) (done : List Atom) (seg : List Role) (x : Atom) (a : Sim bytes p s done) → TookAtom bytes p end s t a.front seg x → weight (runs_of (x ∷ done)) ≤ end → Clean bytes end → Opens bytes t.inactive end (x ∷ done) t.brackets → t.inactive ≤ length t.brackets → Sim bytes end (with_place end t) (x ∷ done)
 took_atom bytes p end s t done seg x a k light clean opens few = record {
   front = a.front ++ seg;

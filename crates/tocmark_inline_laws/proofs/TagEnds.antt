@@ -1,4 +1,4 @@
--- Where autolinks and raw HTML end: behind a closing angle bracket.
+-- Where autolinks and raw HTML end: after a closing angle bracket.
 use Rattle.std.proofs.Common.{◌≡◌, ℕ, zero, suc, ◌+◌, ◌^◌, ◌<◌, ◌≤◌, Bool, true, false, not, ◌==◌, ◌&&◌, nat_lt, if◌then◌else◌, List, [], ◌∷◌, ◌++◌, length, codes, refl, ap, sym, subst, ◌∙◌, arith, append_assoc, length-append, true≢false}
 use Rattle.std.proofs.lemmas.Bool.Decides.{nat_tests}
 use Rattle.std.specs.Char.{is_ascii_alphabetic}
@@ -18,7 +18,7 @@ use Rattle.tocmark_inline_laws.proofs.Places.{past_end}
 use Rattle.tocmark_inline_laws.proofs.Plains.{drop_past}
 use Rattle.tocmark_inline_laws.proofs.WordEnds.{First, first, word_within, found_is}
 
--- an end just behind a closing angle bracket
+-- an end just after a closing angle bracket
 pub record Angled (bytes : List ℕ) (p end : ℕ) : Type 0 where
   pub at : ℕ
   pub bracket : byte_at bytes at ≡ 62
@@ -90,7 +90,7 @@ word_closed bytes pre p h =
     let w : Here bytes p (pre ++ 62 ∷ []) = starts_here bytes p (pre ++ 62 ∷ []) h in
     byte_dropped bytes (p + length pre) 62 w.rest (drop_past bytes pre (62 ∷ w.rest) p (w.here ∙ append_assoc pre (62 ∷ []) w.rest))
 
--- behind the first such word from a place on
+-- after the first such word from a place on
 after_angled : (bytes pre : List ℕ) (p from end : ℕ) → length bytes + 2 < 2 ^ 64 → p < from → from ≤ length bytes → after_word bytes (pre ++ 62 ∷ []) from ≡ Some end → Angled bytes p end
 after_angled bytes pre p from end wide late l e = by (starts_at bytes place (pre ++ 62 ∷ [])) refl e
   where

@@ -12,7 +12,7 @@ use Rattle.tocmark_inline_laws.proofs.Breaks.{got_front}
 use Rattle.tocmark_inline_laws.proofs.Plains.{drop_past, past_within, byte_is, Front, front_of}
 use Rattle.tocmark_inline_laws.proofs.Stretches.{got}
 
--- the bytes between two places pass a test, and the one behind them doesn't
+-- the bytes between two places pass a test, and the one after them doesn't
 pub record Spans (bytes : List ℕ) (g : ℕ → Bool) (q e : ℕ) : Type 0 where
   pub from : q ≤ e
   pub within : e ≤ length bytes

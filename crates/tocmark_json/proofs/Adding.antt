@@ -54,7 +54,7 @@ both_sound x y first second =
       numbers = (first.numbers, (second.numbers, tt));
     }
 
--- two members, whose keys stand in their order
+-- two members, whose keys are in their order
 pub two_sound : (k l : List ℕ) (x y : Data) → ((v w : Data) → put l w (member k v no_members) ≡ member k v (member l w no_members)) → IsSound x → IsSound y → IsSound (object (member k x (member l y no_members)))
 two_sound k l x y ordered first second =
     record {
@@ -65,7 +65,7 @@ two_sound k l x y ordered first second =
       numbers = (first.numbers, (second.numbers, tt));
     }
 
--- four members, whose keys stand in their order
+-- four members, whose keys are in their order
 pub four_sound : (k l m n : List ℕ) (x y z u : Data) → ((o p q v : Data) → put n v (put m q (put l p (member k o no_members))) ≡ member k o (member l p (member m q (member n v no_members)))) → IsSound x → IsSound y → IsSound z → IsSound u
     → IsSound (object (member k x (member l y (member m z (member n u no_members)))))
 four_sound k l m n x y z u ordered first second third fourth =
@@ -77,7 +77,7 @@ four_sound k l m n x y z u ordered first second third fourth =
       numbers = (first.numbers, (second.numbers, (third.numbers, (fourth.numbers, tt))));
     }
 
--- six members, whose keys stand in their order
+-- six members, whose keys are in their order
 pub six_sound : (k l m n i j : List ℕ) (x y z u s t : Data) → ((o p q v x5 y6 : Data) → put j y6 (put i x5 (put n v (put m q (put l p (member k o no_members))))) ≡ member k o (member l p (member m q (member n v (member i x5 (member j y6 no_members)))))) → IsSound x → IsSound y → IsSound z → IsSound u → IsSound s → IsSound t
     → IsSound (object (member k x (member l y (member m z (member n u (member i s (member j t no_members)))))))
 six_sound k l m n i j x y z u s t ordered first second third fourth fifth sixth =
@@ -89,7 +89,7 @@ six_sound k l m n i j x y z u s t ordered first second third fourth fifth sixth 
       numbers = (first.numbers, (second.numbers, (third.numbers, (fourth.numbers, (fifth.numbers, (sixth.numbers, tt))))));
     }
 
--- ---- one behind the other
+-- ---- one after the other
 
 pub behind : (a b c p q : List ℕ) → Grows p a b → Grows q b c → Grows (p ++ q) a c
 behind a b c p q h more = more ∙ ap (λ l. l ++ q) h ∙ append_assoc a p q
@@ -185,7 +185,7 @@ module _ {E : Type 0} (r : Result (Unit {0}) E) (a w : List ℕ) where
 
 -- ---- the members of an object
 
--- a key with its value, and further members with what stands behind the object
+-- a key with its value, and further members with what is after the object
 pub member_grows : (l : List ℕ) (y : Data) (ms : Members) (z a b c : List ℕ) → Grows ((44 ∷ (quoted l ++ 58 ∷ [])) ++ compact_text y) a b → Grows (members_text true ms ++ z) b c → Grows (members_text true (member l y ms) ++ z) a c
 member_grows l y ms z a b c first rest =
     let same : ((44 ∷ (quoted l ++ 58 ∷ [])) ++ compact_text y) ++ (members_text true ms ++ z) ≡ members_text true (member l y ms) ++ z = simp append_assoc in
@@ -220,7 +220,7 @@ AreRead ds = of_items (items_outline (items_of ds)) ≡ Some (items_of ds)
 abbrev AreNumbers : List Data → Type 0
 AreNumbers ds = ItemsHaveNumbers (items_outline (items_of ds))
 
--- of the items ds some are in, and these are to come; `later` says whether a comma stands before the next one
+-- of the items ds some are in, and these are to come; `later` says whether a comma is before the next one
 pub record Goes (ds rest : List Data) (later : Bool) (start now : List ℕ) : Type 0 where
   pub text : now ++ items_text later (items_of rest) ≡ start ++ items_text false (items_of ds)
   pub whole : AreWhole rest → AreWhole ds

@@ -284,7 +284,7 @@ key_at n no_members = []
 key_at zero (member k d ms) = k
 key_at (suc n) (member k d ms) = key_at n ms
 
--- lines and columns stand between the two numbers of a range
+-- lines and columns are between the two numbers of a range
 abbrev start_of : Members → Data
 start_of ms = cond (bytes_eq (key_at 1 ms) (codes "start")) (member_at 1 ms) (member_at 3 ms)
 

@@ -6,7 +6,7 @@ use Rattle.std.proofs.lemmas.Result.{on_ok_weaker}
 use Rattle.tocmark_event.specs.declared.event.Alignment.{Alignment}
 use Rattle.tocmark_json.specs.Marshal.{alignment_bytes}
 
--- what is written, and the bytes of what is left, are what stood there and the bytes of all
+-- what is written, and the bytes of what is left, are what was there and the bytes of all
 abbrev pub Comes : List ℕ → List ℕ → List ℕ → List ℕ → Type 0
 Comes start whole a rest = a ++ rest ≡ start ++ whole
 
@@ -32,11 +32,11 @@ module _ (xs : List Alignment) (i : ℕ) (start a b : List ℕ) (d : Alignment) 
   pub alignment_comes : b ≡ a ++ alignment_bytes (get_or xs i d) → Comes start (flat_map alignment_bytes xs) b (flat_map alignment_bytes (drop (i + 1) xs))
   alignment_comes h = alignment_comes_as (get_or xs i d) refl h
 
--- bytes behind others
+-- bytes after others
 pub then_come : (old a b w k : List ℕ) → a ≡ old ++ w → b ≡ a ++ k → b ≡ old ++ (w ++ k)
 then_come old a b w k h more = more ∙ ap (λ l. l ++ k) h ∙ append_assoc old w k
 
--- a key and its value behind others
+-- a key and its value after others
 pub member_comes : (old a b c w k v : List ℕ) → a ≡ old ++ w → b ≡ a ++ k → c ≡ b ++ v → c ≡ old ++ (w ++ (k ++ v))
 member_comes old a b c w k v h key value =
     then_come old b c (w ++ k) v (then_come old a b w k h key) value ∙ ap (λ l. old ++ l) (append_assoc w k v)

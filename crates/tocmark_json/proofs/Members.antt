@@ -1,4 +1,4 @@
--- Members that are put one after another: what stands at a key, and which objects have just these keys.
+-- Members that are put one after another: what is at a key, and which objects have just these keys.
 use Rattle.std.proofs.Common.{◌≡◌, ◌∙◌, ◌+◌, ◌<◌, ℕ, zero, suc, List, [], ◌∷◌, ◌++◌, Bor, Option, None, Some, Ordering, Less, Equal, Greater, bytes_eq, false, nat_cmp, true≢false, is_eq, ap, arith, get_or, length, map, refl, subst, sym, take}
 use Rattle.std.specs.List.{slice_get}
 use Rattle.std.proofs.lemmas.Cmp.{nat_list_cmp_total, tied_itself}
@@ -68,7 +68,7 @@ pub sorted_put : (k : Key) (d : Data) (ms : Members) → AreSorted ms → AreSor
 sorted_put k d no_members h = (tt, tt)
 sorted_put k d (member l e ms) h = sorted_put_at _ k l d e ms refl h.0 h.1 (sorted_put k d ms h.1)
 
--- ---- what stands at a key
+-- ---- what is at a key
 
 none_below : (k : Key) (ms : Members) → IsBelow k ms → get_member k ms ≡ None
 none_below k no_members h = refl
@@ -77,7 +77,7 @@ none_below k (member l e ms) h = rw h.0 (none_below k ms h.1)
 first_at : (k : Key) (d : Data) (ms : Members) → get_member k (member k d ms) ≡ Some d
 first_at k d ms = rw (same_text k)
 
--- behind the first key
+-- after the first key
 behind : (o : Ordering) (q k : Key) (d : Data) (ms ns : Members) → slice_cmp nat_cmp q k ≡ o → IsBelow k ms → IsBelow k ns
     → match_ordering o (get_member q ms) (Some d) (get_member q ms) ≡ match_ordering o (get_member q ns) (Some d) (get_member q ns) → get_member q ms ≡ get_member q ns
 behind Less q k d ms ns is below other same = same
@@ -92,7 +92,7 @@ some_is d e h = cc
 pub first_differs : {P : Type 0} (d : Data) → None ≡ Some d → P
 first_differs d h = absurd cc
 
--- members in order are told apart by what stands at their keys
+-- members in order are told apart by what is at their keys
 exact_at : (o : Ordering) (k l : Key) (d e : Data) (ms ns : Members) → slice_cmp nat_cmp k l ≡ o → IsBelow k ms → IsBelow l ns
     → ((q : Key) → get_member q (member k d ms) ≡ get_member q (member l e ns)) → (((q : Key) → get_member q ms ≡ get_member q ns) → ms ≡ ns) → member k d ms ≡ member l e ns
 exact_at Less k l d e ms ns is below other same rest =
@@ -124,7 +124,7 @@ passes_at Greater q k d ms is other = refl
 pub passes : (q k : Key) (d : Data) (ms : Members) → (q ≡ k → ⊥) → get_member q (member k d ms) ≡ get_member q ms
 passes q k d ms other = passes_at _ q k d ms refl other
 
--- what stands at the keys of a form stands there
+-- what is at the keys of a form is there
 abbrev pub HasAll : Members → Members → Type 0
 HasAll no_members ms = Unit {0}
 HasAll (member k d form) ms = (get_member k ms ≡ Some d) × HasAll form ms
@@ -161,19 +161,19 @@ pub none_at : (q : Key) (form : Members) → AreOthers q form → get_member q f
 none_at q no_members h = refl
 none_at q (member k d form) h = passes q k d form h.0 ∙ none_at q form h.1
 
--- a form says what stands at its keys, and that nothing stands at others
+-- a form says what is at its keys, and that nothing is at others
 pub matched : (form ms : Members) → AreSorted form → AreSorted ms → HasAll form ms → ((q : Key) → AreOthers q form → get_member q ms ≡ None) → ms ≡ form
 matched form ms formed sorted all only = exact ms form sorted formed (λ q. agrees q form ms all (λ h. only q (others q form h)) _ refl)
 
 -- ---- objects that are none of a form
 
--- what stands at a name that a form doesn't have
+-- what is at a name that a form doesn't have
 pub has_another : (form ms : Members) (q : Key) (d : Data) → get_member q form ≡ None → get_member q ms ≡ Some d → object ms ≡ object form → ⊥
 has_another form ms q d lacks here same =
     let alike : ms ≡ form = cc in
     first_differs d (sym lacks ∙ ap (λ x. get_member q x) (sym alike) ∙ here)
 
--- and what doesn't stand at one that it has
+-- and what isn't at one that it has
 pub lacks_one : (form ms : Members) (q : Key) (d : Data) → get_member q form ≡ Some d → get_member q ms ≡ None → object ms ≡ object form → ⊥
 lacks_one form ms q d has lacks same =
     let alike : ms ≡ form = cc in
@@ -197,7 +197,7 @@ kept_at Less k l e found d is h = (d, get_member-put_other k l e found (apart k 
 kept_at Greater k l e found d is h = (d, get_member-put_other k l e found (apart k l Greater is tt) ∙ h)
 kept_at Equal k l e found d is h = (e, ap (λ x. get_member x (put l e found)) (equal_texts k l is) ∙ get_member-put l e found)
 
--- what stands at a name once stands there whatever is put behind it
+-- what is at a name once is there whatever is put after it
 pub kept : (k : Key) (es : List (Bor (List ℕ) × Data)) (found : Members) (d : Data) → get_member k found ≡ Some d → (e : Data) × (get_member k (put_all es found) ≡ Some e)
 kept k [] found d h = (d, h)
 kept k (m ∷ es) found d h = let next = kept_at _ k m.0.now m.1 found d refl h in kept k es (put m.0.now m.1 found) next.0 next.1
@@ -210,7 +210,7 @@ sorted_over (m ∷ es) found h = sorted_over es (put m.0.now m.1 found) (sorted_
 pub sorted_view : (es : List Entry) → AreSorted (members_view es)
 sorted_view es = sorted_over (map (λ e. (e.0, view e.1)) es) no_members tt
 
--- something stands at the first name
+-- something is at the first name
 pub first_found : (e : Entry) (es : List Entry) → (d : Data) × (get_member e.0.now (members_view (e ∷ es)) ≡ Some d)
 first_found e es = kept e.0.now (map (λ x. (x.0, view x.1)) es) (member e.0.now (view e.1) no_members) (view e.1) (first_at e.0.now (view e.1) no_members)
 
@@ -263,7 +263,7 @@ beyond : (k : Key) (d : Data) (form ms : Members) → IsBelow k form → HasAll 
 beyond k d no_members ms below all = tt
 beyond k d (member l e form) ms below all = (rw (reversed k l Less below.0) all.0, beyond k d form ms below.1 all.1)
 
--- a form in order has what stands in it
+-- a form in order has what is in it
 pub holds_all : (form : Members) → AreSorted form → HasAll form form
 holds_all no_members h = tt
 holds_all (member k d form) h = (first_at k d form, beyond k d form form h.0 (holds_all form h.1))

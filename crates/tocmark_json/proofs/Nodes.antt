@@ -21,6 +21,6 @@ put_all-more (n ∷ ms) m found = put_all-more ms m (put n.0.now n.1 found)
 abbrev seen : Entry → Bor (List ℕ) × Data
 seen e = (e.0, view e.1)
 
--- one more member behind others
+-- one more member after others
 pub members_view-more : (es : List Entry) (e : Entry) → members_view (es ++ e ∷ []) ≡ put e.0.now (view e.1) (members_view es)
 members_view-more es e = ap (λ ms. put_all ms no_members) (map-append seen es (e ∷ [])) ∙ put_all-more (map seen es) (seen e) no_members

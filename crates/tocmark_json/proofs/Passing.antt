@@ -1,4 +1,4 @@
--- Places of a text, one behind the other.
+-- Places of a text, one after the other.
 use Rattle.std.proofs.Common.{◌≡◌, ◌∙◌, ◌+◌, ◌-◌, ◌<◌, ◌≤◌, ℕ, zero, suc, List, [], ◌∷◌, ◌++◌, ap, arith, drop, length, min, refl, subst, sym}
 use Rattle.std.specs.List.{All}
 use Rattle.std.proofs.lemmas.List.{drop-drop}
@@ -47,7 +47,7 @@ pub next_place : (bs : List ℕ) (n : ℕ) (p q : Position) → p ≡ position_o
 next_place bs n p q here is =
     is ∙ ap (λ r. behind (drop n bs) r) here ∙ sym (further start bs n) ∙ ap (λ k. passed start bs k) (sym (one_more n))
 
--- two walks, one behind the other
+-- two walks, one after the other
 joined : (p : Position) (bs : List ℕ) (m n : ℕ) → passed (passed p bs m) (drop m bs) n ≡ passed p bs (m + n)
 joined p bs m zero = ap (λ k. passed p bs k) (none_more m)
 joined p bs m (suc n) =

@@ -1,4 +1,4 @@
--- The elements of a list, one behind the other.
+-- The elements of a list, one after the other.
 use Rattle.std.proofs.Common.{◌≡◌, ◌∙◌, ◌<◌, ℕ, Bool, Bor, true, false, is_some, List, [], ◌∷◌, ◌++◌, Option, None, Some, ap, arith, length, map, refl, subst, sym, Global, Vec}
 use Rattle.std.proofs.lemmas.List.{append_assoc, length-map, map-append}
 use Rattle.serde_json.specs.Data.{Data, Items, array, item, no_items}
@@ -75,7 +75,7 @@ tells true d ds ps (l ∷ ls, are, seen) = let first : located_json l ≡ d = cc
 tells false d ds ps ([], are, seen) = absurd cc
 tells false d ds ps (e ∷ es, are, seen) = let first : event_json e ≡ d = cc in subst (λ (x : Data). is_some (as_array x) ≡ false) first (no_array e)
 
--- and an element behind them changes nothing of that
+-- and an element after them changes nothing of that
 decided : (b : Bool) (ds : List Data) (ps : List Pair) (d : Data) → (ds ≡ [] → b ≡ is_some (as_array d)) → AreElements b ds ps → begins_with_array (array (items_of (ds ++ d ∷ []))) ≡ b
 decided b [] ps d first h = sym (first refl)
 decided b (x ∷ ds) ps d first h = tells b x ds ps h
@@ -90,7 +90,7 @@ none_before f (x ∷ xs) false ds none (e ∷ es, are, seen) = absurd cc
 
 -- ---- an element that is refused
 
--- an element of another form behind those that have it
+-- an element of another form after those that have it
 other : (b : Bool) (ds : List Data) (ps : List Pair) (d : Data) (n : ℕ) (key wanted : Bor (List ℕ)) → n ≡ length ps → AreElements b ds ps → RefusesElement b d (fault.Wanted key wanted) → IsNoListOf b (array (items_of (ds ++ d ∷ []))) (error.Event n key wanted)
 other true ds ps d n key wanted count (ls, are, seen) lacks =
     (ls, d, [], ap (λ xs. array (items_of (xs ++ d ∷ []))) (sym are), count ∙ ap length (sym seen) ∙ length-map ls is_in, lacks)
@@ -111,7 +111,7 @@ same_held ds es is =
     let same : items_of ds ≡ items_of es = cc in
     sym (held_again ds) ∙ ap held same ∙ held_again es
 
--- one more element behind such a one
+-- one more element after such a one
 still_stands : {A : Type 0} (json : A → Data) (ds : List Data) (d : Data) (e : JsonError) → StandsIn json (array (items_of ds)) e → StandsIn json (array (items_of (ds ++ d ∷ []))) e
 still_stands json ds d error.NotAnArray h = absurd cc
 still_stands json ds d (error.Event at key wanted) (before, there, after, is, count, lacks) =
@@ -138,7 +138,7 @@ still_none : (ds : List Data) (d : Data) (e : JsonError) → IsNoList (array (it
 still_none [] d e h = absurd (none_refused event_json e h)
 still_none (x ∷ ds) d e h = still (is_some (as_array x)) (x ∷ ds) d e h
 
--- behind a fault each element is passed over
+-- after a fault each element is passed over
 pub passed_over : (b : Bool) (o : Option JsonError) (ds : List Data) (d : Data) (ps : List Pair) → is_some o ≡ true → AreTaken b o ds ps → AreTaken b o (ds ++ d ∷ []) ps
 passed_over b None ds d ps some h = absurd cc
 passed_over b (Some e) ds d ps some h = still_none ds d e h

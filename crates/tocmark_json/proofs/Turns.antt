@@ -118,7 +118,7 @@ pub none_before : (r : Option (Items × List Token)) → r ≡ parse_map (λ a. 
 none_before None = refl
 none_before (Some p) = refl
 
--- one more node behind others
+-- one more node after others
 pub one_more_seen : (vs : List Node) (v : Node) → map view (vs ++ v ∷ []) ≡ map view vs ++ view v ∷ []
 one_more_seen [] v = refl
 one_more_seen (w ∷ vs) v = ap (λ ds. view w ∷ ds) (one_more_seen vs v)

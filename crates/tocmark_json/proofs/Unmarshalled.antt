@@ -17,7 +17,7 @@ text_is_utf8 = is_utf8-from_IsUtf8
 pub text_is_not_utf8 : (bytes : List ℕ) → (IsUtf8 bytes → ⊥) → is_utf8 bytes ≡ false
 text_is_not_utf8 bytes not = elim (is_utf8 bytes) as (λ b. is_utf8 bytes ≡ b → b ≡ false) [ true ↦ λ e. absurd (not (IsUtf8-from_is_utf8 bytes e)) | false ↦ λ e. refl ] refl
 
--- ---- values one behind the other
+-- ---- values one after the other
 
 abbrev pick : {A : Type 0} → A → Option A → A
 pick d None = d
@@ -26,7 +26,7 @@ pick d (Some a) = a
 pub same_pair : {A : Type 0} (x y : A × List ℕ) → Some x ≡ Some y → (x.0 ≡ y.0) × (x.1 ≡ y.1)
 same_pair x y e = let same : x ≡ y = ap (pick x) e in (ap (λ q. q.0) same, ap (λ q. q.1) same)
 
--- the first one and those behind it
+-- the first one and those after it
 record Split {A : Type 0} (p : Parse A) (n : ℕ) (o : Option (A × List ℕ)) (xs : List A) (r : List ℕ) : Type 0 where
   y : A
   rest : List ℕ

@@ -90,7 +90,7 @@ code_json (view.Fenced info) = tagged (codes "Fenced") (string info)
 abbrev pub attribute_json : List ℕ × Option (List ℕ) → Data
 attribute_json a = both (string a.0) (optional string a.1)
 
--- the members of an object stand in the order of their keys
+-- the members of an object are in the order of their keys
 abbrev pub heading_json : HeadingLevel → Option (List ℕ) → List (List ℕ) → List (List ℕ × Option (List ℕ)) → Data
 heading_json level id classes attrs =
     object (member (codes "attrs") (listed attribute_json attrs)

@@ -94,7 +94,7 @@ names =
     codes "Shortcut" ∷ codes "ShortcutUnknown" ∷ codes "Autolink" ∷ codes "Email" ∷ codes "WikiLink" ∷
     codes "has_pothole" ∷ []
 
--- where a name stands in a list
+-- where a name is in a list
 abbrev pub number_in : List (List ℕ) → List ℕ → ℕ
 number_in [] s = 0
 number_in (n ∷ ns) s = if bytes_eq n s then 0 else 1 + number_in ns s
@@ -167,7 +167,7 @@ code_bytes (view.Fenced info) = tagged (codes "Fenced") (text_bytes info)
 abbrev pub attribute_bytes : List ℕ × Option (List ℕ) → List ℕ
 attribute_bytes a = (91 ∷ four 2) ++ (text_bytes a.0 ++ optional text_bytes a.1)
 
--- a key and its value; the members of a dict stand in the order of their keys
+-- a key and its value; the members of a dict are in the order of their keys
 abbrev pub member : List ℕ → List ℕ → List ℕ
 member s content = name_bytes s ++ content
 
@@ -276,6 +276,6 @@ abbrev pub IsTooLong : List ℕ → MarshalError → Type 0
 IsTooLong bytes error.TooLong = fits bytes ≡ false
 IsTooLong bytes error.OutOfMemory = Unit {0}
 
--- these bytes stand behind those that stood there
+-- these bytes are after those that were there
 abbrev pub Appends : List ℕ → List ℕ → List ℕ → Type 0
 Appends bytes old new = new ≡ old ++ bytes

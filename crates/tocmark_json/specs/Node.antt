@@ -50,7 +50,7 @@ abbrev pub IsBelow : List ℕ → List (List ℕ) → Type 0
 IsBelow name [] = Unit {0}
 IsBelow name (other ∷ others) = (slice_cmp nat_cmp name other ≡ Less) × IsBelow name others
 
--- each text is below those behind it
+-- each text is below those after it
 abbrev pub AreAscending : List (List ℕ) → Type 0
 AreAscending [] = Unit {0}
 AreAscending (name ∷ names) = IsBelow name names × AreAscending names

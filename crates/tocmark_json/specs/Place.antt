@@ -35,7 +35,7 @@ abbrev pub read_error_of : TextError → ReadError
 read_error_of text_error.NotJson = read_error.NotJson
 read_error_of text_error.OutOfMemory = read_error.OutOfMemory
 
--- an element that is named stands in the value and hasn't the form, and those before it have
+-- an element that is named is in the value and hasn't the form, and those before it have
 abbrev pub StandsIn : {A : Type 0} → (A → Data) → Data → JsonError → Type 0
 StandsIn json value error.NotAnArray = as_array value ≡ None
 StandsIn {A} json value (error.Event at key wanted) =

@@ -21,14 +21,14 @@ abbrev pub begins_none : List ℕ → Bool
 begins_none [] = true
 begins_none (b ∷ bs) = leb 128 b && leb b 191
 
--- the place behind the first byte of what is left of a text
+-- the place after the first byte of what is left of a text
 unfoldable pub behind : List ℕ → Position → Position
 behind bs p =
     if ends_line bs then record { line = next p.line; column = 1 }
     else if begins_none bs then p
     else record { line = p.line; column = next p.column }
 
--- the place so many bytes behind another one
+-- the place so many bytes after another one
 abbrev pub passed : Position → List ℕ → ℕ → Position
 passed p bs zero = p
 passed p bs (suc n) = passed (behind bs p) (drop 1 bs) n

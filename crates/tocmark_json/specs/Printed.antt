@@ -9,11 +9,11 @@ use Rattle.tocmark_event.specs.View.{EventView}
 use Rattle.tocmark_json.specs.Json.{located_json, pair_json}
 use Rattle.tocmark_json.specs.declared.positions.Span.{Span}
 
--- these bytes stand behind what stood there
+-- these bytes are after what was there
 abbrev pub Grows : List ℕ → List ℕ → List ℕ → Type 0
 Grows bytes old new = new ≡ old ++ bytes
 
--- the text of a value reads as the value: so do its numbers, and its keys stand in their order
+-- the text of a value reads as the value: so do its numbers, and its keys are in their order
 pub record IsSound (d : Data) : Type 0 where
   pub whole : blank (outline d) ≡ outline d
   pub reads : of_json (outline d) ≡ Some d
@@ -36,10 +36,10 @@ Closes d = Brings (compact_text d ++ 125 ∷ []) d
 abbrev pub Follows : Data → List ℕ → List ℕ → Type 0
 Follows d = Brings (44 ∷ (compact_text d ++ 93 ∷ [])) d
 
--- the JSON texts of events with their ranges, each with a line feed behind it
+-- the JSON texts of events with their ranges, each with a line feed after it
 abbrev pub lines_text : List (EventView × Option (ℕ × ℕ)) → List ℕ
 lines_text = flat_map (λ p. compact_text (pair_json p) ++ 10 ∷ [])
 
--- the JSON texts of events with their ranges and the lines and columns of these, each with a line feed behind it
+-- the JSON texts of events with their ranges and the lines and columns of these, each with a line feed after it
 abbrev pub located_lines : List ((EventView × Option (ℕ × ℕ)) × Option Span) → List ℕ
 located_lines = flat_map (λ l. compact_text (located_json l) ++ 10 ∷ [])

@@ -14,7 +14,7 @@ use Rattle.tocmark_json.specs.declared.fault.JsonError.TheVariants as error
 use Rattle.tocmark_json.specs.declared.fault.ReadError.{ReadError}
 use Rattle.tocmark_json.specs.declared.fault.ReadError.TheVariants as read_error
 
--- what bytes begin with, and those behind it
+-- what bytes begin with, and those after it
 abbrev pub Parse : Type 0 → Type 0
 Parse A = List ℕ → Option (A × List ℕ)
 
@@ -51,7 +51,7 @@ natural bytes = and_then (size bytes) (λ n rest. if nat_lt n (2 ^ 31) then Some
 
 -- ---- values
 
--- what is behind the letter of a value that has no others inside: `N`, `T`, `F`, `i` and a number, or `u` and a text
+-- what is after the letter of a value that has no others inside: `N`, `T`, `F`, `i` and a number, or `u` and a text
 unfoldable pub plain : ℕ → Parse Data
 plain letter bytes =
     if letter == 78 then Some (null, bytes)
@@ -61,7 +61,7 @@ plain letter bytes =
     else if letter == 117 then parse_map string (text bytes)
     else None
 
--- so many, one behind the other
+-- so many, one after the other
 unfoldable pub values : {A : Type 0} → Parse A → ℕ → Parse (List A)
 values p zero bytes = Some ([], bytes)
 values p (suc n) bytes = and_then (p bytes) (λ x rest. parse_map (λ xs. x ∷ xs) (values p n rest))
@@ -86,7 +86,7 @@ unfoldable pub members : Parse Data → ℕ → Members → Parse Members
 members p zero found bytes = None
 members p (suc n) found bytes = and_then (key bytes) (member_by p (members p n) found)
 
--- what is behind the letter of a value: `[`, how many values, and these, or `{` and members
+-- what is after the letter of a value: `[`, how many values, and these, or `{` and members
 abbrev pub value_by : Parse (List Data) → Parse Members → ℕ → Parse Data
 value_by list dict letter bytes =
     if letter == 91 then parse_map (λ ds. array (items_of ds)) (list bytes)
@@ -151,7 +151,7 @@ abbrev pub GoesWrong : ℕ → List ℕ → Type 0
 GoesWrong zero bytes = bytes ≡ [] → ⊥
 GoesWrong (suc n) bytes = BeginsNone bytes
 
--- why bytes are not those of events: they begin with no list of three values for each event, or behind as many events
+-- why bytes are not those of events: they begin with no list of three values for each event, or after as many events
 -- as the error says they go wrong
 abbrev pub IsNoDump : List ℕ → JsonError → Type 0
 IsNoDump bytes error.NotAnArray = (n : ℕ) (first : List ℕ) → list_length bytes ≡ Some (3 * n, first) → ⊥

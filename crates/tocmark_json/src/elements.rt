@@ -71,7 +71,7 @@ fn are_pairs<U>(taken: &Taken<U>, node: &Node<'_>) -> bool
     }
 }
 
-/// Takes one more element. Behind a fault, it is passed over.
+/// Takes one more element. After a fault, it is passed over.
 fn take<U: OwnedWords + Drop>(
     alloc: Global,
     node: &Node<'_>,

@@ -16,7 +16,7 @@ pub enum Fault {
     Wanted {
         /// The nearest key.
         key: &'static str,
-        /// What should stand there.
+        /// What should be there.
         wanted: &'static str,
     },
     /// Memory ran out.
@@ -50,7 +50,7 @@ pub enum JsonError {
         index: usize,
         /// The nearest key.
         key: &'static str,
-        /// What should stand there.
+        /// What should be there.
         wanted: &'static str,
     },
 }

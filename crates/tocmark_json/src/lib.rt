@@ -7,7 +7,7 @@
 //! variants. `positions` finds the lines and columns of a text. `fault` says what is wrong with a text or a value, and
 //! where. `laws` says that different events have different JSON.
 //!
-//! The crate stands on `tocmark_event` and the kit's `fast_float`, `itoa`, `json` and `serde_json`.
+//! The crate is on `tocmark_event` and the kit's `fast_float`, `itoa`, `json` and `serde_json`.
 #![tactic(auto)]
 
 pub mod elements;

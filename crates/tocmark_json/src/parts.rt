@@ -1,4 +1,4 @@
-//! What stands in a value: the members of an object, the items of an array.
+//! What is in a value: the members of an object, the items of an array.
 
 ghost use Rattle.std.specs.Prelude.{◌≡◌, [], ◌∷◌, IfNone, IfSome, IsFalse, IsTrue, List, None, Some, ℕ};
 ghost use Rattle.serde_json.specs.Data.{Data, Members, member, no_members, null, number, object, string, unsigned};

@@ -11,7 +11,7 @@ use std::alloc::{AllocError, Global};
 pub struct Position {
     /// The line, counted from 1. A line feed ends a line, and so does a carriage return; both together are one ending.
     pub line: usize,
-    /// How many characters of Unicode stand before it on its line, plus 1.
+    /// How many characters of Unicode are before it on its line, plus 1.
     pub column: usize,
 }
 
@@ -59,7 +59,7 @@ fn begins_none(rest: &[u8]) -> bool
     }
 }
 
-/// The place behind the first byte of what is left of a text.
+/// The place after the first byte of what is left of a text.
 #[tactic(auto, unfolding(crate::specs::Positions::behind))]
 fn behind(rest: &[u8], position: Position) -> Position
     ensures { result ≡ behind rest.now position }
@@ -150,7 +150,7 @@ impl<'t> Positions<'t> {
         Ok(Positions { bytes, marks })
     }
 
-    /// The last mark that isn't behind a byte, or the first one.
+    /// The last mark that isn't after a byte, or the first one.
     fn mark_before(&self, offset: usize) -> Mark
         requires { IsIndex self.now }
         ensures mark { IsMark self.now.bytes.now result }

@@ -329,7 +329,7 @@ fn print_heading_end(out: &mut Vec<u8>, level: HeadingLevel) -> Result<(), Alloc
     push_string(out, b"{\"Heading\":\"", level_name(level), b"\"}}")
 }
 
-/// Prints the end of a tag, and the closing brace of the object that it stands in.
+/// Prints the end of a tag, and the closing brace of the object that it is in.
 fn print_end(out: &mut Vec<u8>, end: TagEnd) -> Result<(), AllocError>
     ensures { OnOk result (Closes (end_json end) out.old.items out.new.items) }
 {
@@ -368,7 +368,7 @@ fn print_footnote<T: Words>(out: &mut Vec<u8>, label: &T) -> Result<(), AllocErr
     push_text(out, b"{\"FootnoteDefinition\":\"", label, b"\"}}")
 }
 
-/// Prints a tag, and the closing brace of the object that it stands in. A tag that holds nothing prints as its end does.
+/// Prints a tag, and the closing brace of the object that it is in. A tag that holds nothing prints as its end does.
 fn print_tag<T: Words>(out: &mut Vec<u8>, tag: &TagOf<T>) -> Result<(), AllocError>
     ensures { OnOk result (Closes (tag_json (tag_view T.bytes tag.now)) out.old.items out.new.items) }
 {

@@ -65,7 +65,7 @@ fn plain_from(start: &Node<'_>, end: &Node<'_>) -> Result<Location, Fault>
     })
 }
 
-/// What stands in a range with lines and columns.
+/// What is in a range with lines and columns.
 #[derive(Clone, Copy)]
 struct Spanned<'n, 'a> {
     end: &'n Node<'a>,

@@ -25,7 +25,7 @@ const NO_RANGE: Fault = Fault::Wanted {
     wanted: "where a range begins and ends, or None twice",
 };
 
-/// What is wanted behind the last event.
+/// What is wanted after the last event.
 const NO_END: Fault = Fault::Wanted {
     key: "marshal",
     wanted: "the end of the bytes",
@@ -114,7 +114,7 @@ impl<'a> Dumped<'a> {
         }
     }
 
-    /// What is behind the letter of a value that has no others inside.
+    /// What is after the letter of a value that has no others inside.
     #[tactic(auto, unfolding(crate::specs::Unmarshal::plain))]
     fn plain(&mut self, letter: u8) -> Option<Node<'a>>
         ensures read { IfSome result (λ node. plain letter self.old.rest.now

@@ -1,4 +1,4 @@
--- What link definitions say, wherever they stand in a text.
+-- What link definitions say, wherever they are in a text.
 use Rattle.std.specs.Prelude.{ℕ, List}
 use Rattle.tocmark_reader.specs.Definitions.{SaidDefinition, said_view}
 use Rattle.tocmark_reader.specs.declared.definitions.ReferenceDefinition.{ReferenceDefinition}

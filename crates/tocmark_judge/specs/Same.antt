@@ -11,7 +11,7 @@ use Rattle.tocmark_compare.specs.Given.{found_events}
 abbrev pub is_white : ℕ → Bool
 is_white c = c == 32 || c == 9 || c == 10
 
--- a character, or a blank for white space; nothing for white space behind white space
+-- a character, or a blank for white space; nothing for white space after white space
 abbrev pub folded_character : Bool → ℕ → List ℕ
 folded_character behind c = if is_white c then (if behind then [] else 32 ∷ []) else c ∷ []
 
@@ -20,7 +20,7 @@ abbrev pub folded_characters : Bool → List ℕ → List ℕ
 folded_characters behind [] = []
 folded_characters behind (c ∷ cs) = folded_character behind c ++ folded_characters (is_white c) cs
 
--- whether white space stands behind characters
+-- whether white space is after characters
 abbrev pub ends_white : Bool → List ℕ → Bool
 ends_white behind [] = behind
 ends_white behind (c ∷ cs) = ends_white (is_white c) cs
@@ -42,7 +42,7 @@ keeps_lines HtmlBlock = true
 keeps_lines (MetadataBlock k) = true
 keeps_lines t = false
 
--- where an event stands: in a block that keeps its lines, and behind white space of a text
+-- where an event is: in a block that keeps its lines, and after white space of a text
 pub record SpotView : Type 0 where
   pub raw : Bool
   pub behind : Bool
@@ -50,12 +50,12 @@ pub record SpotView : Type 0 where
 abbrev pub at_front : SpotView
 at_front = record { raw = false; behind = false }
 
--- whether white space stands behind a text; behind one that keeps its lines that doesn't matter
+-- whether white space is after a text; after one that keeps its lines that doesn't matter
 abbrev pub is_behind_white : Bool → Bool → List ℕ → Bool
 is_behind_white true behind t = false
 is_behind_white false behind t = ends_white behind (chars t)
 
--- where the event after this one stands
+-- where the event after this one is
 abbrev pub after : SpotView → EventView → SpotView
 after s (Start t) = record { raw = keeps_lines t; behind = false }
 after s (End k) = record { raw = false; behind = false }

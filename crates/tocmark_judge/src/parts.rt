@@ -21,7 +21,7 @@ use tocmark_reader::{
 
 /// What takes the events of a text, part by part.
 pub trait PartTaker {
-    /// Whether these events were taken so far, one part behind the other.
+    /// Whether these events were taken so far, one part after the other.
     ghost has_taken: { Self → List EventView → Type 0 };
 
     /// Takes the next part. It may begin and end within containers.
@@ -32,7 +32,7 @@ pub trait PartTaker {
 
 /// A reader that can hand out a text's events part by part, and name its link definitions.
 ///
-/// The parts, one behind the other, are what it finds in the text at once. A reader that can only read all at once hands out
+/// The parts, one after the other, are what it finds in the text at once. A reader that can only read all at once hands out
 /// one part; that needs no code. A reader that can't name definitions returns none, and formatting may then lose unused ones.
 ///
 /// ```

@@ -15,7 +15,7 @@ use tocmark_event::event::{Event, Tag, TagEnd};
 use tocmark_event::reader::Reading;
 use tocmark_spelling::kinds::is_inline_end;
 
-/// How many marks the Ends of blocks and inlines have, and as many Starts behind them.
+/// How many marks the Ends of blocks and inlines have, and as many Starts after them.
 const ENDS: u8 = 35;
 /// The mark of a rule.
 const RULE: u8 = 72;
@@ -25,13 +25,13 @@ const RULE: u8 = 72;
 pub struct Outline {
     /// A mark for each Start and End of a block, and for each rule.
     marks: Vec<u8>,
-    /// For each mark where the last block begins that doesn't begin behind it.
+    /// For each mark where the last block begins that doesn't begin after it.
     places: Vec<usize>,
     /// Where the last block begins.
     last: usize,
 }
 
-/// Whether a tag stands within a line.
+/// Whether a tag is within a line.
 fn is_inline_tag(tag: &Tag<'_>) -> bool
     ensures { result ≡ is_inline_tag (tag_view text_of tag.now) }
 {
@@ -82,7 +82,7 @@ impl Outline {
         }
     }
 
-    /// Adds the mark of an event that stands here.
+    /// Adds the mark of an event that is here.
     fn put(&mut self, mark: u8, place: usize) -> Result<(), AllocError>
         ensures { OnOk result (self.new.marks.items ≡ self.old.marks.items ++ mark ∷ []) }
     {

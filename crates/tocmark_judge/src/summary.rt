@@ -19,7 +19,7 @@ use tocmark_event::event::{CowStr, Event, Tag};
 use tocmark_event::reader::Reading;
 use tocmark_reader::ReferenceDefinition;
 
-/// Where the next event stands.
+/// Where the next event is.
 #[derive(Clone, Copy)]
 struct Spot {
     /// In a block whose text keeps its lines.
@@ -48,7 +48,7 @@ fn is_white(character: char) -> bool
     character == ' ' || character == '\t' || character == '\n'
 }
 
-/// Adds a character, or a blank for white space; nothing for white space behind white space.
+/// Adds a character, or a blank for white space; nothing for white space after white space.
 fn push_character(
     folded: &mut String,
     character: char,
@@ -156,7 +156,7 @@ pub fn fold_label(alloc: Global, tag: &mut Tag<'static>) -> Result<(), AllocErro
 }
 
 impl Folder {
-    /// Adds an event that counts as it is, before others that stand in such a block.
+    /// Adds an event that counts as it is, before others that are in such a block.
     fn add_plain(
         &mut self,
         alloc: Global,
@@ -244,7 +244,7 @@ impl Folder {
         }
     }
 
-    /// Adds a soft break: a blank, unless it stands behind white space.
+    /// Adds a soft break: a blank, unless it is after white space.
     fn add_break(&mut self, alloc: Global) -> Result<(), AllocError>
         ensures { OnOk result ((before : List EventView) → Folds self.old before
             → Folds self.new (before ++ Leaf SoftBreak ∷ [])) }

@@ -7,12 +7,12 @@ use Rattle.tocmark_event.specs.Reading.{ReadingView}
 use Rattle.tocmark_event.specs.declared.event.flags.ParserOptions.{ParserOptions}
 use Rattle.tocmark_spelling.specs.Body.{Trees}
 use Rattle.tocmark_spelling.specs.PlanOf.{setting_of}
-use Rattle.tocmark_render.specs.Candidates.{has_source, is_delimiter_block}
-use Rattle.tocmark_render.specs.Choice.{preferred, has_standard_markers}
+use Rattle.tocmark_choose.specs.Candidates.{has_source, is_delimiter_block}
+use Rattle.tocmark_choose.specs.Choice.{preferred, has_standard_markers}
 use Rattle.tocmark_write_labels.specs.Document.{first_document}
 use Rattle.tocmark_write_pending.specs.Placeholder.{needs_placeholder}
-use Rattle.tocmark_render.proofs.Chosen.{chosen-unlabelled}
-use Rattle.tocmark_render.proofs.PlainUnits.{choice-unasked}
+use Rattle.tocmark_choose.proofs.Chosen.{chosen-unlabelled}
+use Rattle.tocmark_choose.proofs.PlainUnits.{choice-unasked}
 use Rattle.tocmark_state.specs.WorkView.{keeping, rendering}
 
 -- it takes its preferred spelling

@@ -12,9 +12,9 @@ use Rattle.tocmark_spelling.specs.Plan.{Setting}
 use Rattle.tocmark_spelling.specs.PlanOf.{setting_of}
 use Rattle.tocmark_spelling.specs.Spelling.{spelling}
 use Rattle.tocmark_spelling.specs.declared.trail.Last.TheVariants.{Other}
-use Rattle.tocmark_render.specs.Candidates.{preferred_manner, has_source, is_delimiter_block}
-use Rattle.tocmark_render.specs.Choice as choice
-use Rattle.tocmark_render.specs.Choice.{preferred, spelled, accepted_if, document_after}
+use Rattle.tocmark_choose.specs.Candidates.{preferred_manner, has_source, is_delimiter_block}
+use Rattle.tocmark_choose.specs.Choice as choice
+use Rattle.tocmark_choose.specs.Choice.{preferred, spelled, accepted_if, document_after}
 use Rattle.tocmark_write_labels.specs.Definitions.{definitions_text}
 use Rattle.tocmark_write_labels.specs.Document.{DocumentView, first_document}
 use Rattle.tocmark_write_labels.specs.Ending.{last_texts, holds_raw_block, unless_empty}
@@ -37,7 +37,7 @@ pub all_ranged : (source : List ℕ) (n : ℕ) (es : List EventView) → ranged 
 all_ranged source n [] = refl
 all_ranged source n (e ∷ es) = ap (λ (r : Ranged). record { events = bare e ∷ r.events; range_end = r.range_end; is_cut = r.is_cut }) (all_ranged source n es)
 
--- a tree is pending behind its events
+-- a tree is pending after its events
 tree_walked : (how : Rendering) (source : List ℕ) (kept : Kept) (t : TagView) (kids : body.Trees) (es : List EventView) → map bare es ≡ flat (node t kids empty) → walk how source (beginning kept) (map unranged es) ≡ stay (record (beginning kept) { pending = flat (node t kids empty) })
 tree_walked how source kept t kids es h =
     let all : ranged source 0 (map unranged es) ≡ record { events = map bare es; range_end = 0; is_cut = false } = all_ranged source 0 es in
@@ -51,7 +51,7 @@ one_text (b ∷ bs) h = refl
 abbrev site : Path → Page → Site
 site path page = record { path = path; page = page }
 
--- nothing stands before, behind or after the tree of a document
+-- nothing is before, after or after the tree of a document
 abbrev pub nowhere : Around
 nowhere = record { before = []; after = []; next = None }
 

@@ -120,7 +120,7 @@ all_reversed : (P : ℕ → Type 0) (xs : List ℕ) → AllByRecursion P xs → 
 all_reversed P [] h = tt
 all_reversed P (x ∷ xs) h = subst (AllByRecursion P) (sym (reverse-append (x ∷ []) xs)) (all_then P (reverse xs) (x ∷ []) (all_reversed P xs (h.1)) (h.0, tt))
 
--- ---- braces behind words
+-- ---- braces after words
 
 no_blanks : (xs : List ℕ) → trailing_blanks (xs ++ 125 ∷ []) ≡ 0
 no_blanks xs = rw (reverse-append xs (125 ∷ [])) refl
@@ -138,7 +138,7 @@ words_behind xs ys h =
     ∙ passing (λ y. not (is_no_word y)) (reverse ys) (reverse xs) 123 (all_reversed (λ y. not (is_no_word y) ≡ true) ys h) refl
     ∙ length-reverse ys
 
--- a letter or a digit may stand between braces
+-- a letter or a digit may be between braces
 word_name : (c : ℕ) → IsName c → not (is_no_word c) ≡ true
 unfolding is_no_word
 word_name c h =
@@ -249,7 +249,7 @@ word_kept word (x ∷ xs) h =
     let form : (x == 12) ≡ false = turned is_ascii_alphanumeric 12 x (h.0) refl in
     rw (space, tab, form) (word_kept (word ++ x ∷ []) xs (h.1) ∙ ap (λ (l : List ℕ). (let s : attributes.State = record no_attributes { word = l } in s)) (append_assoc word (x ∷ []) xs))
 
--- a name behind `#` is an id
+-- a name after `#` is an id
 name_read : (i : ℕ) (js : List ℕ) → AllByRecursion IsName (i ∷ js) → attributes_of (35 ∷ i ∷ js) ≡ record no_attributes { id = Some (i ∷ js) }
 unfolding attributes_of word_ended with_word byte_taken parts_words
 name_read i js h =
@@ -290,7 +290,7 @@ module _ (b : ℕ) (bs : List ℕ) (i : ℕ) (js : List ℕ) where
   abbrev k : ℕ
   k = length name
 
-  -- what stands behind the words
+  -- what is after the words
   abbrev tail : List ℕ
   tail = 32 ∷ 123 ∷ 35 ∷ (name ++ 125 ∷ [])
 
@@ -306,7 +306,7 @@ module _ (b : ℕ) (bs : List ℕ) (i : ℕ) (js : List ℕ) where
   abbrev heading : HeadingLine
   heading = heading_from cells 2 H1
 
-  -- where the braces stand in the text
+  -- where the braces are in the text
   abbrev braces : Braces
   braces = record { from = n + 3; to = n + k + 5 }
 

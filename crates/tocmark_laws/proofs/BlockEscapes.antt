@@ -81,7 +81,7 @@ all_encoded (c ∷ cs) h = by_test (c == 10) refl h.feedless
     by_test true e h = absurd (cc)
     by_test false e h = filled-append (encode_utf8 c) (encode_utf8_all cs) (encoded_filled c e) (encoded_feedless cs h)
 
--- a character, as a reference, behind a backslash or as it is
+-- a character, as a reference, after a backslash or as it is
 one_filled : (c : ℕ) (feed return ampersand blank tab back : Bool) → (c == 10) ≡ feed → IsFilled (unwrap_or (if feed then Some (codes "&#10;") else (if return then Some (codes "&#13;") else (if ampersand then Some (codes "&amp;") else (if blank then Some (codes "&#32;") else (if tab then Some (codes "&#9;") else None))))) (if back then 92 ∷ c ∷ [] else c ∷ []))
 one_filled c true r a b t k e = record { some = omega arith; feedless = refl }
 one_filled c false true a b t k e = record { some = omega arith; feedless = refl }

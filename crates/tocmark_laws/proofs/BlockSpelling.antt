@@ -19,14 +19,14 @@ use Rattle.tocmark_spelling.specs.Spelling.{spelling, then_site, body_or_id, ski
 use Rattle.tocmark_spelling.specs.Stretch.{leaf_on, place, held_with, stretch_on}
 use Rattle.tocmark_spelling.specs.Runs.{ahead_of, past, beyond}
 use Rattle.tocmark_write_renderer.proofs.Laid.{laid-part}
-use Rattle.tocmark_render.specs.Candidates.{preferred_manner, has_source, is_delimiter_block, is_delimiter_tag, is_math, some_tag}
-use Rattle.tocmark_render.specs.Choice as choice
-use Rattle.tocmark_render.specs.Choice.{page_in, spelled, accepted_if, document_after, has_standard_markers}
+use Rattle.tocmark_choose.specs.Candidates.{preferred_manner, has_source, is_delimiter_block, is_delimiter_tag, is_math, some_tag}
+use Rattle.tocmark_choose.specs.Choice as choice
+use Rattle.tocmark_choose.specs.Choice.{page_in, spelled, accepted_if, document_after, has_standard_markers}
 use Rattle.tocmark_write_labels.specs.Document.{DocumentView}
 use Rattle.tocmark_write_pending.specs.Placeholder.{whole, needs_placeholder, needs_placeholder_at, is_ambiguous_list}
-use Rattle.tocmark_render.specs.Chosen.{chosen}
-use Rattle.tocmark_render.proofs.Chosen.{chosen-unlabelled}
-use Rattle.tocmark_render.proofs.PlainUnits.{choice-unasked}
+use Rattle.tocmark_choose.specs.Chosen.{chosen}
+use Rattle.tocmark_choose.proofs.Chosen.{chosen-unlabelled}
+use Rattle.tocmark_choose.proofs.PlainUnits.{choice-unasked}
 use Rattle.tocmark_laws.specs.TextBlocks.{Kind, ParagraphKind, HeadingKind, Block, HasText, tag_of, mark_of, block_text, place_in, feeds_behind}
 use Rattle.tocmark_laws.proofs.BlockEscapes.{IsFilled, no_feed, escaped_filled}
 use Rattle.tocmark_laws.proofs.Paragraphs.{either-way, laid-plain, neither_in}
@@ -49,7 +49,7 @@ pub data LastEnd : Type 0 where
   TextEnd : Kind → LastEnd
   CodeEnd : LastEnd
 
--- what was written last behind a block, and at the beginning
+-- what was written last after a block, and at the beginning
 abbrev pub last_of : LastEnd → Last
 last_of NoEnd = Other
 last_of CodeEnd = BlockEnd end.CodeBlock
@@ -62,7 +62,7 @@ calm owed last = record { owed = owed; last = last; last_list = None; quote_line
 abbrev pub page_of : Sheet → ℕ → Last → Option Held → Page
 page_of sheet owed last held = record { sheet = sheet; trail = calm owed last; references = []; held = held }
 
--- a sheet at whose end no line feed stands
+-- a sheet at whose end no line feed is
 abbrev sheet_of : List ℕ → Sheet
 sheet_of text = record { text = text; feeds = 0 }
 
@@ -101,7 +101,7 @@ gap_before (HeadingKind level) CodeEnd owed = refl
 gap_before (HeadingKind level) (TextEnd ParagraphKind) owed = refl
 gap_before (HeadingKind level) (TextEnd (HeadingKind other)) owed = refl
 
--- no gap stands before a text that begins a block
+-- no gap is before a text that begins a block
 gap_inside : (kind : Kind) (start : ℕ) (text : List ℕ) (sheet : Sheet) → gap (Leaf (Text text)) (in_block kind start) (page_of sheet 0 Other None) ≡ page_of sheet 0 Other None
 gap_inside ParagraphKind start text sheet = ap (λ n. page_of (laid [] (replicate n 10) sheet) 0 Other None) (none_left sheet.feeds)
 gap_inside (HeadingKind level) start text sheet = ap (λ n. page_of (laid [] (replicate n 10) sheet) 0 Other None) (none_left sheet.feeds)
@@ -118,7 +118,7 @@ module _ (s : Setting) where
   abbrev m : Manner
   m = preferred_manner s.options
 
-  -- a text that begins a block stands at its front
+  -- a text that begins a block is at its front
   place_is : (kind : Kind) (after_close : Bool) (sheet : Sheet) → place s m after_close (Some (End (end_of (tag_of kind)))) (in_block kind (length sheet.text)) (page_of sheet 0 Other None) ≡ place_in s.options s.flags kind
   place_is ParagraphKind after_close sheet = ap (λ b. record (place_in s.options s.flags ParagraphKind) { at_front = b }) (or_true (nat_lt 0 sheet.feeds) (length sheet.text == 0) (length sheet.text == length sheet.text) (itself (length sheet.text)))
   place_is (HeadingKind level) after_close sheet = ap (λ b. record (place_in s.options s.flags (HeadingKind level)) { at_front = b }) (or_true (nat_lt 0 sheet.feeds) (length sheet.text == 0) (length sheet.text == length sheet.text) (itself (length sheet.text)))
@@ -127,7 +127,7 @@ module _ (s : Setting) where
   abbrev written_site : Kind → ℕ → Sheet → List ℕ → Site
   written_site kind start sheet text = site (in_block kind start) (page_of (laid [] (escaped (place_in s.options s.flags kind) text) sheet) 0 Inline None)
 
-  -- the same with the place where the text stands
+  -- the same with the place where the text is
   abbrev placed_site : Kind → ℕ → Surroundings → Page → List ℕ → Site
   placed_site kind start p here text = site (in_block kind start) (record here { sheet = laid [] (escaped p text) here.sheet; trail = record here.trail { last = Inline } })
 
@@ -219,7 +219,7 @@ module _ (s : Setting) where
   ended kind start ts next sheet =
       ap (λ o. then_site o (λ here. spelling s m empty (beyond (tag_of kind) (text_trees ts) (around [] [] next)) here.path here.page)) (closed kind start sheet)
 
-  -- the sheet of a block behind so many line feeds, before its text
+  -- the sheet of a block after so many line feeds, before its text
   abbrev marked : ℕ → Kind → Sheet
   marked owed kind = laid [] (mark_of kind) (laid [] (replicate owed 10) blank)
 
@@ -244,7 +244,7 @@ module _ (s : Setting) where
   marked_text owed kind =
       laid-plain (mark_of kind) (laid [] (replicate owed 10) blank) ∙ ap (λ x. x ++ mark_of kind) (laid-plain (replicate owed 10) blank)
 
-  -- what stands on that page
+  -- what is on that page
   sheet_is : (owed : ℕ) (kind : Kind) (text : List ℕ) → chars text ≢ [] → laid [] (escape_of kind text) (marked owed kind) ≡ sheet_of (replicate owed 10 ++ (mark_of kind ++ escape_of kind text))
   sheet_is owed kind text h =
       let e = escape_of kind text in
@@ -255,7 +255,7 @@ module _ (s : Setting) where
       ∙ ap (λ x. sheet_of (x ++ e)) (marked_text owed kind)
       ∙ ap sheet_of (append_assoc (replicate owed 10) (mark_of kind) e)
 
--- a document behind a block, or at its beginning, which owes so many line feeds
+-- a document after a block, or at its beginning, which owes so many line feeds
 pub record IsCalm (d : DocumentView) (owed : ℕ) (before : LastEnd) : Type 0 where
   pub trail : d.trail ≡ calm owed (last_of before)
   pub feeds : d.feeds ≡ 0

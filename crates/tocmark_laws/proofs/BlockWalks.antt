@@ -29,7 +29,7 @@ use Rattle.tocmark_laws.proofs.BlockSpelling.{LastEnd, NoEnd, TextEnd, text_leaf
 abbrev inside : Kind → Kept → List SourcedEvent → Standing
 inside kind kept p = record (beginning kept) { pending = p; open_tags = end_of (tag_of kind) ∷ [] }
 
--- a standing behind a block
+-- a standing after a block
 abbrev behind : Kept → List SourcedEvent → Standing
 behind kept p = record (beginning kept) { pending = p }
 
@@ -57,7 +57,7 @@ module _ (how : Rendering) (source : List ℕ) (kind : Kind) (kept : Kept) where
   unfolding step advance flushed_before joins
   text_walked p t ts q = refl
 
-  -- all texts of a block are pending behind it
+  -- all texts of a block are pending after it
   texts_walked : (p : List SourcedEvent) (ts : List (List ℕ)) (q : List Pair) → walk how source (inside kind kept p) (rest_of kind ts ++ q) ≡ walk how source (behind kept (p ++ flat_onto (text_trees ts) (end_event kind))) q
   texts_walked p [] q = end_walked p q
   texts_walked p (t ∷ ts) q =
@@ -69,7 +69,7 @@ module _ (how : Rendering) (source : List ℕ) (kind : Kind) (kept : Kept) where
   unfolding step advance flushed_before joins
   started ts q = refl
 
--- a block is pending behind its events
+-- a block is pending after its events
 block_walked : (how : Rendering) (source : List ℕ) (kept : Kept) (b : Block) (q : List Pair) → walk how source (beginning kept) (map unranged (block_events b) ++ q) ≡ walk how source (behind kept (flat (unit b))) q
 block_walked how source kept b q =
     started how source b.kind kept b.texts q ∙ texts_walked how source b.kind kept (Start (tag_of b.kind) ∷ []) b.texts q
@@ -92,7 +92,7 @@ module _ (o : OptionsView) (reading : List ℕ → ParserOptions → ReadingView
   abbrev kept_of : DocumentView → Kept
   kept_of d = record { flags = flags; document = d }
 
-  -- the text of a block behind so many line feeds
+  -- the text of a block after so many line feeds
   abbrev text_of : ℕ → Block → List ℕ
   text_of owed b = replicate owed 10 ++ block_text o flags b
 
@@ -106,7 +106,7 @@ module _ (o : OptionsView) (reading : List ℕ → ParserOptions → ReadingView
   abbrev cons_walk : {S : Type 0} → List ℕ → Walk S → Walk S
   cons_walk text w = record { texts = text ∷ w.texts; outcome = w.outcome }
 
-  -- where it stands at the end
+  -- where it is at the end
   abbrev at_end : Walk Standing → Walk Done
   at_end w = followed (λ t. ended how t) w
 
@@ -142,7 +142,7 @@ module _ (o : OptionsView) (reading : List ℕ → ParserOptions → ReadingView
       ∙ ap (λ defs. record { texts = last_texts (holds_raw_block (flat (unit b))) defs (text_of owed b); outcome = Ok done }) (no_definitions c.document c.after.none)
       ∙ ap (λ ts. record { texts = ts; outcome = Ok done }) (text_some owed b h)
 
-  -- a block that is pending, and the blocks behind it
+  -- a block that is pending, and the blocks after it
   rest_written : (d : DocumentView) (owed : ℕ) (before : LastEnd) (b : Block) (bs : List Block) → IsCalm d owed before → AllByRecursion HasText (b ∷ bs) → at_end (walk how source (behind (kept_of d) (flat (unit b))) (document_of bs)) ≡ record { texts = texts_behind o flags owed (b ∷ bs); outcome = Ok done }
   rest_written d owed before b [] calm h = last_written d owed b (block_chosen setting d b None off refl owed before calm (h.0)) (h.0)
   rest_written d owed before b (c ∷ cs) calm h =

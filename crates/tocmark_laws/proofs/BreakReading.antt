@@ -72,7 +72,7 @@ abbrev front_line : List ℕ → List NextLine → List ℕ
 front_line l [] = l
 front_line l (m ∷ ms) = l ++ end_bytes m.behind
 
--- the lines behind it, each with what ends it
+-- the lines after it, each with what ends it
 abbrev further_lines : List NextLine → List (List ℕ)
 further_lines [] = []
 further_lines (m ∷ ms) = front_line m.line ms ∷ further_lines ms

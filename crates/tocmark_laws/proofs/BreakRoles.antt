@@ -77,7 +77,7 @@ stands_there : (bytes pre rest : List ℕ) (p : ℕ) → bytes ≡ pre ++ 92 ∷
 unfolding starts_at
 stands_there bytes pre rest p e at = ap (λ (xs : List ℕ). starts_with nat_eq xs (codes "\\\n")) (drop_at bytes pre (92 ∷ 10 ∷ rest) p e at)
 
--- a line feed behind spaces that begin at a place
+-- a line feed after spaces that begin at a place
 softly_ended : (bytes : List ℕ) (t : s.State) → iterated (s.before_space bytes) (length bytes) t.place ≡ t.place → s.line_ended bytes t ≡ record t { roles = slice_set (slice_set t.roles t.place Hidden) t.place (Single leaf.SoftBreak (plus t.place 1)) }
 unfolding s.line_ended
 softly_ended bytes t e =
@@ -244,7 +244,7 @@ pass_break syntax bytes ahead find size pre rest rs p r (BySpaces more) e at n n
 
 -- ---- the first pass over lines
 
--- no space stands before the end of a line
+-- no space is before the end of a line
 ink_before : (bytes pre : List ℕ) (b : ℕ) (bs rest : List ℕ) (p : ℕ) → bytes ≡ pre ++ ((b ∷ bs) ++ rest) → p ≡ length pre + length (b ∷ bs) → (last_byte b bs == 32) ≡ false → (byte_at bytes (p - 1) == 32) ≡ false
 ink_before bytes pre b bs rest p e at h =
     let split = split_last b bs in

@@ -24,7 +24,7 @@ use Rattle.tocmark_laws.proofs.BlockSpelling.{text_leaf, page_of, blank}
 use Rattle.tocmark_laws.proofs.DocumentSpelling.{laid_some}
 use Rattle.tocmark_laws.proofs.Paragraphs.{laid-plain}
 use Rattle.tocmark_laws.proofs.PlainSpelling.{around, begun, within, line_place, spelled_leaf, spelled_end}
-use Rattle.tocmark_render.specs.Candidates.{preferred_manner}
+use Rattle.tocmark_choose.specs.Candidates.{preferred_manner}
 
 -- a line of words without a bar
 pub record IsBareLine (c : ℕ) (cs : List ℕ) : Type 0 where
@@ -123,7 +123,7 @@ module _ (s : Setting) (token : char_set_contains (codes "*_") s.options.emphasi
   break_laid text ByBackslash a = ap (λ (xs : List ℕ). inside (begun xs)) (laid-plain (codes "  \n") (within text))
   break_laid text (BySpaces more) a = ap (λ (xs : List ℕ). inside (begun xs)) (laid-plain (codes "  \n") (within text))
 
-  -- what breaks and lines are spelled as behind text
+  -- what breaks and lines are spelled as after text
   abbrev LinesFollow : List ℕ → List NextLine → Type 0
   LinesFollow l ms = (text : List ℕ) (before : List SourcedEvent) (next : Option EventView) → spelling s m (broken_trees l ms) (around before (End end.Paragraph ∷ []) next) in_paragraph (page_of (begun text) 0 Inline None) ≡ Some (inside (within (text ++ broken_text l (written_lines ms))))
 
@@ -139,7 +139,7 @@ module _ (s : Setting) (token : char_set_contains (codes "*_") s.options.emphasi
       ∙ later line (Leaf (end_leaf n.behind) ∷ before) next
       ∙ ap (λ (xs : List ℕ). Some (inside (within xs))) joined
 
-  -- the lines behind one that a break ended
+  -- the lines after one that a break ended
   later_lines : (l : List ℕ) (ms : List NextLine) → AllByRecursion AreBareWords (l ∷ lines_behind ms) → LinesFollow l ms
   later_lines l [] h text before next =
       let a : Around = around before (End end.Paragraph ∷ []) next in

@@ -10,7 +10,7 @@ use Rattle.tocmark_reader.specs.PlainTexts.{IsReadAs}
 use Rattle.tocmark_reader.specs.Reading.{reading_of}
 use Rattle.tocmark_spelling.specs.Body.{some_leaf}
 use Rattle.tocmark_spelling.specs.Page.{Around}
-use Rattle.tocmark_render.specs.Candidates.{has_source, is_delimiter_tag, is_math, some_tag}
+use Rattle.tocmark_choose.specs.Candidates.{has_source, is_delimiter_tag, is_math, some_tag}
 use Rattle.tocmark_state.specs.Walk.{Walk, Done}
 use Rattle.tocmark_write_pending.specs.Placeholder.{needs_placeholder, needs_placeholder_at}
 use Rattle.tocmark_laws.specs.Extensions.{is_word_line}

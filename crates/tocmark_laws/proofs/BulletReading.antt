@@ -1,4 +1,4 @@
--- Lines of words behind bullets are read as a tight list.
+-- Lines of words after bullets are read as a tight list.
 use Rattle.std.proofs.Common.{◌≡◌, ℕ, ◌+◌, ◌^◌, ◌<◌, min, true, false, ◌==◌, nat_le, List, [], ◌∷◌, ◌++◌, length, map, refl, ap, sym, subst, ◌∙◌, arith, None, Some, ◌⊎◌, inl, inr, true≢false}
 use Rattle.std.proofs.lemmas.Bool.Decides.{nat_tests}
 use Rattle.std.specs.Char.{is_ascii_alphabetic}
@@ -25,7 +25,7 @@ use Rattle.tocmark_laws.proofs.ListBlocks.{Begins, ItemLine, item_bytes, AreItem
 use Rattle.tocmark_laws.proofs.ListReading.{AreWordItems, list_read}
 use Rattle.tocmark_laws.proofs.WordsReading.{IsWordByte, IsWordLine, AreWords, words_from}
 
--- ---- an item behind a bullet
+-- ---- an item after a bullet
 
 item_found : (k bullet b : ℕ) (bs : List ℕ) → is_bullet bullet ≡ true → is_ascii_alphabetic b ≡ true → container_at (numbered k (bullet ∷ 32 ∷ b ∷ bs)) (tail_of (numbered k (bullet ∷ 32 ∷ b ∷ bs))) front false ≡ Some (begins.Item (record { sort = bullet; number = None; width = 2; next = 2 }))
 unfolding container_at item_at marker_at bullet_at is_behind item_gap

@@ -11,7 +11,7 @@ use Rattle.tocmark_state.specs.Walk.{Done, done, Rendering, Standing, Walk, ende
 use Rattle.tocmark_state.specs.Writes.{Makes, RefusesAt}
 use Rattle.tocmark_state.proofs.Walks.{FoldsTo-append, Makes-then, RefusesAt-longer, go_on-assoc, walk-append}
 
--- a script goes on where a shorter walk stands
+-- a script goes on where a shorter walk is
 script-append : (how : Rendering) (source : List ℕ) (s : Standing) (xs ys : List Pair) → script how source s (xs ++ ys) ≡ go_on (walk how source s xs).texts (walk how source s xs).outcome (λ t. script how source t ys)
 script-append how source s xs ys =
     ap (λ (w : Walk Standing). go_on w.texts w.outcome (λ u. ended how u)) (walk-append how source s xs ys)
@@ -42,7 +42,7 @@ refused_makes gives refuses how flags source p q rest s w w' u e place folds a =
     subst (λ (ps : List Pair). RefusesAt gives refuses w u e (script how source (nothing_yet flags) ps)) (append_assoc p q rest)
     (subst (λ (x : Walk Done). RefusesAt gives refuses w u e x) (sym (script-append how source (nothing_yet flags) (p ++ q) rest)) longer)
 
--- calls after pairs at which the state stood
+-- calls after pairs at which the state was
 pub calls_make : {W : Type 0} (gives refuses : W → List ℕ → W → Type 0) (how : Rendering) (flags : ParserOptions) (source : List ℕ) (qs : List (List Pair)) (p : List Pair) (s : Standing) (w w' v : W) (counts : List Progress) (r : Result Progress Error) → (walk how source (nothing_yet flags) p).outcome ≡ Ok s → FoldsTo gives w (walk how source (nothing_yet flags) p).texts w' → AreCalls gives refuses how flags source p qs w' v counts r → Makes gives refuses w v r done (script how source (nothing_yet flags) (p ++ all_pairs qs))
 calls_make gives refuses how flags source [] p s w w' v counts r at folds b = ends_make gives refuses how flags source p w w' v r folds b.1
 calls_make {W} gives refuses how flags source (q ∷ qs) p s w w' v counts r at folds (c, g) = go (λ t u ns. calls_make gives refuses how flags source qs (p ++ q) t w u v ns r) c.answer c.place c.u c.added g

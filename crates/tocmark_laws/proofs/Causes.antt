@@ -37,7 +37,7 @@ resolved_cause : (source : List ℕ) (n : ℕ) (e : EventView) (range : Option R
 resolved_cause source n e None x h = absurd (cc)
 resolved_cause source n e (Some range) x h = range_cause source n e range x (is_good_range source range) refl h
 
--- an event keeps its view behind its range
+-- an event keeps its view after its range
 range_event : (source : List ℕ) (n : ℕ) (e : EventView) (range : Range) (y : SourcedEvent × ℕ) (b : Bool) → ranged_as b (sourced e (source_text source n e range), range_end_after n e range) ≡ Ok y → unsourced y.0 ≡ e
 range_event source n e range y true h = ap (λ (z : SourcedEvent × ℕ). unsourced z.0) (sym (same_ok (sourced e (source_text source n e range), range_end_after n e range) y (Ok (sourced e (source_text source n e range), range_end_after n e range)) refl h)) ∙ unsourced-sourced e (source_text source n e range)
 range_event source n e range y false h = absurd (cc)

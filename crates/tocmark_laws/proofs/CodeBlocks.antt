@@ -25,9 +25,9 @@ use Rattle.tocmark_spelling.specs.Stretch.{leaf_on, held_with, stretch_on}
 use Rattle.tocmark_spelling.specs.Words.{last_byte}
 use Rattle.tocmark_spelling.specs.declared.trail.Last.{Last}
 use Rattle.tocmark_spelling.specs.declared.trail.Last.TheVariants.{Inline, Other, BlockEnd}
-use Rattle.tocmark_render.specs.Candidates.{preferred_manner, has_source, is_delimiter_block, is_delimiter_tag, is_math, some_tag}
-use Rattle.tocmark_render.specs.Choice as choice
-use Rattle.tocmark_render.specs.Choice.{preferred, spelled, accepted_if, document_after}
+use Rattle.tocmark_choose.specs.Candidates.{preferred_manner, has_source, is_delimiter_block, is_delimiter_tag, is_math, some_tag}
+use Rattle.tocmark_choose.specs.Choice as choice
+use Rattle.tocmark_choose.specs.Choice.{preferred, spelled, accepted_if, document_after}
 use Rattle.tocmark_write_labels.specs.Definitions.{definitions_text}
 use Rattle.tocmark_write_labels.specs.Document.{DocumentView, first_document}
 use Rattle.tocmark_write_labels.specs.Ending.{last_texts, holds_raw_block}
@@ -85,7 +85,7 @@ pub joined-texts : (ts : List (List ℕ)) → joined_by text_of_leaf (text_trees
 joined-texts [] = refl
 joined-texts (t ∷ ts) = ap (λ x. t ++ x) (joined-texts ts)
 
--- what was written last behind the texts
+-- what was written last after the texts
 abbrev last_behind : List (List ℕ) → Last
 last_behind [] = Other
 last_behind (t ∷ ts) = Inline
@@ -137,7 +137,7 @@ module _ (s : Setting) (info : List ℕ) where
       ∙ some-written f start u us (Some h) sheet (Leaf (text_leaf t) ∷ before) next
       ∙ ap (λ x. Some (written_site f start sheet x)) (ap (λ x. x ++ concat (u ∷ us)) (held-longer held t (ahead_of (text_trees (u ∷ us)) a)) ∙ append_assoc (held_text held) t (concat (u ∷ us)))
 
-  -- the page behind the texts
+  -- the page after the texts
   abbrev pub filled_page : List (List ℕ) → Sheet → Page
   filled_page ts sheet = page_of (laid [] (concat ts) sheet) 0 (last_behind ts) None
 
@@ -160,7 +160,7 @@ module _ (s : Setting) (info : List ℕ) where
   opened : (ts : List (List ℕ)) (a : Around) → opening s m (CodeBlock (Fenced info)) (look s m (CodeBlock (Fenced info)) (text_trees ts) a) [] (page_of blank 0 Other None) ≡ Some (opened_site (fence s.options info (concat ts)))
   opened ts a = open-code ts a ∙ ap (λ text. Some (opened_site (fence s.options info text))) (joined-texts ts)
 
-  -- the page behind the block
+  -- the page after the block
   abbrev pub closed_page : List ℕ → Sheet → Page
   closed_page f sheet = record {
     sheet = laid [] (if nat_lt 0 sheet.feeds then f else []) sheet;
@@ -186,7 +186,7 @@ module _ (s : Setting) (info : List ℕ) where
   unfolding spelling
   begun ts next = refl
 
-  -- the sheet behind the texts
+  -- the sheet after the texts
   abbrev filled_sheet : List (List ℕ) → Sheet
   filled_sheet ts = laid [] (concat ts) (opened_sheet (fence s.options info (concat ts)))
 
@@ -204,7 +204,7 @@ module _ (s : Setting) (info : List ℕ) where
       ∙ ap (λ o. then_site o (λ full. from_texts ts next full)) (body-written f start ts (opened_sheet f) (Start (CodeBlock (Fenced info)) ∷ []) next)
       ∙ finished f start ts next (opened_sheet f)
 
-  -- what stands before the closing fence
+  -- what is before the closing fence
   filled-text : (ts : List (List ℕ)) → (filled_sheet ts).text ≡ opened_code (fence s.options info (concat ts)) info (concat ts)
   filled-text ts =
       let f = fence s.options info (concat ts) in

@@ -348,7 +348,7 @@ run_seen count token zero [] after some h = absurd (omega arith)
 run_seen count token (suc n) [] after some h = or_first _ _ (run_starts (suc n) count token after h)
 run_seen count token n (b ∷ bs) after some h = or_second _ _ (run_seen count token n bs after some h)
 
--- a line in which no fence stands has no run that is as long
+-- a line in which no fence is has no run that is as long
 short_from : (token m : ℕ) (l : List ℕ) → has_run (suc m) token l ≡ false → IsShort token m l
 short_from token m l none n run = by_size (nat_lt n (suc m)) refl
   where

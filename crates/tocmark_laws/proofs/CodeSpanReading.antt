@@ -195,7 +195,7 @@ module _ (b : ℕ) (bs : List ℕ) (h : IsCode b bs) (fits : length (in_backtick
 
   -- ---- the first pass
 
-  -- the pass behind the code span, in front of which so many bytes are left
+  -- the pass after the code span, in front of which so many bytes are left
   abbrev with_left : ℕ → ℕ → s.State
   with_left left place = record { roles = Single (leaf.Code (s.stretch 0 n)) (n + 2) ∷ replicate left Plain; runs = []; brackets = []; inactive = 0; place = place; resume = n + 2; targets = []; texts = code; missed = [] }
 

@@ -244,7 +244,7 @@ module _ (known : Known) (text : List ℕ) (n : ℕ) (p0 : Piece) (p0_front : p0
       ∙ ap (λ (ys : List ℕ). leaf_at cells ys (tail_of cells) (at_column 2) false false) stands
       ∙ letter_begins_text cells (tail_of cells) 2 c cs false false there letter)
 
-  -- where the line stands in the text
+  -- where the line is in the text
   abbrev Stands : Type 0
   Stands = (bytes_between text from end ≡ row) × (bytes_between text (from + 2) end ≡ c ∷ cs) × ((byte_at text (from + 2) == 91) ≡ false) × (from + 2 < next) × (from + length row < 2 ^ 64)
 

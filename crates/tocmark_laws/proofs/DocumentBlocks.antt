@@ -221,7 +221,7 @@ blank_passes text l bs ps end number e =
     ∙ blank_started text l s
     ∙ nothing_ends text bs ps end number
 
--- the columns of a line that is a heading, whose text stands between two places
+-- the columns of a line that is a heading, whose text is between two places
 pub record IsHeadingLine (text : List ℕ) (cells : List Cell) (l : Line) (h : Heading) (from to : ℕ) : Type 0 where
   pub columns : cells_of [] l.start (bytes_between text l.start l.end) ≡ cells
   pub place : cell_place cells 0 l.end ≡ l.start

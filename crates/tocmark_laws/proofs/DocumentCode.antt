@@ -179,7 +179,7 @@ front_kept : (cells : List Cell) → drop 0 cells ≡ cells
 front_kept [] = refl
 front_kept (c ∷ cells) = refl
 
--- the run at the front of columns stands at the front of their bytes
+-- the run at the front of columns is at the front of their bytes
 run_first : (token : ℕ) → (32 == token) ≡ false → (bs : List ℕ) (cells : List Cell) → Spreads cells bs → (after : List ℕ) × (bs ≡ replicate (run_at token cells) token ++ after)
 run_first token apart [] cells e = ([], ap (λ (cs : List Cell). replicate (run_at token cs) token ++ []) (sym e))
 run_first token apart (b ∷ bs) cells (inl h) =
@@ -210,7 +210,7 @@ later_run n token b bs h = record { before = b ∷ h.before; after = h.after; is
 no_run : (token : ℕ) (bs : List ℕ) → HasRun 0 token bs
 no_run token bs = record { before = []; after = bs; is = refl }
 
--- the run at any column stands in the bytes
+-- the run at any column is in the bytes
 run_spread : (token : ℕ) → (32 == token) ≡ false → (bs : List ℕ) (cells : List Cell) → Spreads cells bs → (k : ℕ) → HasRun (run_at token (drop k cells)) token bs
 run_spread token apart [] cells e k = subst (λ (cs : List Cell). HasRun (run_at token (drop k cs)) token []) (sym e) (none k)
   where
@@ -396,7 +396,7 @@ starts_fence text cells l f s k e =
     ap (started_at text cells l (tail_of cells)) (opens_none text cells l s k)
     ∙ ap (λ x. started x text cells l (tail_of cells) here s) (a_fence cells (bytes_between text (cell_place cells 0 l.end) l.end) f (is_paragraph s.leaf) (goes_directly 0 s) k e)
 
--- a page with open code, which began behind so many pieces
+-- a page with open code, which began after so many pieces
 abbrev pub coding : List Block → ℕ → List Piece → Fence → BlockKind → ℕ → ℕ → ℕ → State
 coding bs n qs f k at end number = record {
   blocks = bs ++ block k at at n n ∷ [];
@@ -431,7 +431,7 @@ opened_line text cells l f k bs ps end number h =
 
 -- a line of the text
 
--- the first column stands at the first byte
+-- the first column is at the first byte
 place_kept : (c : Cell) (cs : List Cell) (at : ℕ) (bs : List ℕ) (end : ℕ) → cell_place (cells_of (c ∷ cs) at bs) 0 end ≡ c.at
 unfolding filled
 place_kept c cs at [] end = refl

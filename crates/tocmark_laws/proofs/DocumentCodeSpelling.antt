@@ -1,4 +1,4 @@
--- What fenced code is spelled as, wherever it stands in a document.
+-- What fenced code is spelled as, wherever it is in a document.
 use Rattle.std.proofs.Common.{◌≡◌, ℕ, zero, suc, ◌+◌, ◌-◌, ◌<◌, ◌≤◌, max, Bool, true, false, ◌==◌, ◌&&◌, if◌then◌else◌, nat_lt, List, [], ◌∷◌, ◌++◌, length, map, replicate, chars, codes, flat_map, refl, ap, sym, subst, ◌∙◌, arith, append_assoc, append-nil, Option, Some, None, inl, inr}
 use Rattle.std.proofs.lemmas.Bool.Decides.{nat_tests}
 use Rattle.std.proofs.lemmas.Str.{chars-IsAscii}
@@ -19,11 +19,11 @@ use Rattle.tocmark_spelling.specs.declared.trail.Last.{Last}
 use Rattle.tocmark_spelling.specs.declared.trail.Last.TheVariants.{Other}
 use Rattle.tocmark_write_labels.specs.Document.{DocumentView}
 use Rattle.tocmark_write_pending.specs.Placeholder.{whole}
-use Rattle.tocmark_render.specs.Candidates.{preferred_manner}
-use Rattle.tocmark_render.specs.Choice as choice
-use Rattle.tocmark_render.specs.Choice.{spelled, accepted_if, document_after, has_standard_markers}
-use Rattle.tocmark_render.proofs.Chosen.{chosen-unlabelled}
-use Rattle.tocmark_render.proofs.PlainUnits.{choice-unasked}
+use Rattle.tocmark_choose.specs.Candidates.{preferred_manner}
+use Rattle.tocmark_choose.specs.Choice as choice
+use Rattle.tocmark_choose.specs.Choice.{spelled, accepted_if, document_after, has_standard_markers}
+use Rattle.tocmark_choose.proofs.Chosen.{chosen-unlabelled}
+use Rattle.tocmark_choose.proofs.PlainUnits.{choice-unasked}
 use Rattle.tocmark_laws.specs.CodeBlocks.{HasRun}
 use Rattle.tocmark_laws.specs.TextBlocks.{ParagraphKind, HeadingKind}
 use Rattle.tocmark_laws.proofs.BlockSpelling.{LastEnd, NoEnd, TextEnd, CodeEnd, text_trees, last_of, page_of, blank, IsCalm}
@@ -102,7 +102,7 @@ module _ (o : OptionsView) (info : List ℕ) (ls : List (List ℕ)) where
   abbrev text : List ℕ
   text = concat (line_texts ls)
 
-  -- how often the token stands in the fence, but for once
+  -- how often the token is in the fence, but for once
   abbrev pub fence_rest : ℕ
   fence_rest = fence_length o o.code_block_token text - 1
 
@@ -225,7 +225,7 @@ module _ (s : Setting) (info : List ℕ) (ls : List (List ℕ)) where
   unfolding spelling
   entered_gap next p = refl
 
-  -- the page behind the block
+  -- the page after the block
   abbrev ended_page : ℕ → Page
   ended_page owed = code.closed_page s info f (laid [] (concat ts) (begun_sheet owed))
 

@@ -202,7 +202,7 @@ rows_merged text start (Filled k l ms ∷ rs) h =
     ∙ ap (λ es. Start (tag_of k) ∷ (es ++ End (end_of (tag_of k)) ∷ merged (unplaced rest))) inner
     ∙ ap (λ es. Start (tag_of k) ∷ (line_events (meant l) (map meant ms) ++ End (end_of (tag_of k)) ∷ es)) (rows_merged text (end + 1) rs (h.2))
 
--- what stands behind parts, byte by byte
+-- what is after parts, byte by byte
 abbrev bare : List ℕ → List Part
 bare bs = map (λ b. Bare b) bs
 

@@ -113,7 +113,7 @@ heading_found level.H4 at b bs h = rw (space_behind (numbered at (marks level.H4
 heading_found level.H5 at b bs h = rw (space_behind (numbered at (marks level.H5 ++ b ∷ bs)) 5 refl, h) refl
 heading_found level.H6 at b bs h = rw (space_behind (numbered at (marks level.H6 ++ b ∷ bs)) 6 refl, h) refl
 
--- how the text of a heading ends: with no space, and with `#` only behind a backslash
+-- how the text of a heading ends: with no space, and with `#` only after a backslash
 pub record EndsHeading (xs : List ℕ) : Type 0 where
   pub body : List ℕ
   pub last : ℕ
@@ -182,7 +182,7 @@ first_mark level.H4 at xs end = refl
 first_mark level.H5 at xs end = refl
 first_mark level.H6 at xs end = refl
 
--- a heading on one line that stands in a text
+-- a heading on one line that is in a text
 pub heading_line : (text : List ℕ) (l : HeadingLevel) (b : ℕ) (bs : List ℕ) (start next number : ℕ) → let bytes = marks l ++ b ∷ bs in
     bytes_between text start (start + length bytes) ≡ bytes → AllByRecursion IsWithin bytes → (b == 32) ≡ false → EndsHeading (b ∷ bs) → start + length bytes < 2 ^ 64 →
     IsHeadingLine text (numbered start bytes) (record { number = number; start = start; end = start + length bytes; next = next }) (record { level = l; from = length (marks l); to = length (numbered start bytes) }) (start + length (marks l)) (start + length bytes)

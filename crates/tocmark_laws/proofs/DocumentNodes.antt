@@ -49,7 +49,7 @@ use Rattle.tocmark_laws.proofs.DocumentCode.{IsInfo, split_last, opener, closer,
 use Rattle.tocmark_laws.proofs.DocumentRows.{Code, IsCode, IsCodeByte, AreCode, ArePrintable, clean_printable, code_body, code_count, code_end, code_joined, code_pieces, code_rest, Row, Blank, Break, Filled, row_bytes, rows_text, IsFilled, IsRow, AreRows, all_rows, block_kind, content_start, row_end, behind, filled_pieces, row_blocks, row_pieces, rows_blocks, counted}
 use Rattle.tocmark_laws.proofs.DocumentParagraphs.{content_of_lines, behind_line, line_length}
 
--- the content of one line that stands in a text
+-- the content of one line that is in a text
 content_of_line : (text xs : List ℕ) (start next : ℕ) (body : List ℕ) (y : ℕ) → bytes_between text start (start + length xs) ≡ xs → xs ≡ body ++ y ∷ [] → is_in White y ≡ false → AreNoZeros xs → start + length xs < 2 ^ 64 → content.content_of text (record { start = start; end = start + length xs; next = next } ∷ []) ≡ record { bytes = xs; places = places_of start xs }
 unfolding content.content_of content.put_line content.put
 content_of_line text xs start next body y e split white zeros fits =
@@ -154,7 +154,7 @@ unfolding wrapped_in with_block task_nodes leaf_inlines_in with_lines_of keeps_b
 wrapped_found text k start end n m new ns =
     ap (λ t. with_inlines (inlines.read_inlines (content.content_of text (map content_line new)) 1 find none) (at ((ns ++ record { depth = 0; item = Container t; start = start; end = end } ∷ []) ++ []))) (kind_tag text k)
 
--- where the text of a row stands
+-- where the text of a row is
 pub content_front : (pre : List ℕ) (start : ℕ) (k : Kind) → start ≡ length pre → content_start k start ≡ length (pre ++ mark_of k)
 content_front pre start ParagraphKind e = e ∙ ap length (sym (append-nil pre))
 content_front pre start (HeadingKind l) e = ap (λ n. n + length (mark_of (HeadingKind l))) e ∙ sym (length-append pre (mark_of (HeadingKind l)))

@@ -1,4 +1,4 @@
--- Paragraphs of many lines behind other blocks: the page, its pieces, and their content.
+-- Paragraphs of many lines after other blocks: the page, its pieces, and their content.
 use Rattle.std.proofs.Common.{◌≡◌, ℕ, suc, ◌+◌, ◌-◌, ◌^◌, ◌<◌, true, false, ◌==◌, nat_lt, nat_le, List, [], ◌∷◌, ◌++◌, length, map, refl, ap, sym, ◌∙◌, arith, append_assoc, length-append, None}
 use Rattle.std.proofs.Math.Seq.{take-length}
 use Rattle.std.proofs.lemmas.Bool.Decides.{nat_tests}
@@ -100,18 +100,18 @@ blank_ends text l bs ps new p end number e h fits =
     ∙ blank_started text l s
     ∙ lines_end text bs ps new p end number h fits
 
--- the pieces of lines, behind which these lines stand
+-- the pieces of lines, after which these lines are
 abbrev pub line_pieces : ℕ → List ℕ → List (List ℕ) → List (List ℕ) → List Piece
 line_pieces start l [] [] = piece_of 0 start (start + length l) (start + length l) ∷ []
 line_pieces start l [] (t ∷ ts) = piece_of 0 start (start + length l) (start + length l + 1) ∷ []
 line_pieces start l (m ∷ ms) tail = piece_of 0 start (start + length l) (start + length l + 1) ∷ line_pieces (start + length l + 1) m ms tail
 
--- the lines behind lines
+-- the lines after lines
 abbrev pub lines_behind : ℕ → ℕ → List (List ℕ) → List Line
 lines_behind before start [] = []
 lines_behind before start (t ∷ ts) = line_list before start t ts
 
--- how many lines stand before the next one, and the number of the last one
+-- how many lines are before the next one, and the number of the last one
 abbrev pub count_behind : ℕ → List (List ℕ) → ℕ
 count_behind before [] = before + 1
 count_behind before (m ∷ ms) = count_behind (before + 1) ms
@@ -120,7 +120,7 @@ abbrev pub last_number : ℕ → List (List ℕ) → ℕ
 last_number before [] = plus before 1
 last_number before (m ∷ ms) = last_number (before + 1) ms
 
--- a line is plain where it stands
+-- a line is plain where it is
 abbrev pub IsPlainAt : List ℕ → ℕ → List ℕ → Type 0
 IsPlainAt text start l = (next number : ℕ) → start < next → IsPlainLine text (numbered start l) (record { number = number; start = start; end = start + length l; next = next })
 
@@ -133,7 +133,7 @@ joined_length start l m ms =
     let width : length (l ++ 10 ∷ feed_joined m ms) ≡ length l + suc (length (feed_joined m ms)) = length-append l (10 ∷ feed_joined m ms) in
     omega (arith, width)
 
--- further lines of a paragraph, whatever stands behind them
+-- further lines of a paragraph, whatever is after them
 pub lines_go_on : (text : List ℕ) (before start : ℕ) (l : List ℕ) (ms tail : List (List ℕ)) (bs : List Block) (ps new : List Piece) (p : Piece) (from end number : ℕ) → ArePlainAt text start l ms → fold (line_taken text) (open_lines bs ps (p ∷ new) from end number) (line_list before start l (ms ++ tail)) ≡ fold (line_taken text) (open_lines bs ps ((p ∷ new) ++ line_pieces start l ms tail) from (start + length (feed_joined l ms)) (last_number before ms)) (lines_behind (count_behind before ms) (start + length (feed_joined l ms) + 1) tail)
 lines_go_on text before start l [] [] bs ps new p from end number h =
     line_goes_on text (numbered start l) (line before start (start + length l) (start + length l)) bs ps new p from end number (h.0 (start + length l) (plus before 1) (let some : 0 < length l = h.1 in omega (arith, some)))
@@ -152,7 +152,7 @@ lines_go_on text before start l (m ∷ ms) tail bs ps new p from end number h =
     ∙ ap (λ (xs : List Piece). fold (line_taken text) (open_lines bs ps (p ∷ xs) from (next + length (feed_joined m ms)) last) (lines_behind count (next + length (feed_joined m ms) + 1) tail)) (append_assoc new (x ∷ []) more)
     ∙ ap (λ n. fold (line_taken text) (open_lines bs ps (p ∷ (new ++ x ∷ more)) from n last) (lines_behind count (n + 1) tail)) (joined_length start l m ms)
 
--- the content of lines that stand in a text
+-- the content of lines that are in a text
 
 abbrev last_next : ℕ → List (List ℕ) → ℕ
 last_next end [] = end
@@ -176,7 +176,7 @@ behind_line text pre l more e = e ∙ ap (λ (xs : List ℕ). pre ++ xs) (sym (a
 pub line_length : (pre l : List ℕ) (start : ℕ) → start ≡ length pre → start + length l + 1 ≡ length (pre ++ (l ++ 10 ∷ []))
 line_length pre l start at = ap (λ n. n + length l + 1) at ∙ (let q : length pre + length l + 1 ≡ length (pre ++ (l ++ 10 ∷ [])) = grind (arith, length-append) in q)
 
--- the first of lines, and what stands behind it
+-- the first of lines, and what is after it
 pub first_of : (text pre l m : List ℕ) (ms : List (List ℕ)) (rest : List ℕ) → text ≡ pre ++ (feed_joined l (m ∷ ms) ++ rest) → text ≡ pre ++ (l ++ 10 ∷ (feed_joined m ms ++ rest))
 first_of text pre l m ms rest e = e ∙ ap (λ (xs : List ℕ). pre ++ xs) (append_assoc l (10 ∷ feed_joined m ms) rest)
 

@@ -83,7 +83,7 @@ pub record IsCode (token m : ℕ) (info : List ℕ) (ls : List (List ℕ)) : Typ
   pub lines : AllByRecursion AreCode ls
   pub short : AllByRecursion (IsShort token m) ls
 
--- behind each paragraph stands a blank line, and the last row is none
+-- after each paragraph is a blank line, and the last row is none
 abbrev pub AreRows : List Row → Type 0
 AreRows [] = Unit {0}
 AreRows (Blank ∷ []) = ⊥
@@ -159,7 +159,7 @@ abbrev pub code_pieces : ℕ → List (List ℕ) → List Piece
 code_pieces at [] = []
 code_pieces at (l ∷ ls) = piece_of 0 at (at + length l) (at + length l + 1) ∷ code_pieces (at + length l + 1) ls
 
--- the blocks of rows, behind so many pieces
+-- the blocks of rows, after so many pieces
 abbrev pub row_blocks : ℕ → ℕ → List Row → List Block
 row_blocks n start [] = []
 row_blocks n start (Blank ∷ rs) = row_blocks n (start + 0 + 1) rs
@@ -469,7 +469,7 @@ plain_at text pre rest start l (m ∷ ms) e at fits h =
     let here : text ≡ pre ++ (l ++ 10 ∷ more) = first_of text pre l m ms rest e in
     (λ next number order. paragraph_line text l start next number (piece_between text pre l (10 ∷ more) start (start + length l) here at (ap (λ n. n + length l) at)) (h.0.0) (h.0.1) (inside text pre l (10 ∷ more) start here at fits) order, plain_at text (pre ++ (l ++ 10 ∷ [])) rest (start + length l + 1) m ms (behind_line text pre l more here) (line_length pre l start at) fits (h.1))
 
--- all lines of a paragraph, whatever stands behind them
+-- all lines of a paragraph, whatever is after them
 paragraph_lines : (text : List ℕ) (before start : ℕ) (l : List ℕ) (ms tail : List (List ℕ)) (bs : List Block) (ps : List Piece) (end number : ℕ) → ArePlainAt text start l ms → fold (line_taken text) (closed bs ps end number) (line_list before start l (ms ++ tail)) ≡ fold (line_taken text) (open_lines bs ps (line_pieces start l ms tail) start (start + length (feed_joined l ms)) (last_number before ms)) (lines_behind (count_behind before ms) (start + length (feed_joined l ms) + 1) tail)
 paragraph_lines text before start l [] [] bs ps end number h =
     line_begins text (numbered start l) (line before start (start + length l) (start + length l)) bs ps end number (h.0 (start + length l) (plus before 1) (let some : 0 < length l = h.1 in omega (arith, some)))
@@ -620,7 +620,7 @@ module _ (text : List ℕ) (fits : length text < 2 ^ 64) (token m : ℕ) (is : I
       ∙ ap (λ (xs : List Piece). fold (line_taken text) (ended_code xs (next + length more) (last_number (before + 1) ls)) (lines_behind (count_behind (before + 1) ls) (next + length more + 1) tail)) (append_assoc qs (p ∷ []) (code_pieces next ls))
       ∙ ap (λ i. fold (line_taken text) (ended_code (qs ++ p ∷ code_pieces next ls) i (last_number (before + 1) ls)) (lines_behind (count_behind (before + 1) ls) (i + 1) tail)) stop
 
--- all lines of code, whatever stands behind them
+-- all lines of code, whatever is after them
 code_taken : (text pre rest : List ℕ) (before start token m : ℕ) (info : List ℕ) (ls tail : List (List ℕ)) (bs : List Block) (ps : List Piece) (end number : ℕ) → text ≡ pre ++ (row_bytes (Code token m info ls) ++ rest) → start ≡ length pre → length text < 2 ^ 64 → IsCode token m info ls → let stop = code_end start token m info ls in let new = code_pieces (code_body start token m info) ls in
     fold (line_taken text) (closed bs ps end number) (line_list before start (opener token m info) ((ls ++ closer token m ∷ []) ++ tail)) ≡ fold (line_taken text) (closed (bs ++ block (code_kind start token m info) start stop (length ps) (length ps + length ls) ∷ []) (ps ++ new) stop (last_number (before + 1) ls)) (lines_behind (count_behind (before + 1) ls) (stop + 1) tail)
 code_taken text pre rest before start token m info ls tail bs ps end number e front fits h =

@@ -1,4 +1,4 @@
--- What a paragraph of lines and a thematic break are spelled as, wherever they stand in a document.
+-- What a paragraph of lines and a thematic break are spelled as, wherever they are in a document.
 use Rattle.std.proofs.Common.{◌≡◌, ℕ, ◌-◌, ◌<◌, ◌≤◌, max, Bool, true, false, ◌==◌, ◌&&◌, ◌||◌, if◌then◌else◌, nat_lt, List, [], ◌∷◌, ◌++◌, length, replicate, refl, ap, sym, subst, ◌∙◌, arith, append_assoc, append-nil, eq-eqb, Option, Some, None, Ok}
 use Rattle.std.proofs.lemmas.Bool.Decides.{nat_tests}
 use Rattle.tocmark_event.specs.Forest.{empty, leaf, node, flat}
@@ -17,14 +17,14 @@ use Rattle.tocmark_spelling.specs.Plan.{Setting, Manner}
 use Rattle.tocmark_spelling.specs.Spelling.{spelling, then_site, body_or_id, skips_body}
 use Rattle.tocmark_spelling.specs.Stretch.{leaf_on, place, held_with, stretch_on, rule_text}
 use Rattle.tocmark_spelling.specs.Runs.{ahead_of, past, beyond}
-use Rattle.tocmark_render.specs.Candidates.{preferred_manner, has_source, is_delimiter_block, is_delimiter_tag, is_math, some_tag}
-use Rattle.tocmark_render.specs.Choice as choice
-use Rattle.tocmark_render.specs.Choice.{page_in, spelled, accepted_if, document_after, has_standard_markers}
+use Rattle.tocmark_choose.specs.Candidates.{preferred_manner, has_source, is_delimiter_block, is_delimiter_tag, is_math, some_tag}
+use Rattle.tocmark_choose.specs.Choice as choice
+use Rattle.tocmark_choose.specs.Choice.{page_in, spelled, accepted_if, document_after, has_standard_markers}
 use Rattle.tocmark_write_labels.specs.Document.{DocumentView}
 use Rattle.tocmark_write_pending.specs.Placeholder.{whole, needs_placeholder, needs_placeholder_at}
-use Rattle.tocmark_render.specs.Chosen.{chosen}
-use Rattle.tocmark_render.proofs.Chosen.{chosen-unlabelled}
-use Rattle.tocmark_render.proofs.PlainUnits.{choice-unasked}
+use Rattle.tocmark_choose.specs.Chosen.{chosen}
+use Rattle.tocmark_choose.proofs.Chosen.{chosen-unlabelled}
+use Rattle.tocmark_choose.proofs.PlainUnits.{choice-unasked}
 use Rattle.tocmark_reader.proofs.PlainReading.{IsPrintable, IsPlainLine, some_front}
 use Rattle.tocmark_read_scan.specs.PlainParts as parts
 use Rattle.tocmark_laws.specs.PlainLines.{PlacedLine}
@@ -105,7 +105,7 @@ module _ (s : Setting) where
   abbrev m : Manner
   m = preferred_manner s.options
 
-  -- the first text stands at the front
+  -- the first text is at the front
   place_is : (nx : EventView) (after_close : Bool) (sheet : Sheet) → place s m after_close (Some nx) (in_par (length sheet.text)) (page_of sheet 0 Other None) ≡ line_place s m nx
   place_is nx after_close sheet = ap (λ b. record (line_place s m nx) { at_front = b }) (or_true (nat_lt 0 sheet.feeds) (length sheet.text == 0) (length sheet.text == length sheet.text) (itself (length sheet.text)))
 
@@ -133,7 +133,7 @@ module _ (s : Setting) where
   unfolding leaf_on
   first_then l sheet after next = stretch_written (held_with None l None (around (Start Paragraph ∷ []) (Leaf break_leaf ∷ after) next)) (Leaf SoftBreak) sheet
 
-  -- a text behind a soft break
+  -- a text after a soft break
   later_last : (start : ℕ) (text l : List ℕ) (before after : List SourcedEvent) (next : Option EventView) → leaf_on s m (text_leaf l) (around (Leaf break_leaf ∷ before) (End end.Paragraph ∷ after) next) (in_par start) (page_of (begun text) 0 Inline None) ≡ written start (laid [] (escaped (line_place s m (End end.Paragraph)) l) (begun text))
   unfolding leaf_on
   later_last start text l before after next = refl
@@ -260,7 +260,7 @@ page_is d owed before h =
     ap (λ n. record { sheet = record { text = []; feeds = n }; trail = d.trail; references = []; held = None }) h.feeds
     ∙ ap (λ t. record { sheet = blank; trail = t; references = []; held = None }) h.trail
 
--- a unit's choice is this text, and what follows it stands behind so many line feeds and such a block
+-- a unit's choice is this text, and what follows it is after so many line feeds and such a block
 pub record IsHanded (s : Setting) (d : DocumentView) (unit : Trees) (next : Option EventView) (text : List ℕ) (owed : ℕ) (before : LastEnd) : Type 0 where
   pub document : DocumentView
   pub is : chosen s d (flat unit) next ≡ Ok (text, document)
@@ -311,7 +311,7 @@ rule_gap CodeEnd owed = refl
 rule_gap (TextEnd ParagraphKind) owed = refl
 rule_gap (TextEnd (HeadingKind level)) owed = refl
 
--- behind such blocks it is three hyphens
+-- after such blocks it is three hyphens
 rule_hyphens : (before : LastEnd) → rule_text (last_of before) [] ≡ hyphens
 rule_hyphens NoEnd = refl
 rule_hyphens CodeEnd = refl
@@ -328,7 +328,7 @@ module _ (s : Setting) where
   abbrev rule_page : ℕ → Page
   rule_page owed = page_of (within (replicate owed 10 ++ hyphens)) rule_feeds Other None
 
-  -- the break behind its gap
+  -- the break after its gap
   abbrev ruled : List ℕ → Page → Site
   ruled text g = site [] (record g { sheet = laid [] text g.sheet; trail = record g.trail { last = Other; owed = rule_feeds } })
 

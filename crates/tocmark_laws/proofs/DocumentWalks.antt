@@ -15,8 +15,8 @@ use Rattle.tocmark_reader.specs.PlainTexts.{line_events}
 use Rattle.tocmark_spelling.specs.Body.{Trees}
 use Rattle.tocmark_spelling.specs.Plan.{Setting, Manner}
 use Rattle.tocmark_spelling.specs.PlanOf.{setting_of}
-use Rattle.tocmark_render.specs.Candidates.{preferred_manner}
-use Rattle.tocmark_render.specs.Chosen.{chosen}
+use Rattle.tocmark_choose.specs.Candidates.{preferred_manner}
+use Rattle.tocmark_choose.specs.Chosen.{chosen}
 use Rattle.tocmark_write_labels.specs.Definitions.{definitions_text}
 use Rattle.tocmark_write_labels.specs.Document.{DocumentView, first_document}
 use Rattle.tocmark_write_labels.specs.Ending.{last_texts, holds_raw_block, unless_empty}
@@ -37,21 +37,21 @@ use Rattle.tocmark_laws.proofs.DocumentCodeSpelling.{line_texts, fence_rest, cod
 use Rattle.tocmark_laws.proofs.DocumentRows.{Code, IsCode, code_joined, code_rest, row_bytes}
 use Rattle.tocmark_laws.proofs.DocumentSpelling.{para, para_placed, para_chosen, rule_leaf, rule_unit, rule_placed, rule_chosen, IsHanded}
 
--- what the gap behind a block asks of it
+-- what the gap after a block asks of it
 abbrev behind_of : PlainBlock → LastEnd
 behind_of (PlainParagraph l ms) = TextEnd ParagraphKind
 behind_of (PlainHeading level ts) = TextEnd (HeadingKind level)
 behind_of PlainRule = NoEnd
 behind_of (PlainCode info ls) = CodeEnd
 
--- how many line feeds stand behind a block
+-- how many line feeds are after a block
 abbrev pub owed_behind : OptionsView → PlainBlock → ℕ
 owed_behind o (PlainParagraph l ms) = feeds_behind o ParagraphKind
 owed_behind o (PlainHeading level ts) = feeds_behind o (HeadingKind level)
 owed_behind o PlainRule = max o.newlines_after_rule 1
 owed_behind o (PlainCode info ls) = max o.newlines_after_codeblock 2
 
--- how many stand before it where so many are owed: code begins on a line of its own
+-- how many are before it where so many are owed: code begins on a line of its own
 abbrev pub feeds_before : ℕ → PlainBlock → ℕ
 feeds_before owed (PlainParagraph l ms) = owed
 feeds_before owed (PlainHeading level ts) = owed
@@ -65,7 +65,7 @@ tree (PlainHeading level ts) = unit (heading_block level ts)
 tree PlainRule = rule_unit
 tree (PlainCode info ls) = code.unit info (line_texts ls)
 
--- its first event, and those behind it
+-- its first event, and those after it
 abbrev first_of : PlainBlock → EventView
 first_of (PlainParagraph l ms) = Start Paragraph
 first_of (PlainHeading level ts) = Start (tag_of (HeadingKind level))
@@ -167,7 +167,7 @@ module _ (how : Rendering) (source : List ℕ) (kept : Kept) where
   unfolding step advance flushed_before joins
   rule_walked q = refl
 
-  -- a block is pending behind its events
+  -- a block is pending after its events
   block_walked : (b : PlainBlock) (q : List Pair) → walk how source (beginning kept) (map unranged (plain_events b) ++ q) ≡ walk how source (behind kept (flat (tree b))) q
   block_walked (PlainParagraph l ms) q = started ParagraphKind (map unranged (rest_of (PlainParagraph l ms))) q ∙ lines_walked (Start Paragraph ∷ []) l ms q
   block_walked PlainRule q = rule_walked q
@@ -191,7 +191,7 @@ text_in o reading flags (PlainHeading level ts) = block_text o flags (heading_bl
 text_in o reading flags PlainRule = hyphens
 text_in o reading flags (PlainCode info ls) = row_bytes (Code o.code_block_token (fence_rest o info ls) info ls)
 
--- what a block has to be, so that its text stands there
+-- what a block has to be, so that its text is there
 abbrev pub StandsIn : OptionsView → (List ℕ → ParserOptions → ReadingView) → ParserOptions → PlainBlock → Type 0
 StandsIn o reading flags (PlainParagraph l ms) = AreLinesIn (setting_of o flags reading None) (preferred_manner o) (l ∷ ms)
 StandsIn o reading flags (PlainHeading level ts) = HasText (heading_block level ts)

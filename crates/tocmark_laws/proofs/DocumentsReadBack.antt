@@ -16,7 +16,7 @@ use Rattle.tocmark_reader.specs.Reading.{core_reading}
 use Rattle.tocmark_reader.proofs.PlainReading.{IsPrintable, spelled_text}
 use Rattle.tocmark_spelling.specs.Plan.{Setting, Manner}
 use Rattle.tocmark_spelling.specs.PlanOf.{setting_of}
-use Rattle.tocmark_render.specs.Candidates.{preferred_manner}
+use Rattle.tocmark_choose.specs.Candidates.{preferred_manner}
 use Rattle.tocmark_laws.specs.PlainLines.{is_line, PlacedLine, texts}
 use Rattle.tocmark_laws.specs.TextBlocks.{ParagraphKind, HeadingKind, place_in, tag_of}
 use Rattle.tocmark_laws.proofs.PlainCharacters.{parts_of}
@@ -210,7 +210,7 @@ module _ (o : OptionsView) (reading : List ℕ → ParserOptions → ReadingView
   some_feeds PlainRule = omega arith
   some_feeds (PlainCode info ls) = omega arith
 
-  -- behind a block enough line feeds stand for code to begin on a line of its own
+  -- after a block enough line feeds stand for code to begin on a line of its own
   before_is : (b c : PlainBlock) → feeds_before (owed_behind o b) c ≡ owed_behind o b
   before_is b (PlainParagraph l ms) = refl
   before_is b (PlainHeading level ts) = refl

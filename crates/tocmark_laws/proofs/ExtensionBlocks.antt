@@ -323,7 +323,7 @@ free_blocks syntax text l ls e h k =
 
 -- ---- lines of bytes
 
--- a line that begins nothing, wherever it stands
+-- a line that begins nothing, wherever it is
 pub record IsFreeText (l : List ℕ) : Type 0 where
   pub within : AllByRecursion IsWithin l
   pub begins : (at : ℕ) → BeginsFreely l (numbered at l)

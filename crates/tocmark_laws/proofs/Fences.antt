@@ -27,7 +27,7 @@ inner-run (b ∷ before) n c after =
 pub any-run : (n c : ℕ) (text : List ℕ) → HasRun n c text → n ≤ longest_run c text
 any-run n c text h = subst (λ t. n ≤ longest_run c t) (sym h.is) (inner-run h.before n c h.after)
 
--- no backtick stands behind the fence that is chosen
+-- no backtick is after the fence that is chosen
 no-clash : (token : ℕ) (info : List ℕ) → clashes (if clashes token info then 126 else token) info ≡ false
 no-clash token info = by_test (clashes token info) refl
   where

@@ -122,7 +122,7 @@ math_here syntax b bs h math fits =
 
 -- ---- the first pass
 
--- the pass behind a formula
+-- the pass after a formula
 abbrev behind : List ℕ → ℕ → ℕ → s.State
 behind xs n place = record { roles = Single (leaf.InlineMath (s.stretch 0 n)) (n + 2) ∷ replicate (n + 1) Plain; runs = []; brackets = []; inactive = 0; place = place; resume = n + 2; targets = []; texts = xs; missed = [] }
 

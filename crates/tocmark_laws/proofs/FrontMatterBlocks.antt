@@ -218,7 +218,7 @@ ended_page : (k : MetadataBlockKind) (header : HeaderLine) (pieces : List Piece)
 unfolding leaf_ended leaf_finished finished raised_at
 ended_page k header pieces end number l = rw (take-length pieces) refl
 
--- the fence behind them ends the metadata
+-- the fence after them ends the metadata
 last_line : (known : Known) (k : MetadataBlockKind) (header : HeaderLine) (text : List ℕ) (l : Line) (pieces : List Piece) (end number : ℕ) → closes_metadata k text l.start ≡ true → line_taken_in known text (metadata_page k header pieces end number) l ≡ metadata_ended k header pieces l.end l.number
 unfolding line_taken_in cells_taken_in touched
 last_line known k header text l pieces end number closes =
@@ -229,12 +229,12 @@ last_line known k header text l pieces end number closes =
 
 -- ---- the lines between the fences
 
--- the pieces of lines with a line feed behind each
+-- the pieces of lines with a line feed after each
 abbrev pub field_pieces : ℕ → List ℕ → List (List ℕ) → List Piece
 field_pieces start l [] = piece_of 0 start (start + length l) (start + length l + 1) ∷ []
 field_pieces start l (m ∷ ms) = piece_of 0 start (start + length l) (start + length l + 1) ∷ field_pieces (start + length l + 1) m ms
 
--- the lines and the fence behind them
+-- the lines and the fence after them
 abbrev fenced : MetadataBlockKind → List ℕ → List (List ℕ) → List ℕ
 fenced k l ms = lined l (ms ++ fence_of k ∷ [])
 
@@ -256,7 +256,7 @@ field_line known k header text pre l rest before start pieces end number e at h 
     (grind (arith, nat_tests))
     (field_open k text pre l rest start e at h)
 
--- where the fence behind the lines stands, and that it closes
+-- where the fence after the lines is, and that it closes
 closing_here : (k : MetadataBlockKind) (text pre : List ℕ) (n : ℕ) → text ≡ pre ++ fence_of k → n ≡ length pre → length text < 2 ^ 64 → closes_metadata k text n ≡ true
 closing_here k text pre n e at fits =
     let same : text ≡ pre ++ thrice (mark_of k) = e ∙ ap (λ (xs : List ℕ). pre ++ xs) (fence_is k) in
@@ -266,7 +266,7 @@ pub three_bytes : (k : MetadataBlockKind) → length (fence_of k) ≡ 3
 three_bytes YamlStyle = refl
 three_bytes PlusesStyle = refl
 
--- behind a line and its line feed
+-- after a line and its line feed
 moved_on : (text pre l more : List ℕ) → text ≡ pre ++ (l ++ 10 ∷ more) → text ≡ (pre ++ (l ++ 10 ∷ [])) ++ more
 moved_on text pre l more e = e ∙ ap (λ (xs : List ℕ). pre ++ xs) (sym (append_assoc l (10 ∷ []) more)) ∙ sym (append_assoc pre (l ++ 10 ∷ []) more)
 
@@ -297,7 +297,7 @@ fields_taken known k header text pre before start l (m ∷ ms) pieces end number
           ∙ ap (λ (ps : List Piece). metadata_ended k header ps (length text) (more.0)) (append_assoc pieces (p ∷ []) (field_pieces next m ms)),
     )
 
--- the last line that closes metadata stands below the first one
+-- the last line that closes metadata is below the first one
 closing_number : (k : MetadataBlockKind) (text pre : List ℕ) (before start found : ℕ) (l : List ℕ) (ms : List (List ℕ)) → text ≡ pre ++ fenced k l ms → start ≡ length pre → 0 < before → length text < 2 ^ 64 → (last : ℕ) × (1 < last) × (fold (last_step k text) found (line_list before start l (ms ++ fence_of k ∷ [])) ≡ last)
 unfolding last_step
 closing_number k text pre before start found l [] e at some fits =

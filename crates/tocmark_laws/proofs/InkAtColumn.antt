@@ -1,4 +1,4 @@
--- A letter behind a mark: at its column no container begins, and no leaf but a paragraph.
+-- A letter after a mark: at its column no container begins, and no leaf but a paragraph.
 use Rattle.std.proofs.Common.{◌≡◌, ℕ, suc, ◌+◌, ◌-◌, ◌^◌, ◌<◌, ◌≤◌, Bool, true, false, ◌==◌, ◌&&◌, ◌||◌, if◌then◌else◌, nat_lt, nat_le, List, [], ◌∷◌, ◌++◌, length, drop, reverse, slice_get, refl, ap, sym, ◌∙◌, arith, append_assoc, length-append, Option, None, Some}
 use Rattle.std.proofs.lemmas.Bool.Decides.{nat_tests}
 use Rattle.std.proofs.lemmas.List.{reverse-append}
@@ -33,7 +33,7 @@ use Rattle.tocmark_laws.proofs.WordsReading.{quiet_letter, free_letter}
 abbrev pub at_column : ℕ → Cursor
 at_column c = record { column = c; ink = c }
 
--- a byte stands at a column, with others behind it
+-- a byte is at a column, with others after it
 pub record StandsAt (cells : List Cell) (c b : ℕ) : Type 0 where
   pub some : nat_le (length cells) c ≡ false
   pub byte : cell_byte cells c ≡ b
@@ -201,7 +201,7 @@ length_reverse : {A : Type 0} (xs : List A) → length (reverse xs) ≡ length x
 length_reverse [] = refl
 length_reverse (x ∷ xs) = ap length (reverse-append (x ∷ []) xs) ∙ length-append (reverse xs) (x ∷ []) ∙ (let e : length (reverse xs) ≡ length xs = length_reverse xs in let q : length (reverse xs) + 1 ≡ suc (length xs) = omega (arith, e) in q)
 
--- the marks at the end of a line begin behind a letter of it
+-- the marks at the end of a line begin after a letter of it
 tail_begins : (xs : List Cell) (x : Cell) (ys : List Cell) (b : ℕ) → (x.byte == 32) ≡ false → (x.byte == b) ≡ false → tail_length (xs ++ x ∷ ys) b ≤ length ys
 tail_begins xs x ys b h k =
     let p : Cell → Bool = λ c. (c.byte == 32) || (c.byte == b) in
@@ -235,7 +235,7 @@ tail_after : (cells : List Cell) → (tail_of cells).from ≡ length cells - tai
 unfolding tail_of
 tail_after cells = refl
 
--- another byte behind the front keeps a line from being a thematic break
+-- another byte after the front keeps a line from being a thematic break
 pub no_rule_front : (xs : List Cell) (x : Cell) (ys : List Cell) (b : ℕ) → 0 < length xs → cell_byte (xs ++ x ∷ ys) 0 ≡ b → (x.byte == 32) ≡ false → (x.byte == b) ≡ false → is_rule (xs ++ x ∷ ys) (tail_of (xs ++ x ∷ ys)) 0 ≡ false
 no_rule_front xs x ys b some first space other =
     let cells : List Cell = xs ++ x ∷ ys in

@@ -18,7 +18,7 @@ use Rattle.tocmark_spelling.specs.PlanOf.{setting_of}
 use Rattle.tocmark_spelling.specs.Runs.{prefers_underscore}
 use Rattle.tocmark_spelling.specs.Spelling.{spelling}
 use Rattle.tocmark_spelling.specs.Stretch.{leaf_on}
-use Rattle.tocmark_render.specs.Choice.{preferred, spelled, document_after}
+use Rattle.tocmark_choose.specs.Choice.{preferred, spelled, document_after}
 use Rattle.tocmark_write_labels.specs.Definitions.{definitions_text}
 use Rattle.tocmark_write_labels.specs.Document.{DocumentView, first_document}
 use Rattle.tocmark_write_labels.specs.Ending.{last_texts, holds_raw_block}
@@ -39,7 +39,7 @@ unfolding needs_placeholder
 no-list dest title id text = refl
 
 module _ (o : OptionsView) (reading : List ℕ → ParserOptions → ReadingView) (flags : ParserOptions) (dest title id text : List ℕ) (off : o.check_plain_blocks ≡ false) where
-  -- the sheet before the text, behind it, and at the end
+  -- the sheet before the text, after it, and at the end
   abbrev opened : Sheet
   opened = laid [] (codes "[") (record { text = []; feeds = 0 })
 

@@ -185,7 +185,7 @@ list_ends sort first from to bs ps end number header = refl
 
 -- ---- an item begins
 
--- what is known of an item's mark with a line behind it
+-- what is known of an item's mark with a line after it
 pub record Begins (sort : ℕ) (first : Option ℕ) (mark : List ℕ) (b : ℕ) (bs : List ℕ) : Type 0 where
   pub body : List ℕ
   pub final : ℕ
@@ -198,7 +198,7 @@ pub record Begins (sort : ℕ) (first : Option ℕ) (mark : List ℕ) (b : ℕ) 
   pub colon : (k : ℕ) → (cell_byte (numbered k (mark ++ b ∷ bs)) 0 == 58) ≡ false
   pub item : (k : ℕ) → container_at (numbered k (mark ++ b ∷ bs)) (tail_of (numbered k (mark ++ b ∷ bs))) front false ≡ Some (begins.Item (record { sort = sort; number = first; width = length mark; next = length mark }))
 
--- behind it the list goes on, and the item doesn't
+-- after it the list goes on, and the item doesn't
 goes_on : (cells : List Cell) (sort to_end to_line block end number width : ℕ) → first_cursor cells ≡ front → nat_le (length cells) 0 ≡ false → 0 < width → matched cells (open_list sort to_end to_line ∷ open_item width block end number true ∷ []) [] ≡ (1, front)
 unfolding passed going_on item_goes_on stopped
 goes_on cells sort to_end to_line block end number width ink some wide =
@@ -250,7 +250,7 @@ module _ (known : Known) (text : List ℕ) (sort : ℕ) (first : Option ℕ) (ma
   none_found : (within : Bool) → container_in known.syntax cells (tail_of cells) (at_column width) within ≡ None
   none_found within = letter_opens_none known.syntax cells (tail_of cells) width b within there h.letter
 
-  -- behind an item that began, nothing else begins
+  -- after an item that began, nothing else begins
   second_none : (s : State) → container_once_in known.syntax text cells l (tail_of cells) place_behind s ≡ (s, None)
   unfolding container_once_in
   second_none s = ap (begun_at text cells l place_behind s) (none_found (goes_directly 2 s))
@@ -408,7 +408,7 @@ module _ (known : Known) (text : List ℕ) (sort : ℕ) (first : Option ℕ) (ma
 
   -- ---- the line comes
 
-  -- where the line stands in the text
+  -- where the line is in the text
   abbrev Stands : Type 0
   Stands = (bytes_between text from end ≡ mark ++ b ∷ bs) × (bytes_between text (from + width) end ≡ b ∷ bs) × ((byte_at text (from + width) == 91) ≡ false) × (from + width < next) × (from + length (mark ++ b ∷ bs) < 2 ^ 64)
 
@@ -489,7 +489,7 @@ abbrev pub items_pieces : ℕ → ItemLine → List ItemLine → List Piece
 items_pieces from i [] = piece_at from i [] ∷ []
 items_pieces from i (m ∷ ms) = piece_at from i (m ∷ ms) ∷ items_pieces (end_of from i + 1) m ms
 
--- the lines behind one
+-- the lines after one
 abbrev lines_past : ℕ → ℕ → List ItemLine → List Line
 lines_past before from [] = []
 lines_past before from (m ∷ ms) = line_list before from (item_bytes m) (map item_bytes ms)
@@ -498,7 +498,7 @@ one_line_more : (before from : ℕ) (m : ItemLine) (ms : List ItemLine) → line
 one_line_more before from m [] = refl
 one_line_more before from m (k ∷ ks) = refl
 
--- what stands behind an item
+-- what is after an item
 abbrev text_past : List ItemLine → List ℕ
 text_past [] = []
 text_past (m ∷ ms) = 10 ∷ lined (item_bytes m) (map item_bytes ms)

@@ -33,7 +33,7 @@ use Rattle.tocmark_laws.proofs.BlockSpelling.{text_leaf, page_of, blank}
 use Rattle.tocmark_laws.proofs.DocumentSpelling.{laid_some}
 use Rattle.tocmark_laws.proofs.PlainSpelling.{begun, within, spelled_leaf, spelled_end}
 use Rattle.tocmark_laws.proofs.BreakSpelling.{AreBareWords, letter_or_digit, no_digit, printable_bytes}
-use Rattle.tocmark_render.specs.Candidates.{preferred_manner}
+use Rattle.tocmark_choose.specs.Candidates.{preferred_manner}
 
 -- items of a line each, as trees
 abbrev pub item_trees : List (List ℕ) → Trees
@@ -63,7 +63,7 @@ laid_inside prefix (x ∷ xs) text h =
     let put : put_byte prefix x (within text) ≡ within (text ++ x ∷ []) = rw feed (ap (λ (ys : List ℕ). within (ys ++ x ∷ [])) (append-nil text)) in
     ap (laid prefix xs) put ∙ laid_inside prefix xs (text ++ x ∷ []) (h.1) ∙ ap within (append_assoc text (x ∷ []) xs)
 
--- no paragraph stands in such items
+-- no paragraph is in such items
 no_paragraph : (ls : List (List ℕ)) → some_child (has_tag is_paragraph) (item_trees ls) ≡ false
 no_paragraph [] = refl
 no_paragraph (l ∷ ls) = no_paragraph ls
@@ -82,7 +82,7 @@ no_lone_paragraph ls = ap (λ b. (count_tags is_item (item_trees ls) == 1) && (c
 abbrev pub marker_of : Option ℕ → ℕ → List ℕ
 marker_of number mark = item_marker (choice_of number mark)
 
--- items that stand behind another one, each on a line behind its marker
+-- items that are after another one, each on a line after its marker
 abbrev pub items_behind : OptionsView → Option ℕ → ℕ → List (List ℕ) → List ℕ
 items_behind o number mark [] = []
 items_behind o number mark (l ∷ ls) = 10 ∷ (marker_of number mark ++ (l ++ items_behind o (next_number o number) mark ls))
@@ -96,7 +96,7 @@ abbrev pub AreMarkers : OptionsView → Option ℕ → ℕ → List (List ℕ) �
 AreMarkers o number mark [] = Unit {0}
 AreMarkers o number mark (l ∷ ls) = (0 < length (marker_of number mark)) × AllByRecursion IsPrintable (marker_of number mark) × AreMarkers o (next_number o number) mark ls
 
--- the number behind all items
+-- the number after all items
 abbrev last_number : OptionsView → Option ℕ → List (List ℕ) → Option ℕ
 last_number o number [] = number
 last_number o number (l ∷ ls) = last_number o (next_number o number) ls
@@ -138,7 +138,7 @@ module _ (o : OptionsView) (reading : List ℕ → ParserOptions → ReadingView
   unfolding opening
   opened first number mark l a sheet last = refl
 
-  -- where its text stands
+  -- where its text is
   abbrev item_place : List ℕ → ℕ → Option ℕ → Option ℕ → ℕ → List ℕ → Surroundings
   item_place marker start first number mark text = place s m false (Some (End end.Item)) (in_item marker start (in_list first number mark)) (page_of (within text) 0 ItemStart None)
 
@@ -177,7 +177,7 @@ module _ (o : OptionsView) (reading : List ℕ → ParserOptions → ReadingView
   unfolding spelling
   entered l f a path p = refl
 
-  -- an item behind its gap
+  -- an item after its gap
   one_item : (first number : Option ℕ) (mark : ℕ) (l : List ℕ) (f : Trees) (a : Around) (sheet : Sheet) (last : Last) → AreBareWords l → laid [] (marker_of number mark) sheet ≡ within (sheet.text ++ marker_of number mark)
       → from_gap l f a (in_list first number mark) (page_of sheet 0 last None) ≡ spelling s m f (beyond Item (leaf (text_leaf l) empty) a) (in_list first (next_number o number) mark) (page_of (within ((sheet.text ++ marker_of number mark) ++ l)) owed item_end None)
   one_item first number mark l f a sheet last h laid_marker =

@@ -1,4 +1,4 @@
--- The text of a tight list as it is written: its items on a line each, behind a bullet, or behind their numbers.
+-- The text of a tight list as it is written: its items on a line each, after a bullet, or after their numbers.
 use Rattle.std.proofs.Common.{◌≡◌, ℕ, ◌+◌, ◌%◌, ◌^◌, ◌<◌, ◌≤◌, min, Bool, true, false, ◌==◌, if◌then◌else◌, nat_le, List, [], ◌∷◌, ◌++◌, length, refl, ap, sym, subst, ◌∙◌, arith, append_assoc, append-nil, length-append, Some, None, decimal, ◌⊎◌, inl, inr}
 use Rattle.std.proofs.lemmas.Bool.Decides.{nat_tests}
 use Rattle.std.proofs.lemmas.Fmt.{decimal_by_steps, decimal_is_IsNumeral, length-decimal-le}
@@ -105,7 +105,7 @@ number_tested n h =
 pub number_value : (n : ℕ) → n < 10 ^ 9 → digits_value 10 (decimal n) ≡ n
 number_value n h = (decimal_is_IsNumeral n (below n h)).1
 
--- the number behind another one
+-- the number after another one
 abbrev pub number_behind : OptionsView → ℕ → ℕ
 number_behind o n = if o.increment_ordered_list_bullets then min (n + 1) 999999999 else n
 
@@ -116,7 +116,7 @@ behind_below o n h = by_option o.increment_ordered_list_bullets
     by_option true = omega arith
     by_option false = h
 
--- the items behind a number on, each with its own
+-- the items after a number on, each with its own
 abbrev pub numbered : OptionsView → ℕ → List (List ℕ) → List NumberedLine
 numbered o n [] = []
 numbered o n (l ∷ ls) = record { digits = decimal n; line = l } ∷ numbered o (number_behind o n) ls

@@ -14,7 +14,7 @@ use Rattle.tocmark_reader.specs.PlainTexts.{IsReadAs}
 use Rattle.tocmark_reader.specs.Reading.{reading_of}
 use Rattle.tocmark_spelling.specs.Body.{some_leaf}
 use Rattle.tocmark_spelling.specs.Page.{Around}
-use Rattle.tocmark_render.specs.Candidates.{has_source, is_delimiter_tag, is_math, some_tag}
+use Rattle.tocmark_choose.specs.Candidates.{has_source, is_delimiter_tag, is_math, some_tag}
 use Rattle.tocmark_state.specs.Ranges.{unranged}
 use Rattle.tocmark_state.specs.Walk.{Walk, Done, nothing_yet, script}
 use Rattle.tocmark_state.specs.WorkView.{rendering}
@@ -72,7 +72,7 @@ front_some xs ys h = omega (arith, h, length-append xs ys)
 abbrev list_events : Option ℕ → List (List ℕ) → List EventView
 list_events first ls = Start (ListOf first) ∷ items_events ls ++ End (end_of (ListOf first)) ∷ []
 
--- exactly the items behind their markers are handed
+-- exactly the items after their markers are handed
 list_handed : (options : OptionsView) (first : Option ℕ) (l : List ℕ) (ms : List (List ℕ)) (reading : List ℕ → ParserOptions → ReadingView) (flags : ParserOptions) (source : List ℕ) → ArePlainOptions options → AreMarkers options first (token_of options first) (l ∷ ms) → list_all is_barless_line (l ∷ ms) ≡ true
     → script (rendering options reading) source (nothing_yet flags) (map unranged (list_events first (l ∷ ms))) ≡ one_text_walk (items_text options first (token_of options first) l ms)
 list_handed options first l ms reading flags source plain markers h =

@@ -19,11 +19,11 @@ use Rattle.tocmark_write_labels.specs.Reserved.{free_label, ids_of, reserved_lab
 use Rattle.tocmark_write_labels.specs.Units.{label_for, labelled}
 use Rattle.tocmark_write_pending.specs.Pending.{nested}
 use Rattle.tocmark_write_pending.specs.Units.{trees_of, waits}
-use Rattle.tocmark_render.specs.Candidates.{candidates, is_checked, preferred_manner}
-use Rattle.tocmark_render.specs.Choice.{Chosen, accepted, accepted_if, by_markers, choice, definitions_of, document_after, first_or, first_that_reads_back, has_standard_markers, if_read_back, page_read_back, preferred, spelled, unless_misplaced}
-use Rattle.tocmark_render.specs.Chosen.{choice_of, chosen}
-use Rattle.tocmark_render.specs.ReadsBack.{reads_back}
-use Rattle.tocmark_render.specs.Validates.{validates}
+use Rattle.tocmark_choose.specs.Candidates.{candidates, is_checked, preferred_manner}
+use Rattle.tocmark_choose.specs.Choice.{Chosen, accepted, accepted_if, by_markers, choice, definitions_of, document_after, first_or, first_that_reads_back, has_standard_markers, if_read_back, page_read_back, preferred, spelled, unless_misplaced}
+use Rattle.tocmark_choose.specs.Chosen.{choice_of, chosen}
+use Rattle.tocmark_choose.specs.ReadsBack.{reads_back}
+use Rattle.tocmark_choose.specs.Validates.{validates}
 use Rattle.tocmark_state.specs.Ranges.{Pair, resolved}
 use Rattle.tocmark_state.specs.Walk.{Done, Kept, Rendering, Standing, Walk, advance, advance_with, ended, ended_at, finished, finished_of, flush_of, flushed, flushed_before, flushed_or_deferred, go_on, is_due, joins, script, stay, step, walk, with_event}
 use Rattle.tocmark_state.specs.WorkView.{keeping, rendering_behind}
@@ -34,7 +34,7 @@ use Rattle.tocmark_laws.specs.LiteralLabels.{kept_with, standing_with}
 abbrev texts_with : List (List ℕ) → DocumentView → DocumentView
 texts_with texts d = record d { bracketed = texts }
 
--- a choice that leaves these texts, and its own behind them
+-- a choice that leaves these texts, and its own after them
 abbrev retexted : List (List ℕ) → Chosen → Chosen
 retexted texts (Ok x) = Ok (x.0, texts_with (bracketed_in texts x.0) x.1)
 retexted texts (Err e) = Err e
@@ -155,7 +155,7 @@ one_more reading flags ts us text h = by_test (list_any (λ b. b == 91) text)
 from_ok : (y : List ℕ × DocumentView) (ts : List (List ℕ)) (r : Chosen) → r ≡ Ok y → r ≡ Ok (y.0, texts_with ts y.1) → y.1.bracketed ≡ ts
 from_ok y ts r h k = let same : y ≡ (y.0, texts_with ts y.1) = cc in ap (λ (z : List ℕ × DocumentView). z.1.bracketed) same
 
--- a choice leaves the texts of its document, and its own behind them
+-- a choice leaves the texts of its document, and its own after them
 left_texts : (s : Setting) (d : DocumentView) (unit : List SourcedEvent) (next : Option EventView) (x : List ℕ × DocumentView) → chosen s d unit next ≡ Ok x → x.1.bracketed ≡ bracketed_in d.bracketed x.0
 left_texts s d unit next x h = from_ok x (bracketed_in d.bracketed x.0) (chosen s d unit next) h (chosen_alike s d unit d.bracketed refl next ∙ ap (retexted d.bracketed) h)
 
@@ -190,7 +190,7 @@ module _ (defined : List Reference) (options : OptionsView) (reading : List ℕ 
   done_alike ts us (Err x) (Ok s) f e h k = absurd h
   done_alike ts us (Err x) (Err y) f e h k = ap (λ (xs : List (List ℕ)). go_on xs (Err x) f) e ∙ ap (λ z. go_on us (Err z) f) h
 
-  -- a document behind which a unit is written
+  -- a document after which a unit is written
   known_with : (b : Bool) (labels texts : List (List ℕ)) (d : DocumentView) → known_unless b labels (texts_with texts d) ≡ texts_with texts (known_unless b labels d)
   known_with true labels texts d = refl
   known_with false labels texts d = refl
@@ -205,7 +205,7 @@ module _ (defined : List Reference) (options : OptionsView) (reading : List ℕ 
   abbrev setting : ParserOptions → Setting
   setting flags = setting_of options flags reading None
 
-  -- the choice behind the definitions
+  -- the choice after the definitions
   told_alike : (s : Standing) (texts : List (List ℕ)) (next : Option EventView) → literal_in reading s.document.flags texts ≡ literal_in reading s.document.flags s.document.document.bracketed → how.choice (kept_with texts s.document) s.pending next ≡ keeping s.document.flags (retexted texts (chosen (setting s.document.flags) (behind defined s.document.document) s.pending next))
   told_alike s texts next h =
       let flags : ParserOptions = s.document.flags in

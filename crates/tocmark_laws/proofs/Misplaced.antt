@@ -1,4 +1,4 @@
--- A node of a forest is misplaced just where an event of its list may not stand where it does.
+-- A node of a forest is misplaced just where an event of its list isn't allowed where it is.
 use Rattle.std.proofs.Common.{◌≡◌, ℕ, Bool, true, false, Option, None, List, [], ◌∷◌, ◌++◌, codes, drop, refl, sym, ap, ◌∙◌}
 use Rattle.std.proofs.lemmas.Bool.{false≢true}
 use Rattle.std.proofs.lemmas.List.{map-append}
@@ -13,7 +13,7 @@ use Rattle.tocmark_spelling.specs.Spelling.{spelling, is_misplaced, is_wrong_in}
 use Rattle.tocmark_spelling.proofs.Refusals.{none-misplaced}
 use Rattle.tocmark_laws.specs.Misplaced.{HasMisplacedStart, Marked, events_in, marked, marked_onto, open_behind}
 
--- whether some Start that is looked at may not stand in the containers that are open before it, where these were open first
+-- whether some Start that is looked at may not be in the containers that are open before it, where these were open first
 abbrev some_wrong : List TagView → List Marked → Bool
 some_wrong outside [] = false
 some_wrong outside ((Leaf l, looked) ∷ es) = some_wrong outside es

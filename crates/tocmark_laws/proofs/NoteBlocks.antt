@@ -1,4 +1,4 @@
--- The blocks of a paragraph and of a footnote behind a blank line.
+-- The blocks of a paragraph and of a footnote after a blank line.
 use Rattle.std.proofs.Common.{◌≡◌, ℕ, ◌+◌, ◌-◌, ◌^◌, ◌<◌, ◌≤◌, max, Bool, true, false, ◌==◌, if◌then◌else◌, nat_lt, nat_le, List, [], ◌∷◌, ◌++◌, length, refl, ap, sym, subst, ◌∙◌, arith, append_assoc, append-nil, length-append, Option, None, Some}
 use Rattle.std.proofs.lemmas.Bool.Decides.{nat_tests}
 use Rattle.std.specs.Char.{is_ascii_alphabetic}
@@ -135,7 +135,7 @@ blank_ends known text l header p end number e k =
 abbrev pub first_block : ℕ → Block
 first_block end = record { depth = 0; kind = kind.Paragraph; start = 0; end = end; first = 0; last = 1; loose = false; list = None; task = None }
 
--- a footnote whose name stands between two places
+-- a footnote whose name is between two places
 abbrev pub note_block : ℕ → ℕ → ℕ → ℕ → Block
 note_block from to a z = record { depth = 0; kind = kind.Note a z; start = from; end = to; first = 1; last = 1; loose = false; list = None; task = None }
 
@@ -145,7 +145,7 @@ note_text from to last = record { depth = 1; kind = kind.Paragraph; start = from
 abbrev open_note : ℕ → ℕ → Bool → Opened
 open_note end number had = record { container = container.Note; block = 1; end = end; line = number; had = had }
 
--- what stands in front of a footnote's text
+-- what is in front of a footnote's text
 abbrev pub note_mark : List ℕ → List ℕ
 note_mark name = in_brackets name ++ 58 ∷ 32 ∷ []
 
@@ -352,7 +352,7 @@ module _ (known : Known) (text : List ℕ) (x : ℕ) (xs : List ℕ) (inside : A
       ∙ ap (λ (ys : List ℕ). leaf_at cells ys (tail_of cells) (at_column width) false false) stands
       ∙ letter_begins_text cells (tail_of cells) width c cs false false there letter)
 
-  -- where the line stands in the text
+  -- where the line is in the text
   abbrev Stands : Type 0
   Stands = (bytes_between text from end ≡ row) × (bytes_between text (from + width) end ≡ c ∷ cs) × ((byte_at text (from + width) == 91) ≡ false) × (from + width < next) × (from + length row < 2 ^ 64)
 

@@ -76,7 +76,7 @@ is_text x xs h short =
     let few : nat_le (length (x ∷ xs)) 999 ≡ true = grind (arith, nat_tests) in
     rw (counted (x ∷ xs) h, few, ink_inside x (h.0)) refl
 
--- what stands in brackets is a label
+-- what is in brackets is a label
 pub label_here : (bytes pre : List ℕ) (x : ℕ) (xs rest : List ℕ) (from : ℕ) → bytes ≡ pre ++ ((x ∷ xs) ++ 93 ∷ rest) → from ≡ length pre → AllByRecursion IsInside (x ∷ xs) → length (x ∷ xs) < 1000 → length bytes < 2 ^ 64 → label_from bytes from ≡ Some (word from (from + length (x ∷ xs)) (from + length (x ∷ xs) + 1))
 unfolding label_from enclosed closing_of
 label_here bytes pre x xs rest from e at h short fits =
@@ -98,7 +98,7 @@ no_feed (x ∷ xs) h =
     let other : (x == 10) ≡ false = grind (arith, nat_tests) in
     rw other (no_feed xs (h.1))
 
--- behind a bracket and a caret it is one of a footnote
+-- after a bracket and a caret it is one of a footnote
 pub note_here : (bytes pre : List ℕ) (x : ℕ) (xs rest : List ℕ) (at : ℕ) → bytes ≡ pre ++ 91 ∷ 94 ∷ ((x ∷ xs) ++ 93 ∷ rest) → at ≡ length pre → AllByRecursion IsInside (x ∷ xs) → length (x ∷ xs) < 1000 → length bytes < 2 ^ 64 → note_label bytes at ≡ Some (word (at + 2) (at + 2 + length (x ∷ xs)) (at + 2 + length (x ∷ xs) + 1))
 unfolding note_label starts_at on_one_line
 note_here bytes pre x xs rest at e place h short fits =

@@ -259,7 +259,7 @@ module _ (syntax : Syntax) (has : syntax.footnotes ≡ true) (find : List ℕ �
       let back : n + 1 - 1 ≡ n = omega arith in
       rw (next, none_behind, own_here fits, back, name_here fits) refl
 
-  -- the pass behind the reference
+  -- the pass after the reference
   abbrev note_leaf : Role
   note_leaf = Single (leaf.Note (s.stretch 0 m)) size
 
@@ -348,7 +348,7 @@ module _ (syntax : Syntax) (has : syntax.footnotes ≡ true) (find : List ℕ �
       ∙ ap (λ (t : w.State). (w.flushed t).nodes) (single_written [] 1 0 n 0 (leaf.Note (s.stretch 0 m)) (m + 2) (omega arith) (omega (arith, size_is, fits)))
       ∙ ap (λ k. node 1 item.Text 0 n ∷ node 1 (item.Leaf (leaf.Note (s.stretch 0 m))) n k ∷ []) end
 
-  -- where they stand in the text
+  -- where they are in the text
   abbrev places : List (ℕ × ℕ)
   places = places_of 0 bytes
 

@@ -1,4 +1,4 @@
--- What a paragraph with a reference to a footnote is spelled as, and what the footnote behind it is.
+-- What a paragraph with a reference to a footnote is spelled as, and what the footnote after it is.
 use Rattle.std.proofs.Common.{◌≡◌, ℕ, ◌-◌, ◌≤◌, max, true, false, List, [], ◌∷◌, ◌++◌, codes, length, replicate, refl, ap, sym, ◌∙◌, arith, append_assoc, Option, Some, None}
 use Rattle.std.specs.Char.{char_set_contains}
 use Rattle.std.specs.List.{AllByRecursion}
@@ -16,7 +16,7 @@ use Rattle.tocmark_spelling.specs.Spelling.{spelling, then_site}
 use Rattle.tocmark_spelling.specs.Stretch.{leaf_on, place}
 use Rattle.tocmark_spelling.specs.Runs.{ahead_of, past, beyond, inside}
 use Rattle.tocmark_reader.proofs.PlainReading.{IsPrintable}
-use Rattle.tocmark_render.specs.Candidates.{preferred_manner}
+use Rattle.tocmark_choose.specs.Candidates.{preferred_manner}
 use Rattle.tocmark_laws.specs.Footnotes.{in_brackets}
 use Rattle.tocmark_laws.proofs.BlockSpelling.{text_leaf, page_of, blank}
 use Rattle.tocmark_laws.proofs.BreakSpelling.{AreBareWords, in_paragraph, letter_or_digit, no_digit, printable_bytes, words_laid}
@@ -45,14 +45,14 @@ brackets_shown label rest h k = (record { low = omega arith; high = omega arith 
     both [] h = k
     both (x ∷ xs) h = (h.0, both xs (h.1))
 
--- bytes behind the label
+-- bytes after the label
 bracket_shown : AllByRecursion IsPrintable (93 ∷ [])
 bracket_shown = (record { low = omega arith; high = omega arith }, tt)
 
 colon_shown : AllByRecursion IsPrintable (93 ∷ 58 ∷ 32 ∷ [])
 colon_shown = (record { low = omega arith; high = omega arith }, (record { low = omega arith; high = omega arith }, (record { low = omega arith; high = omega arith }, tt)))
 
--- two line feeds, and the note behind its label
+-- two line feeds, and the note after its label
 abbrev pub note_text : List ℕ → List ℕ → List ℕ
 note_text label note = 10 ∷ 10 ∷ (in_brackets label ++ 58 ∷ 32 ∷ note)
 
@@ -100,14 +100,14 @@ module _ (s : Setting) (token : char_set_contains (codes "*_") s.options.emphasi
 
   -- ---- the footnote
 
-  -- in the footnote, and in its paragraph, where both begin behind this text
+  -- in the footnote, and in its paragraph, where both begin after this text
   abbrev in_note : List ℕ → List ℕ → Path
   in_note label text = record { tag = FootnoteDefinition label; prefix = codes "    "; start = length text; content = Plain } ∷ []
 
   abbrev in_noted : List ℕ → List ℕ → Path
   in_noted label text = record { tag = Paragraph; prefix = []; start = length text; content = Plain } ∷ in_note label text
 
-  -- what stands in front of the note
+  -- what is in front of the note
   abbrev mark_of : List ℕ → List ℕ
   mark_of label = 91 ∷ 94 ∷ (label ++ 93 ∷ 58 ∷ 32 ∷ [])
 
@@ -156,7 +156,7 @@ module _ (s : Setting) (token : char_set_contains (codes "*_") s.options.emphasi
   text_joined label note =
       ap (λ (xs : List ℕ). 10 ∷ 10 ∷ 91 ∷ 94 ∷ xs) (append_assoc label (93 ∷ 58 ∷ 32 ∷ []) note ∙ sym (append_assoc label (93 ∷ []) (58 ∷ 32 ∷ note)))
 
-  -- the footnote behind the paragraph
+  -- the footnote after the paragraph
   pub record IsNotePage (label note : List ℕ) (a : Around) : Type 0 where
     pub page : Page
     pub is : spelling s m (node (FootnoteDefinition label) (note_trees note) empty) a [] (page_of blank feeds (BlockEnd end.Paragraph) None) ≡ Some (site [] page)

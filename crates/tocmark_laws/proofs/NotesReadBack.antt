@@ -14,12 +14,12 @@ use Rattle.tocmark_spelling.specs.Body as body
 use Rattle.tocmark_spelling.specs.Page.{Page}
 use Rattle.tocmark_spelling.specs.Plan.{Setting}
 use Rattle.tocmark_spelling.specs.PlanOf.{setting_of}
-use Rattle.tocmark_render.specs.Candidates.{preferred_manner}
-use Rattle.tocmark_render.specs.Choice as choice
-use Rattle.tocmark_render.specs.Choice.{spelled, accepted_if, document_after}
-use Rattle.tocmark_render.specs.Chosen.{chosen}
-use Rattle.tocmark_render.proofs.Chosen.{chosen-unlabelled}
-use Rattle.tocmark_render.proofs.PlainUnits.{choice-unasked}
+use Rattle.tocmark_choose.specs.Candidates.{preferred_manner}
+use Rattle.tocmark_choose.specs.Choice as choice
+use Rattle.tocmark_choose.specs.Choice.{spelled, accepted_if, document_after}
+use Rattle.tocmark_choose.specs.Chosen.{chosen}
+use Rattle.tocmark_choose.proofs.Chosen.{chosen-unlabelled}
+use Rattle.tocmark_choose.proofs.PlainUnits.{choice-unasked}
 use Rattle.tocmark_write_labels.specs.Definitions.{definitions_text}
 use Rattle.tocmark_write_labels.specs.Document.{DocumentView, first_document}
 use Rattle.tocmark_write_labels.specs.Ending.{last_texts, holds_raw_block}
@@ -59,7 +59,7 @@ module _ (o : OptionsView) (reading : List ℕ → ParserOptions → ReadingView
   abbrev second : body.Trees
   second = node u others empty
 
-  -- the second tree is pending behind the document that the first one leaves
+  -- the second tree is pending after the document that the first one leaves
   abbrev behind : DocumentView → Standing
   behind d = record (beginning (kept d)) { pending = flat second }
 
@@ -110,7 +110,7 @@ module _ (o : OptionsView) (reading : List ℕ → ParserOptions → ReadingView
       ∙ choice-unasked s d unit next unasked.undelimited plain.unchecked (ap (λ b. b && choice.has_standard_markers o) unasked.unsourced)
       ∙ ap (accepted_if s d) h
 
-  -- the document behind the paragraph
+  -- the document after the paragraph
   abbrev noted : List ℕ → List ℕ → DocumentView
   noted words label = document_after s first_document (noted_page s plain.emphasis (words ++ in_brackets label))
 

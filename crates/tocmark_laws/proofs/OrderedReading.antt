@@ -1,4 +1,4 @@
--- Lines of words behind numbers are read as a tight list with the first number.
+-- Lines of words after numbers are read as a tight list with the first number.
 use Rattle.std.proofs.Common.{◌≡◌, ℕ, suc, ◌+◌, ◌-◌, ◌*◌, ◌^◌, ◌<◌, ◌≤◌, min, true, false, ◌==◌, nat_lt, nat_le, List, [], ◌∷◌, ◌++◌, length, map, refl, ap, sym, subst, ◌∙◌, arith, append_assoc, length-append, Option, Some, true≢false}
 use Rattle.std.proofs.Math.Nat.{pow-le-pow_right}
 use Rattle.std.proofs.lemmas.Bool.Decides.{nat_tests}
@@ -74,7 +74,7 @@ number_read ds h few =
     let small : min (digits_value 10 ds) (2 ^ 64 - 1) ≡ digits_value 10 ds = omega (arith, below, most) in
     digits_read 0 ds h ∙ small
 
--- ---- an item behind a number
+-- ---- an item after a number
 
 digits_run : (k : ℕ) (ds : List ℕ) (c : ℕ) (rest : List ℕ) → AllByRecursion IsDigit ds → is_ascii_digit c ≡ false → length (take_while (λ (x : Cell). is_ascii_digit x.byte) (numbered k (ds ++ c ∷ rest))) ≡ length ds
 digits_run k [] c rest h other = ap length (take_while-cons (λ (x : Cell). is_ascii_digit x.byte) (cell c k) (numbered (k + 1) rest)) ∙ rw other refl
@@ -82,7 +82,7 @@ digits_run k (d ∷ ds) c rest h other =
     ap length (take_while-cons (λ (x : Cell). is_ascii_digit x.byte) (cell d k) (numbered (k + 1) (ds ++ c ∷ rest)))
     ∙ rw (h.0) (ap suc (digits_run (k + 1) ds c rest (h.1) other))
 
--- one space stands behind the mark
+-- one space is after the mark
 one_space : (k : ℕ) (ds : List ℕ) (c b : ℕ) (bs : List ℕ) → (b == 32) ≡ false → run_of (numbered k (ds ++ c ∷ 32 ∷ b ∷ bs)) (length ds + 1) 32 ≡ 1
 one_space k ds c b bs h =
     let pre : List ℕ = ds ++ c ∷ [] in

@@ -22,15 +22,15 @@ use Rattle.tocmark_spelling.specs.PlanOf.{setting_of}
 use Rattle.tocmark_spelling.specs.Spelling.{spelling}
 use Rattle.tocmark_spelling.specs.Stretch.{leaf_on}
 use Rattle.tocmark_write_texts.specs.Unescape.{unescape}
-use Rattle.tocmark_render.specs.Candidates.{is_delimiter_block, is_math}
-use Rattle.tocmark_render.specs.Choice.{preferred, spelled, document_after}
+use Rattle.tocmark_choose.specs.Candidates.{is_delimiter_block, is_math}
+use Rattle.tocmark_choose.specs.Choice.{preferred, spelled, document_after}
 use Rattle.tocmark_write_labels.specs.Definitions.{definitions_text}
 use Rattle.tocmark_write_labels.specs.Document.{DocumentView, first_document}
 use Rattle.tocmark_write_labels.specs.Ending.{last_texts, holds_raw_block}
 use Rattle.tocmark_write_pending.specs.Placeholder.{needs_placeholder}
-use Rattle.tocmark_render.specs.Chosen.{chosen}
-use Rattle.tocmark_render.proofs.Chosen.{chosen-unlabelled}
-use Rattle.tocmark_render.proofs.PlainUnits.{choice-unasked}
+use Rattle.tocmark_choose.specs.Chosen.{chosen}
+use Rattle.tocmark_choose.proofs.Chosen.{chosen-unlabelled}
+use Rattle.tocmark_choose.proofs.PlainUnits.{choice-unasked}
 use Rattle.tocmark_laws.specs.Paragraphs.{ReadsAs, ReadsAsSpan, paragraph_with, paragraph_of}
 use Rattle.tocmark_state.specs.WorkView.{keeping, rendering}
 use Rattle.tocmark_state.specs.Walk.{Walk, Done, done, finished_of, handed_text, nothing_yet, script, joins, flushed, flushed_before, advance, step, ended}

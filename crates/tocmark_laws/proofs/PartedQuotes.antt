@@ -317,7 +317,7 @@ abbrev pub paras_pieces : ℕ → QuoteLine → List QuoteLine → List Piece
 paras_pieces from q [] = para_piece from q [] ∷ []
 paras_pieces from q (m ∷ ms) = para_piece from q (m ∷ ms) ∷ paras_pieces (next_from from q) m ms
 
--- the lines behind one
+-- the lines after one
 abbrev lines_past : ℕ → ℕ → List QuoteLine → List Line
 lines_past before from [] = []
 lines_past before from (m ∷ ms) = line before from (from + 1) (from + 1 + 1) ∷ line_list (before + 1) (from + 1 + 1) (quoted_bytes false m) (further ms)
@@ -326,7 +326,7 @@ line_more : (before from : ℕ) (q : QuoteLine) (ms : List QuoteLine) → line_l
 line_more before from q [] = refl
 line_more before from q (m ∷ ms) = refl
 
--- what stands behind a line
+-- what is after a line
 abbrev text_past : List QuoteLine → List ℕ
 text_past [] = []
 text_past (m ∷ ms) = 10 ∷ 62 ∷ 10 ∷ parted_bytes m ms

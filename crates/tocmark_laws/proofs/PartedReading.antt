@@ -1,4 +1,4 @@
--- Lines of words behind `> `, with a blank line of the quote between two, are read as a quote with a paragraph for each.
+-- Lines of words after `> `, with a blank line of the quote between two, are read as a quote with a paragraph for each.
 use Rattle.std.proofs.Common.{◌≡◌, ℕ, suc, ◌+◌, ◌^◌, ◌<◌, ◌≤◌, Bool, true, false, if◌then◌else◌, nat_le, List, [], ◌∷◌, ◌++◌, length, map, refl, ap, sym, subst, ◌∙◌, arith, append_assoc, append-nil, length-append, Option, None}
 use Rattle.std.proofs.lemmas.Bool.Decides.{nat_tests}
 use Rattle.std.specs.List.{AllByRecursion, fold, list_all}

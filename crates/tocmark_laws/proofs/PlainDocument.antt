@@ -19,16 +19,16 @@ use Rattle.tocmark_spelling.specs.Plan.{Setting, Manner}
 use Rattle.tocmark_spelling.specs.PlanOf.{setting_of}
 use Rattle.tocmark_spelling.specs.Runs.{beyond}
 use Rattle.tocmark_spelling.specs.Spelling.{spelling, then_site}
-use Rattle.tocmark_render.specs.Candidates.{preferred_manner, has_source, is_delimiter_block, is_delimiter_tag, is_math, some_tag}
-use Rattle.tocmark_render.specs.Choice as choice
-use Rattle.tocmark_render.specs.Choice.{has_standard_markers, spelled, document_after, accepted_if, preferred}
+use Rattle.tocmark_choose.specs.Candidates.{preferred_manner, has_source, is_delimiter_block, is_delimiter_tag, is_math, some_tag}
+use Rattle.tocmark_choose.specs.Choice as choice
+use Rattle.tocmark_choose.specs.Choice.{has_standard_markers, spelled, document_after, accepted_if, preferred}
 use Rattle.tocmark_write_labels.specs.Definitions.{definitions_text}
 use Rattle.tocmark_write_labels.specs.Document.{DocumentView, first_document}
 use Rattle.tocmark_write_labels.specs.Ending.{last_texts, holds_raw_block, unless_empty}
 use Rattle.tocmark_write_pending.specs.Placeholder.{needs_placeholder, needs_placeholder_at}
-use Rattle.tocmark_render.specs.Chosen.{chosen}
-use Rattle.tocmark_render.proofs.Chosen.{chosen-unlabelled}
-use Rattle.tocmark_render.proofs.PlainUnits.{choice-unasked}
+use Rattle.tocmark_choose.specs.Chosen.{chosen}
+use Rattle.tocmark_choose.proofs.Chosen.{chosen-unlabelled}
+use Rattle.tocmark_choose.proofs.PlainUnits.{choice-unasked}
 use Rattle.tocmark_read_scan.proofs.PlainTests.{all_from}
 use Rattle.tocmark_laws.specs.PlainLines.{is_line, paragraph_of_lines, IsReadBack, HandsLines}
 use Rattle.tocmark_state.specs.Ranges.{Pair, unranged}
@@ -43,7 +43,7 @@ use Rattle.tocmark_laws.proofs.PlainSpelling.{line_trees, in_paragraph, page_of,
 abbrev inside : Kept → List SourcedEvent → Standing
 inside kept p = record (beginning kept) { pending = p; open_tags = end.Paragraph ∷ [] }
 
--- a standing behind a paragraph
+-- a standing after a paragraph
 abbrev behind : Kept → List SourcedEvent → Standing
 behind kept p = record (beginning kept) { pending = p }
 
@@ -58,7 +58,7 @@ more_walked : (how : Rendering) (source : List ℕ) (kept : Kept) (p : List Sour
 unfolding step advance flushed_before joins
 more_walked how source kept p l n ms = refl
 
--- all lines of a paragraph are pending behind it
+-- all lines of a paragraph are pending after it
 lines_walked : (how : Rendering) (source : List ℕ) (kept : Kept) (p : List SourcedEvent) (l : List ℕ) (ms : List (List ℕ)) → walk how source (inside kept p) (map unranged (line_events l ms ++ End end.Paragraph ∷ [])) ≡ stay (behind kept (p ++ flat_onto (line_trees l ms) to_end))
 lines_walked how source kept p l [] =
     one_walked how source kept p l ∙ ap (λ (q : List SourcedEvent). stay (behind kept q)) (append_assoc p (flat_onto (line_trees l []) []) to_end)

@@ -60,7 +60,7 @@ parts_mean p before o (c ∷ cs) =
 pub line_means : (p : Surroundings) (cs : List ℕ) → meant (parts_of p cs) ≡ cs
 line_means p cs = parts_mean p None true cs
 
--- behind digits stands neither `.` nor `)`
+-- after digits is neither `.` nor `)`
 no_number : (p : Surroundings) (b : ℕ) (cs : List ℕ) → IsInParagraph p → ends_number (spelled (parts_on p (Some b) true cs)) ≡ false
 no_number p b [] h = refl
 no_number p b (d ∷ ds) h =
@@ -76,7 +76,7 @@ no_number p b (d ∷ ds) h =
         bare true e m = rw e more
         bare false e m = rw (e, no_such p (Some b) true d 46 ds (at_dot p b ds h) m, no_such p (Some b) true d 41 ds (at_parenthesis p b ds h) m) refl
 
--- behind a mark that isn't escaped stands a byte that goes on
+-- after a mark that isn't escaped is a byte that goes on
 mark_goes_on : (p : Surroundings) (o q : Bool) (c : ℕ) (cs : List ℕ) → IsInParagraph p → is_alone p (spot_from None o c cs) ≡ false → GoesOn (spelled (parts_on p (Some c) q cs))
 mark_goes_on p o q c [] h e = absurd (true≢false (sym h.line ∙ e))
 mark_goes_on p o q c (d ∷ ds) h e =

@@ -29,7 +29,7 @@ written_on p before (c ∷ cs) h k =
 pub escape_is : (p : Surroundings) (cs : List ℕ) → IsInParagraph p → ArePrintable cs → escape p cs ≡ spelled (parts_of p cs)
 escape_is p cs h k = written_on p [] cs h k
 
--- a byte that no character before it makes a letter of, and no character behind it a mark of
+-- a byte that no character before it makes a letter of, and no character after it a mark of
 record Sides (p : Surroundings) (before : Option ℕ) (o : Bool) (c : ℕ) (cs : List ℕ) (b f : ℕ) : Type 0 where
   letter_before : option_map_or is_alphanumeric before false ≡ true → is_ascii_alphanumeric b ≡ true
   letter_behind : option_map_or is_alphanumeric (slice_get cs 0) false ≡ true → is_ascii_alphanumeric f ≡ true
@@ -80,7 +80,7 @@ bare_is_plain p before o c cs b f print n amp sides = by_tests (c == 92) refl (c
       underscore = u;
     })
 
--- the first byte behind a character
+-- the first byte after a character
 abbrev first_behind : Surroundings → ℕ → Bool → List ℕ → List Part → ℕ
 first_behind p c o cs more = byte_at (spelled (parts_on p (Some c) o cs ++ more)) 0
 
@@ -137,7 +137,7 @@ pub last_append : (b : ℕ) (xs ys : List ℕ) → last_byte b (xs ++ ys) ≡ la
 last_append b [] ys = refl
 last_append b (x ∷ xs) ys = last_append x xs ys
 
--- parts of a line, with plain parts behind them, are plain
+-- parts of a line, with plain parts after them, are plain
 pub line_parts_plain : (p : Surroundings) (before : Option ℕ) (o : Bool) (cs : List ℕ) (b : ℕ) (more : List Part) → IsInParagraph p → ArePrintable cs → IsLetterBefore before b → byte_at (spelled more) 0 ≡ 10 → ArePlainParts (last_byte b (spelled (parts_on p before o cs))) more → ArePlainParts b (parts_on p before o cs ++ more)
 line_parts_plain p before o [] b more h k e f rest = rest
 line_parts_plain p before o (c ∷ cs) b more h k e f rest =

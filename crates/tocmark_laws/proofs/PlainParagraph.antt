@@ -84,7 +84,7 @@ unfolding ends_line
 next_ends [] = refl
 next_ends (m ∷ ms) = refl
 
--- such lines may stand at their places
+-- such lines may be at their places
 pub lines_stand : (s : Setting) (m : Manner) (ls : List (List ℕ)) → Escapes s m → AllByRecursion IsLineText ls → AreLinesIn s m ls
 lines_stand s m [] e h = tt
 lines_stand s m (l ∷ ls) e h = (

@@ -146,7 +146,7 @@ all_placed s m (l ∷ ls) = placed s m l ls ∷ all_placed s m ls
 abbrev pub lines_text : Setting → Manner → List ℕ → List (List ℕ) → List ℕ
 lines_text s m l ms = escaped_text (placed s m l ms) (all_placed s m ms)
 
--- each line may stand at its place
+-- each line may be at its place
 abbrev pub AreLinesIn : Setting → Manner → List (List ℕ) → Type 0
 AreLinesIn s m [] = Unit {0}
 AreLinesIn s m (l ∷ ls) = IsLine (placed s m l ls) × AreLinesIn s m ls
@@ -168,7 +168,7 @@ pub spelled_end : (s : Setting) (m : Manner) (a : Around) (here : Site) → spel
 unfolding spelling
 spelled_end s m a here = refl
 
--- what lines behind a soft break are spelled as
+-- what lines after a soft break are spelled as
 later_lines : (s : Setting) (m : Manner) (text l : List ℕ) (ms : List (List ℕ)) (before after : List SourcedEvent) (next : Option EventView) (refs : List Reference) → m.source ≡ false → AreLinesIn s m (l ∷ ms) → spelling s m (line_trees l ms) (around (Leaf break_leaf ∷ before) (End end.Paragraph ∷ after) next) in_paragraph (page_of (begun text) Inline refs) ≡ Some (site_of (within (text ++ lines_text s m l ms)) refs)
 later_lines s m text l [] before after next refs k h =
     let sheet = laid_escape (placed s m l []) (begun text) (h.0) in

@@ -62,10 +62,10 @@ use Rattle.tocmark_laws.proofs.NoteBlocks.{blank_starts, blank_leaf, no_blank_ro
 use Rattle.tocmark_laws.proofs.InkAtColumn.{StandsAt, at_column, stands_at, letter_opens_none, letter_begins_text, place_numbered, piece_there}
 use Rattle.tocmark_laws.proofs.WordsReading.{free_letter}
 
--- ---- how a quote stands: at the front of its text; or as it is written, behind a blank line and a line with nothing
+-- ---- how a quote is: at the front of its text; or as it is written, after a blank line and a line with nothing
 -- but a mark, where each mark has a space in front of it
 
--- what stands in front of a line's space
+-- what is in front of a line's space
 abbrev pub mark_front : Bool → List ℕ
 mark_front false = 62 ∷ []
 mark_front true = 32 ∷ 62 ∷ []
@@ -76,7 +76,7 @@ line_mark low = mark_front low ++ 32 ∷ []
 abbrev pub width : Bool → ℕ
 width low = length (line_mark low)
 
--- where its first line of words begins, and how many lines stand before it
+-- where its first line of words begins, and how many lines are before it
 abbrev pub first_place : Bool → ℕ
 first_place false = 0
 first_place true = 5
@@ -85,7 +85,7 @@ abbrev pub lines_before : Bool → ℕ
 lines_before false = 0
 lines_before true = 2
 
--- where its first mark stands
+-- where its first mark is
 abbrev pub mark_place : Bool → ℕ
 mark_place false = 0
 mark_place true = 2
@@ -158,7 +158,7 @@ quote_ends low text p ps end number header at h =
 
 -- ---- a line of it
 
--- a letter, and what stands behind it in its line
+-- a letter, and what is after it in its line
 pub record QuoteLine : Type 0 where
   pub letter : ℕ
   pub others : List ℕ
@@ -238,7 +238,7 @@ more_of : (low : Bool) (from : ℕ) (xs : List ℕ) → 0 < length (numbered fro
 more_of false from xs = omega arith
 more_of true from xs = omega arith
 
--- the text of a kind would stand behind the mark
+-- the text of a kind would be after the mark
 code_starts : (low : Bool) (from b : ℕ) (bs : List ℕ) (l : Line) → (code_piece (numbered from (line_mark low ++ b ∷ bs)) (width low) l).start ≡ from + width low
 unfolding code_piece is_split
 code_starts false from b bs l =
@@ -250,7 +250,7 @@ code_starts true from b bs l =
     let one : from + 1 + 1 + 1 ≡ from + 3 = omega arith in
     rw (other, never) one
 
--- behind the mark and its space
+-- after the mark and its space
 behind_mark : (low : Bool) (from b : ℕ) (bs : List ℕ) → (b == 32) ≡ false → after_quote (numbered from (line_mark low ++ b ∷ bs)) (line_front low) ≡ at_column (width low)
 unfolding after_quote moved
 behind_mark false from b bs h = rw h refl
@@ -307,12 +307,12 @@ module _ (low : Bool) (known : Known) (text : List ℕ) (q : QuoteLine) (h : IsQ
   none_found : (within : Bool) → container_in known.syntax cells (tail_of cells) (at_column (width low)) within ≡ None
   none_found within = letter_opens_none known.syntax cells (tail_of cells) (width low) b within there h.letter
 
-  -- nothing begins behind the mark
+  -- nothing begins after the mark
   pub none_begins : (s : State) → container_once_in known.syntax text cells l (tail_of cells) place_behind s ≡ (s, None)
   unfolding container_once_in
   none_begins s = ap (begun_at text cells l place_behind s) (none_found (goes_directly 1 s))
 
-  -- where the line stands in the text
+  -- where the line is in the text
   abbrev pub Stands : Type 0
   Stands = (bytes_between text from end ≡ line_mark low ++ b ∷ bs) × (bytes_between text (from + width low) end ≡ b ∷ bs) × ((byte_at text (from + width low) == 91) ≡ false) × (from + width low < next) × (from + length (line_mark low ++ b ∷ bs) < 2 ^ 64)
 
@@ -325,7 +325,7 @@ module _ (low : Bool) (known : Known) (text : List ℕ) (q : QuoteLine) (h : IsQ
   place_is : cell_place cells (width low) end ≡ from + width low
   place_is = place_numbered from (line_mark low) b bs end
 
-  -- no extension has a say behind the mark
+  -- no extension has a say after the mark
   no_kind : (s : State) → Stands → quote_kind_in known text cells l place_behind s ≡ None
   unfolding quote_kind_in
   no_kind s w =
@@ -597,7 +597,7 @@ rows_of low qs = map (quoted_bytes low) qs
 abbrev pub quote_rows : Bool → QuoteLine → List QuoteLine → List ℕ
 quote_rows low q qs = lined (quoted_bytes low q) (rows_of low qs)
 
--- the lines behind one
+-- the lines after one
 abbrev lines_past : Bool → ℕ → ℕ → List QuoteLine → List Line
 lines_past low before from [] = []
 lines_past low before from (m ∷ ms) = line_list before from (quoted_bytes low m) (rows_of low ms)
@@ -657,7 +657,7 @@ more_read low known text pre before from p0 ps end0 number0 header m (k ∷ ks) 
           ∙ ap (λ (qs : List Piece). quoted low p0 qs (length text) (rest.0) (rest.1)) (append_assoc ps (p ∷ []) (quote_pieces low (end + 1) k ks)),
     )
 
--- where the first line of words stands, behind a front of the text
+-- where the first line of words is, after a front of the text
 abbrev first_line : Bool → QuoteLine → List QuoteLine → Line
 first_line low q ms = line (lines_before low) (first_place low) (end_of low (first_place low) q) (next_place (end_of low (first_place low) q) ms)
 
@@ -699,7 +699,7 @@ lines_text low (q ∷ qs) h = (record { some = some_bytes low q; within = (h.0).
 
 -- ---- the text
 
--- what stands in front of its first line of words
+-- what is in front of its first line of words
 abbrev pub first_feed : Bool → List ℕ
 first_feed false = []
 first_feed true = 10 ∷ 32 ∷ 62 ∷ 32 ∷ 10 ∷ []

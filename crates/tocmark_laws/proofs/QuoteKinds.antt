@@ -92,7 +92,7 @@ line_shown k =
     let mark : (b : ℕ) → 32 ≤ b → b < 127 → IsPrintable b = λ b low high. record { low = low; high = high } in
     (mark 62 (omega arith) (omega arith), (mark 32 (omega arith) (omega arith), (mark 91 (omega arith) (omega arith), (mark 33 (omega arith) (omega arith), all_both IsPrintable (kind_word k) (93 ∷ []) (word_shown k) (mark 93 (omega arith) (omega arith), tt)))))
 
--- what stands behind the mark names the kind
+-- what is after the mark names the kind
 kind_is : (k : BlockQuoteKind) → quote_kind_of (91 ∷ 33 ∷ (kind_word k ++ 93 ∷ [])) ≡ Some k
 unfolding quote_kind_of kind_named same_word
 kind_is Note = refl

@@ -1,4 +1,4 @@
--- Lines of words behind `> ` are read as a quote of a paragraph.
+-- Lines of words after `> ` are read as a quote of a paragraph.
 use Rattle.std.proofs.Common.{◌≡◌, ℕ, zero, suc, ◌+◌, ◌-◌, ◌^◌, ◌<◌, ◌≤◌, Bool, true, false, ◌==◌, if◌then◌else◌, nat_lt, nat_le, List, [], ◌∷◌, ◌++◌, length, map, slice_get, refl, ap, sym, subst, ◌∙◌, arith, append_assoc, append-nil, length-append, Option, None, Some}
 use Rattle.std.proofs.lemmas.Bool.Decides.{nat_tests}
 use Rattle.std.specs.List.{AllByRecursion, fold, list_all, list_any}
@@ -49,7 +49,7 @@ use Rattle.tocmark_laws.proofs.WordsReading.{AreWords, words_from}
 abbrev AreLines : List ℕ → List NextLine → Type 0
 AreLines l ms = AllByRecursion AreWords (l ∷ lines_behind ms)
 
--- ---- a text of lines behind marks
+-- ---- a text of lines after marks
 
 -- the first line without its mark, and the others with theirs
 abbrev marked_text : Bool → List ℕ → List NextLine → List ℕ
@@ -60,7 +60,7 @@ marked_text low l (m ∷ ms) = l ++ (end_bytes m.behind ++ 10 ∷ (line_mark low
 abbrev pub quote_text : Bool → List ℕ → List NextLine → List ℕ
 quote_text low l ms = first_feed low ++ (line_mark low ++ marked_text low l ms)
 
--- what stands in front of its first words, and where these do
+-- what is in front of its first words, and where these do
 abbrev quote_front : Bool → List ℕ
 quote_front low = first_feed low ++ line_mark low
 
@@ -188,7 +188,7 @@ text_moved before more xs c p n at some within =
     moved_at (before ++ (places_of p xs ++ more)) item.Text c (c + n) (p + 0, p + 0 + 1) (p + (n - 1), p + (n - 1) + 1) first last
     ∙ ap (λ k. node 2 item.Text k (p + (n - 1) + 1)) none ∙ ap (λ k. node 2 item.Text p k) all
 
--- a break behind a text
+-- a break after a text
 break_moved : (before more : List (ℕ × ℕ)) (l gap : List ℕ) (i : InlineKind) (c p end : ℕ) → c ≡ length before → end ≡ p + length l + length gap → w.moved (before ++ (places_of p (l ++ gap) ++ (end, end + 1) ∷ more)) (node 2 i (c + length l) (c + length l + 1 + length gap)) ≡ node 2 i (p + length l) (end + 1)
 break_moved before more l gap i c p end at to = by_gap gap refl
   where
@@ -533,12 +533,12 @@ quotes_read syntax l ms all fits =
     let same : quoted_text l ms ≡ quote_text false l ms = flush_is l ms in
     subst (λ (xs : List ℕ). IsReadAs (reading_of syntax xs) (quoted_paragraph l ms)) (sym same) (quote_read false syntax l ms all (subst (λ (xs : List ℕ). length xs < 2 ^ 64) same fits))
 
--- lines, each behind a space and `> `
+-- lines, each after a space and `> `
 abbrev pub spaced_quote : List ℕ → List NextLine → List ℕ
 spaced_quote l [] = 32 ∷ 62 ∷ 32 ∷ l
 spaced_quote l (m ∷ ms) = 32 ∷ 62 ∷ 32 ∷ (l ++ (end_bytes m.behind ++ 10 ∷ spaced_quote m.line ms))
 
--- the same behind a blank line and a line with nothing but a mark
+-- the same after a blank line and a line with nothing but a mark
 abbrev pub low_quote : List ℕ → List NextLine → List ℕ
 low_quote l ms = 10 ∷ 32 ∷ 62 ∷ 32 ∷ 10 ∷ spaced_quote l ms
 

@@ -18,7 +18,7 @@ use Rattle.tocmark_spelling.specs.Spelling.{spelling, then_site}
 use Rattle.tocmark_spelling.specs.Stretch.{leaf_on}
 use Rattle.tocmark_spelling.specs.Runs.{ahead_of, past, beyond, inside}
 use Rattle.tocmark_reader.proofs.PlainReading.{IsPrintable}
-use Rattle.tocmark_render.specs.Candidates.{preferred_manner}
+use Rattle.tocmark_choose.specs.Candidates.{preferred_manner}
 use Rattle.tocmark_laws.specs.HardBreaks.{LineEnd, Softly, ByBackslash, BySpaces, NextLine, end_bytes, break_of, lines_behind}
 use Rattle.tocmark_laws.proofs.AloneHanded.{IsSpelledAlone, nowhere}
 use Rattle.tocmark_laws.proofs.BlockSpelling.{text_leaf, page_of, blank}
@@ -31,11 +31,11 @@ use Rattle.tocmark_laws.proofs.WordEscapes.{IsWordPlace, words_escaped}
 abbrev site : Path → Page → Site
 site path page = record { path = path; page = page }
 
--- what stands before each line
+-- what is before each line
 abbrev mark : List ℕ
 mark = codes " > "
 
--- what stands in front of the lines
+-- what is in front of the lines
 abbrev front : List ℕ
 front = codes "\n > \n"
 

@@ -134,7 +134,7 @@ last_end : (bytes : List ℕ) (p : ℕ) → drop p bytes ≡ 126 ∷ 126 ∷ [] 
 unfolding run_end is_in
 last_end bytes p e fits = let two : plus p 2 ≡ p + 2 = omega (arith, fits) in rw (e, two) refl
 
--- where the phrase stands
+-- where the phrase is
 record IsPlaced (b : ℕ) (bs : List ℕ) : Type 0 where
   size : length (in_tildes (b ∷ bs)) ≡ length (b ∷ bs) + 4
   left : drop (length (b ∷ bs) + 2) (in_tildes (b ∷ bs)) ≡ 126 ∷ 126 ∷ []
@@ -277,7 +277,7 @@ roles_set n =
     ∙ set_behind longer [] Plain (Close (n + 4)) (n + 4 - 1) fourth
     ∙ append_assoc front_roles (Hidden ∷ []) (Close (n + 4) ∷ [])
 
--- the pass behind the phrase
+-- the pass after the phrase
 abbrev behind : ℕ → s.State
 behind n = record { roles = struck_roles n; runs = []; brackets = []; inactive = 0; place = n + 4; resume = n + 4; targets = []; texts = []; missed = [] }
 

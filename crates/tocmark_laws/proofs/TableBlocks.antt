@@ -309,7 +309,7 @@ module _ (header : List (List ℕ)) (c : PlainColumn) (cs : List PlainColumn) (r
   abbrev pub bytes : List ℕ
   bytes = lined head (delimiters ∷ map row_line rows)
 
-  -- where the delimiter row begins, and the rows behind it
+  -- where the delimiter row begins, and the rows after it
   abbrev pub second : ℕ
   second = 0 + length head + 1
 
@@ -329,7 +329,7 @@ module _ (header : List (List ℕ)) (c : PlainColumn) (cs : List PlainColumn) (r
   first_read : (known : Known) → known.syntax.tables ≡ true → IsRow header → length bytes < 2 ^ 64 → line_taken_in known bytes first_page (line 0 0 (0 + length head) second) ≡ header_alone (0 + length head)
   first_read known has h fits = header_taken known bytes (lined delimiters (map row_line rows)) header has h refl (omega (arith, all_width, fits))
 
--- the lines behind the header
+-- the lines after the header
 later_read : (known : Known) (header : List (List ℕ)) (c : PlainColumn) (cs : List PlainColumn) (rows : List (List (List ℕ))) → known.syntax.tables ≡ true → IsRow header → length header ≡ length (c ∷ cs) → AllByRecursion IsWithin (row_line (map column_bytes (c ∷ cs))) → AreRows (length (c ∷ cs)) rows → length (bytes header c cs rows) < 2 ^ 64
     → (last : ℕ) × (fold (line_taken_in known (bytes header c cs rows)) (header_alone (0 + length (row_line header))) (line_list 1 (second header c cs rows) (row_line (map column_bytes (c ∷ cs))) (map row_line rows))
     ≡ header_page (open_table (length (c ∷ cs))) (length (bytes header c cs rows)) last (table_block (second header c cs rows) (third header c cs rows) 0 ∷ (head_blocks header c cs rows ++ rows_blocks (third header c cs rows + 1) rows)))

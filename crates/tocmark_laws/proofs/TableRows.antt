@@ -42,7 +42,7 @@ bar_found end place before (x ∷ xs) rest h k fits =
     ∙ bar_found end (place + 1) x xs rest (h.1) (h.0).slash (omega arith)
     ∙ far
 
--- where a cell ends, behind which stands its bar
+-- where a cell ends, after which is its bar
 cell_ends : (text pre cell mid rest : List ℕ) (place end : ℕ) → text ≡ pre ++ ((cell ++ 124 ∷ mid) ++ rest) → place ≡ length pre → end ≡ length pre + length (cell ++ 124 ∷ mid) → AreInside cell → end < 2 ^ 64 → cell_end text end place ≡ Some (place + length cell)
 unfolding cell_end
 cell_ends text pre cell mid rest place end e at to h fits =
@@ -92,7 +92,7 @@ header_page l end number blocks = record {
   filled = 0;
 }
 
--- behind a cell stand the others
+-- after a cell are the others
 pub next_cell : (text pre c others rest : List ℕ) → text ≡ pre ++ ((c ++ 124 ∷ others) ++ rest) → text ≡ (pre ++ (c ++ 124 ∷ [])) ++ (others ++ rest)
 next_cell text pre c others rest t =
     t
@@ -119,7 +119,7 @@ cells_pushed text pre rest l e number end place (c ∷ cs) blocks t at to h fits
     ∙ cells_pushed text (pre ++ (c ++ 124 ∷ [])) rest l e number end (bar + 1) cs (blocks ++ row_part 2 kind.TableCell place bar ∷ []) more (omega (arith, at, longer)) (omega (arith, to, width, longer)) (h.1) fits
     ∙ ap (λ (bs : List Block). (header_page l e number bs, end)) (append_assoc blocks (row_part 2 kind.TableCell place bar ∷ []) (cell_blocks (bar + 1) cs))
 
--- the first cell stands behind the bar in front
+-- the first cell is after the bar in front
 first_behind : (text pre rest : List ℕ) (start : ℕ) → text ≡ pre ++ 124 ∷ rest → start ≡ length pre → start + 1 < 2 ^ 64 → first_cell text start ≡ start + 1
 unfolding first_cell
 first_behind text pre rest start t at fits =
@@ -127,7 +127,7 @@ first_behind text pre rest start t at fits =
     let next : plus start 1 ≡ start + 1 = omega (arith, fits) in
     rw (first, next) refl
 
--- a row that stands in a text, as the blocks of the row and its cells
+-- a row that is in a text, as the blocks of the row and its cells
 pub row_is_put : (text pre rest : List ℕ) (k : BlockKind) (l : Leaf) (e number start end : ℕ) (cells : List (List ℕ)) (blocks : List Block) → text ≡ pre ++ (row_line cells ++ rest) → start ≡ length pre → end ≡ length pre + length (row_line cells) → AllByRecursion AreInside cells → end < 2 ^ 64 → row_put text k (length cells) start end (header_page l e number blocks) ≡ header_page l e number (blocks ++ row_part 1 k start end ∷ cell_blocks (start + 1) cells)
 unfolding row_put row_pushed
 row_is_put text pre rest k l e number start end cells blocks t at to h fits =
@@ -228,7 +228,7 @@ unfolding columns_step column_step
 dashes_skipped found l zero rest = refl
 dashes_skipped found l (suc k) rest = dashes_skipped found l k rest
 
--- whether a column has a colon in front, and one behind
+-- whether a column has a colon in front, and one after
 abbrev has_left : Alignment → Bool
 has_left align.None = false
 has_left align.Left = true

@@ -25,7 +25,7 @@ use Rattle.tocmark_spelling.specs.Spelling.{spelling, then_site, body_or_id, ski
 use Rattle.tocmark_spelling.specs.Stretch.{leaf_on, place}
 use Rattle.tocmark_spelling.specs.Runs.{ahead_of, past, beyond, inside}
 use Rattle.tocmark_reader.proofs.PlainReading.{IsPrintable}
-use Rattle.tocmark_render.specs.Candidates.{preferred_manner}
+use Rattle.tocmark_choose.specs.Candidates.{preferred_manner}
 use Rattle.tocmark_laws.proofs.AloneHanded.{IsSpelledAlone, nowhere}
 use Rattle.tocmark_laws.proofs.BlockSpelling.{text_leaf, page_of, blank}
 use Rattle.tocmark_laws.proofs.BreakSpelling.{printable_bytes}
@@ -93,12 +93,12 @@ bare_ascii [] h i = omega arith
 bare_ascii (x ∷ xs) h zero = let high : x < 127 = (h.0).word.printable.high in omega arith
 bare_ascii (x ∷ xs) h (suc i) = bare_ascii xs (h.1) i
 
--- cells, each behind a bar
+-- cells, each after a bar
 abbrev pub bars_before : List (List ℕ) → List ℕ
 bars_before [] = []
 bars_before (l ∷ ls) = 124 ∷ (l ++ bars_before ls)
 
--- the widths of cells behind others
+-- the widths of cells after others
 abbrev pub widths_with : List ℕ → List (List ℕ) → List ℕ
 widths_with widths [] = widths
 widths_with widths (l ∷ ls) = widths_with (widths ++ length l ∷ []) ls

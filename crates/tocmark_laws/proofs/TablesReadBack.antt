@@ -17,7 +17,7 @@ use Rattle.tocmark_reader.specs.Reading.{reading_of}
 use Rattle.tocmark_reader.proofs.PlainReading.{IsPrintable}
 use Rattle.tocmark_spelling.specs.Body.{some_leaf}
 use Rattle.tocmark_spelling.specs.Page.{Around}
-use Rattle.tocmark_render.specs.Candidates.{has_source, is_delimiter_tag, is_math, some_tag}
+use Rattle.tocmark_choose.specs.Candidates.{has_source, is_delimiter_tag, is_math, some_tag}
 use Rattle.tocmark_state.specs.Ranges.{unranged}
 use Rattle.tocmark_state.specs.Walk.{Walk, Done, nothing_yet, script}
 use Rattle.tocmark_state.specs.WorkView.{rendering}

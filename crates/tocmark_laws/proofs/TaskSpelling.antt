@@ -17,7 +17,7 @@ use Rattle.tocmark_spelling.specs.Plan.{Setting}
 use Rattle.tocmark_spelling.specs.PlanOf.{setting_of}
 use Rattle.tocmark_spelling.specs.Spelling.{spelling}
 use Rattle.tocmark_spelling.specs.Stretch.{leaf_on}
-use Rattle.tocmark_render.specs.Candidates.{preferred_manner}
+use Rattle.tocmark_choose.specs.Candidates.{preferred_manner}
 use Rattle.tocmark_laws.proofs.AloneHanded.{IsSpelledAlone, nowhere}
 use Rattle.tocmark_laws.proofs.BlockSpelling.{text_leaf, page_of, blank}
 use Rattle.tocmark_laws.proofs.BreakSpelling.{AreBareWords, letter_or_digit, no_digit, printable_bytes}
@@ -32,7 +32,7 @@ box_leaf done = record { leaf = TaskListMarker done; source = None }
 abbrev pub task_trees : Bool → List ℕ → Trees
 task_trees done phrase = node Item (leaf (box_leaf done) (leaf (text_leaf phrase) empty)) empty
 
--- what stands in front of its phrase
+-- what is in front of its phrase
 abbrev pub task_front : Bool → List ℕ
 task_front true = codes "- [x] "
 task_front false = codes "- [ ] "
@@ -50,7 +50,7 @@ record IsTask (s : Setting) (done : Bool) (phrase : List ℕ) : Type 0 where
   sheet_is : page.sheet ≡ laid (codes "  ") (escaped place phrase) (within (task_front done))
   none : page.references ≡ []
 
--- behind the box, and before the item's End
+-- after the box, and before the item's End
 abbrev behind_box : OptionsView → ParserOptions → Surroundings
 behind_box o flags = record {
   flags = flags;

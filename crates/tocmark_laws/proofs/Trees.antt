@@ -105,7 +105,7 @@ added s es = record s { pending = s.pending ++ es }
 abbrev standing : List SourcedEvent → List TagEnd → Standing → Standing
 standing pending os s = record s { pending = pending; open_tags = os }
 
--- a tree's events behind what is pending
+-- a tree's events after what is pending
 regroup : (p : List SourcedEvent) (a : SourcedEvent) (kids : Forest SourcedLeaf) (b : SourcedEvent) (f : Forest SourcedLeaf) → (((p ++ a ∷ []) ++ flat kids) ++ b ∷ []) ++ flat f ≡ p ++ (a ∷ flat_onto kids (b ∷ flat f))
 regroup p a kids b f =
     let k : (((p ++ a ∷ []) ++ flat kids) ++ b ∷ []) ++ flat f ≡ p ++ (a ∷ (flat kids ++ (b ∷ flat f))) = simp append_assoc in

@@ -1,4 +1,4 @@
--- A unit that is refused as unexpected has an event that may not stand where it does; one that can't be represented has no
+-- A unit that is refused as unexpected has an event that isn't allowed where it is; one that can't be represented has no
 -- candidate that reads back.
 use Rattle.std.proofs.Common.{◌≡◌, Bool, true, false, ℕ, Option, Some, None, Ok, Err, List, [], refl, sym, ap, ◌∙◌, subst}
 use Rattle.std.specs.Prelude.{◌&&◌}
@@ -15,16 +15,16 @@ use Rattle.tocmark_spelling.specs.Plan.{Setting, Manner}
 use Rattle.tocmark_spelling.specs.Spelling.{is_misplaced, spelling}
 use Rattle.tocmark_spelling.proofs.Refusals.{none-misplaced}
 use Rattle.tocmark_laws.proofs.Misplaced.{labelled-start, start-labelled}
-use Rattle.tocmark_render.specs.Candidates.{candidates, is_checked, preferred_manner}
-use Rattle.tocmark_render.specs.Choice.{Chosen, accepted_if, by_markers, choice, first_or, first_that_reads_back, has_standard_markers, page_in, page_of, preferred, spelled, unless_misplaced}
+use Rattle.tocmark_choose.specs.Candidates.{candidates, is_checked, preferred_manner}
+use Rattle.tocmark_choose.specs.Choice.{Chosen, accepted_if, by_markers, choice, first_or, first_that_reads_back, has_standard_markers, page_in, page_of, preferred, spelled, unless_misplaced}
 use Rattle.tocmark_write_labels.specs.Document.{DocumentView}
 use Rattle.tocmark_write_pending.specs.Placeholder.{whole}
 use Rattle.tocmark_write_labels.specs.Units.{label_for, labelled}
-use Rattle.tocmark_render.specs.Chosen.{chosen}
-use Rattle.tocmark_render.specs.Unrepresentable.{IsUnrepresentable}
-use Rattle.tocmark_render.proofs.Chosen.{chosen-flat}
-use Rattle.tocmark_render.proofs.Unrepresentable.{unrepresentable-causes}
-use Rattle.tocmark_render.specs.Validates.{validates}
+use Rattle.tocmark_choose.specs.Chosen.{chosen}
+use Rattle.tocmark_choose.specs.Unrepresentable.{IsUnrepresentable}
+use Rattle.tocmark_choose.proofs.Chosen.{chosen-flat}
+use Rattle.tocmark_choose.proofs.Unrepresentable.{unrepresentable-causes}
+use Rattle.tocmark_choose.specs.Validates.{validates}
 use Rattle.tocmark_state.specs.Walk.{Kept}
 use Rattle.tocmark_state.specs.WorkView.{keeping, rendering}
 use Rattle.tocmark_laws.specs.Unexpected.{IsMisplacedUnit, setting_at}
@@ -79,13 +79,13 @@ pub flat-choice : (s : Setting) (d : DocumentView) (f : Trees) (unit : List Sour
 flat-choice s d f unit next same =
     subst (λ es. chosen s d es next ≡ choice (labelled s d es next) d f next) same (chosen-flat s d f next)
 
--- a unit is refused as unexpected only for an event that may not stand where it does
+-- a unit is refused as unexpected only for an event that isn't allowed where it is
 pub unit-misplaced : (s : Setting) (d : DocumentView) (unit : List SourcedEvent) (next : Option EventView) → IsBalanced unit → chosen s d unit next ≡ Err UnexpectedEvent → IsMisplacedUnit s unit
 unit-misplaced s d unit next balanced h =
     let is_misplaced_there = choice-misplaced (labelled s d unit next) d balanced.0 next (sym (flat-choice s d balanced.0 unit next balanced.1) ∙ h) in
     record { forest = balanced.0; is = balanced.1; start = start-labelled s (label_for s d unit next) balanced.0 is_misplaced_there }
 
--- and it is refused where one stands so
+-- and it is refused where one is so
 pub misplaced-unit : (s : Setting) (d : DocumentView) (unit : List SourcedEvent) (next : Option EventView) → IsMisplacedUnit s unit → chosen s d unit next ≡ Err UnexpectedEvent
 misplaced-unit s d unit next h =
     flat-choice s d h.forest unit next h.is

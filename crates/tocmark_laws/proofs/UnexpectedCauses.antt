@@ -52,7 +52,7 @@ other-error r h k = absurd (cc)
 abbrev Misplaces : Rendering → OptionsView → (List ℕ → ParserOptions → ReadingView) → Type 0
 Misplaces how options reading = (kept : Kept) (unit : List SourcedEvent) (next : Option EventView) → IsBalanced unit → how.choice kept unit next ≡ Err UnexpectedEvent → IsMisplacedUnit (setting_at options reading kept) unit
 
--- or it can't be represented behind the document that is made of the one there
+-- or it can't be represented after the document that is made of the one there
 abbrev Represents : Rendering → (DocumentView → DocumentView) → OptionsView → (List ℕ → ParserOptions → ReadingView) → Type 0
 Represents how seen options reading = (kept : Kept) (unit : List SourcedEvent) (next : Option EventView) → IsBalanced unit → how.choice kept unit next ≡ Err Unrepresentable → IsUnrepresentableUnit (setting_at options reading kept) (seen kept.document) unit next
 

@@ -52,7 +52,7 @@ no_answer false false false false true f g h = refl
 no_answer false false false false false true g h = rw h refl
 no_answer false false false false false false g h = refl
 
--- nor has a byte of words behind another one, unless it could end the number of a list
+-- nor has a byte of words after another one, unless it could end the number of a list
 later_free : (p : Surroundings) (b : ℕ) (o : Bool) (c : ℕ) (cs : List ℕ) → IsWordPlace p → IsBareByte c → (not p.in_table && o) ≡ false → needs_backslash p (spot_from (Some b) o c cs) ≡ false
 unfolding needs_backslash is_read_as_marker is_marker
 later_free p b o c cs h k digits =

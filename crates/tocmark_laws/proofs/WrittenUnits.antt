@@ -15,12 +15,12 @@ use Rattle.tocmark_spelling.specs.Plan.{Setting}
 use Rattle.tocmark_spelling.specs.Spelling.{is_misplaced}
 use Rattle.tocmark_write_labels.specs.Document.{DocumentView}
 use Rattle.tocmark_write_labels.specs.Units.{labelled}
-use Rattle.tocmark_render.specs.Candidates.{candidates, is_delimiter_block}
-use Rattle.tocmark_render.specs.Choice.{Chosen, choice, document_after, has_standard_markers}
-use Rattle.tocmark_render.specs.Chosen.{chosen}
-use Rattle.tocmark_render.specs.FirstReadBack.{First, IsChosenAmong, IsFirstReadBack, Nothing}
-use Rattle.tocmark_render.specs.Validates.{validates}
-use Rattle.tocmark_render.proofs.FirstReadBack.{checked-chosen, delimiters-checked}
+use Rattle.tocmark_choose.specs.Candidates.{candidates, is_delimiter_block}
+use Rattle.tocmark_choose.specs.Choice.{Chosen, choice, document_after, has_standard_markers}
+use Rattle.tocmark_choose.specs.Chosen.{chosen}
+use Rattle.tocmark_choose.specs.FirstReadBack.{First, IsChosenAmong, IsFirstReadBack, Nothing}
+use Rattle.tocmark_choose.specs.Validates.{validates}
+use Rattle.tocmark_choose.proofs.FirstReadBack.{checked-chosen, delimiters-checked}
 use Rattle.tocmark_laws.specs.Trees.{Part, part_onto, ranged, stop_at, unit_walk, walk_trees, followed_unit}
 use Rattle.tocmark_laws.specs.Unexpected.{setting_at}
 use Rattle.tocmark_laws.specs.Written.{AreWritten, ReadsBackIfDelimited, Written, ending_unless_refused, last_of, last_unit, last_written, texts_at_end, texts_of, written_as, written_trees, written_unit, written_unless}
@@ -193,7 +193,7 @@ same-ok s t r h k = cc
 abbrev flags_of : Standing → ParserOptions
 flags_of s = s.document.flags
 
--- where a walk goes on, its first part stands somewhere
+-- where a walk goes on, its first part is somewhere
 went-on : (ts : List (List ℕ)) (o : Result Standing Error) (f : Standing → Walk Standing) (t : Standing) → (go_on ts o f).outcome ≡ Ok t → (s : Standing) × (o ≡ Ok s) × ((f s).outcome ≡ Ok t)
 went-on ts (Ok s) f t h = (s, refl, h)
 went-on ts (Err e) f t h = absurd (cc)

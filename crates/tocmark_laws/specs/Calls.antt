@@ -20,7 +20,7 @@ pub record Call {W : Type 0} (gives refuses : W → List ℕ → W → Type 0) (
   pub u : W
   pub added : Adds gives refuses w u how flags source answer place p q
 
--- behind a call that succeeded they go on, and its counts come first; behind one that was refused they end with its error
+-- after a call that succeeded they go on, and its counts come first; after one that was refused they end with its error
 abbrev pub GoesOn : {W : Type 0} → Result Progress Error → W → W → List Progress → Result Progress Error → (List Progress → Type 0) → Type 0
 GoesOn (Ok n) u v counts r more = (ns : List Progress) × (counts ≡ n ∷ ns) × more ns
 GoesOn (Err e) u v counts r more = (counts ≡ []) × (u ≡ v) × (r ≡ Err e)

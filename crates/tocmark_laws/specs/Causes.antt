@@ -28,7 +28,7 @@ pub record HasRefusedUnit (how : Rendering) (at : Standing) (pair : Pair) (e : E
   pub writable : how.waits at.pending ≡ false
   pub refused : how.choice at.document at.pending (Some pair.0) ≡ Err e
 
--- why a pair is refused, where the pairs before it stand
+-- why a pair is refused, where the pairs before it are
 pub data Cause (how : Rendering) (source : List ℕ) (at : Standing) (pair : Pair) (e : Error) : Type 0 where
   BadRange : HasBadRange source pair e → Cause how source at pair e
   RefusedUnit : HasRefusedUnit how at pair e → Cause how source at pair e
@@ -54,7 +54,7 @@ pub record HasRefusedLastUnit (how : Rendering) (at : Standing) (e : Error) : Ty
   pub pending : at.pending ≢ []
   pub refused : how.choice at.document at.pending None ≡ Err e
 
--- why the end of the events is refused, where all pairs stand
+-- why the end of the events is refused, where all pairs are
 pub data EndCause (how : Rendering) (at : Standing) (e : Error) : Type 0 where
   OpenContainer : HasOpenContainer at e → EndCause how at e
   RefusedLastUnit : HasRefusedLastUnit how at e → EndCause how at e

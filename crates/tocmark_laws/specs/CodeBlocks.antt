@@ -18,13 +18,13 @@ use Rattle.tocmark_laws.specs.Links.{one_text_walk}
 abbrev pub code_events : List ℕ → List (List ℕ) → List Pair
 code_events info ts = map unranged (Start (CodeBlock (Fenced info)) ∷ map (λ t. Leaf (Text t)) ts ++ End end.CodeBlock ∷ [])
 
--- a character stands so many times in a row somewhere in a text
+-- a character is so many times in a row somewhere in a text
 pub record HasRun (count token : ℕ) (text : List ℕ) : Type 0 where
   pub before : List ℕ
   pub after : List ℕ
   pub is : text ≡ before ++ replicate count token ++ after
 
--- a fence can't be of this character before the info string: it is a backtick, and one stands there (CommonMark, section 4.5)
+-- a fence can't be of this character before the info string: it is a backtick, and one is there (CommonMark, section 4.5)
 abbrev pub clashes : ℕ → List ℕ → Bool
 clashes token info = (token == backtick) && list_any (λ b. b == backtick) info
 
@@ -44,7 +44,7 @@ pub record IsFence (o : OptionsView) (info text fence : List ℕ) : Type 0 where
 abbrev pub opened_code : List ℕ → List ℕ → List ℕ → List ℕ
 opened_code fence info text = codes "\n" ++ fence ++ flat_map info_byte info ++ codes "\n" ++ text
 
--- the code block in Markdown: the fence stands behind the text where that ends its last line (CommonMark, section 4.5)
+-- the code block in Markdown: the fence is after the text where that ends its last line (CommonMark, section 4.5)
 abbrev pub code_text : List ℕ → List ℕ → List ℕ → List ℕ
 code_text fence info text =
     opened_code fence info text ++ (if last_byte (opened_code fence info text) == 10 then fence else [])

@@ -96,7 +96,7 @@ PlainDocumentsAreReadBack =
     AreReadBack (script (rendering options reading) source (nothing_yet flags) (plain_document (b ∷ bs))) (merged (flat_map plain_events (b ∷ bs)))
 
 -- if the events are those of such a document, a call that succeeded handed texts that join to one that the core reader reads as
--- these events, merged; else it failed at one of them, or for want of memory behind a front of them
+-- these events, merged; else it failed at one of them, or for want of memory after a front of them
 abbrev pub MakesDocument : {W X : Type 0} → (W → List ℕ → W → Type 0) → (W → List ℕ → W → Type 0) → W → W → Result X Error → List Pair → Type 0
 MakesDocument gives refuses w v r p =
     (b : PlainBlock) (bs : List PlainBlock) → AllByRecursion IsPlainBlock (b ∷ bs) → p ≡ plain_document (b ∷ bs) →

@@ -36,7 +36,7 @@ WordsAreRead =
 
 -- ---- front matter
 
--- the line in front of metadata and behind it
+-- the line in front of metadata and after it
 abbrev pub fence_of : MetadataBlockKind → List ℕ
 fence_of YamlStyle = codes "---"
 fence_of PlusesStyle = codes "+++"
@@ -163,12 +163,12 @@ AttributesAreRead =
 
 -- ---- task lists
 
--- what stands in a box, checked or not
+-- what is in a box, checked or not
 abbrev pub box_byte : Bool → ℕ
 box_byte true = 120
 box_byte false = 32
 
--- an item of a phrase behind a box
+-- an item of a phrase after a box
 abbrev pub task_line : Bool → List ℕ → List ℕ
 task_line done phrase = 45 ∷ 32 ∷ 91 ∷ box_byte done ∷ 93 ∷ 32 ∷ phrase
 

@@ -17,11 +17,11 @@ abbrev pub is_label : List ℕ → Bool
 is_label [] = false
 is_label (b ∷ bs) = list_all is_label_byte (b ∷ bs) && nat_lt (length (b ∷ bs)) 999
 
--- a label behind a caret, in brackets
+-- a label after a caret, in brackets
 abbrev pub in_brackets : List ℕ → List ℕ
 in_brackets label = 91 ∷ 94 ∷ (label ++ 93 ∷ [])
 
--- words with a reference behind them, a blank line, and the footnote with words
+-- words with a reference after them, a blank line, and the footnote with words
 abbrev pub noted_words : List ℕ → List ℕ → List ℕ → List ℕ
 noted_words words label note = (words ++ in_brackets label) ++ 10 ∷ 10 ∷ (in_brackets label ++ 58 ∷ 32 ∷ note)
 

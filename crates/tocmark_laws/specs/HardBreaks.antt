@@ -19,7 +19,7 @@ pub record NextLine : Type 0 where
   pub behind : LineEnd
   pub line : List ℕ
 
--- what stands in front of the line feed
+-- what is in front of the line feed
 abbrev pub end_bytes : LineEnd → List ℕ
 end_bytes Softly = []
 end_bytes ByBackslash = codes "\\"
@@ -45,7 +45,7 @@ broken_lines l (m ∷ ms) = Leaf (Text l) ∷ Leaf (break_of m.behind) ∷ broke
 abbrev pub broken_paragraph : List ℕ → List NextLine → List EventView
 broken_paragraph l ms = Start Paragraph ∷ broken_lines l ms ++ End end.Paragraph ∷ []
 
--- the lines behind the first
+-- the lines after the first
 abbrev pub lines_behind : List NextLine → List (List ℕ)
 lines_behind ms = map (λ m. m.line) ms
 

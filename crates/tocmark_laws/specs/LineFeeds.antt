@@ -12,7 +12,7 @@ pub record Part : Type 0 where
   pub prefix : List ℕ
   pub text : List ℕ
 
--- texts laid one behind another
+-- texts laid one after another
 abbrev pub laid_in_turn : List Part → Sheet → Sheet
 laid_in_turn [] s = s
 laid_in_turn (p ∷ ps) s = laid_in_turn ps (laid p.prefix p.text s)

@@ -18,7 +18,7 @@ link_events dest title id text =
     unranged (Start Paragraph) ∷ unranged (Start (Link link.Inline dest title id)) ∷ unranged (Leaf (Text text))
     ∷ unranged (End end.Link) ∷ unranged (End end.Paragraph) ∷ []
 
--- where the text stands: at the front of a link, and before its End
+-- where the text is: at the front of a link, and before its End
 abbrev pub place_in_link : OptionsView → ParserOptions → Surroundings
 place_in_link o flags = record {
   flags = flags;

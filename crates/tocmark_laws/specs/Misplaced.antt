@@ -1,4 +1,4 @@
--- An event that may not stand where it does.
+-- An event that isn't allowed where it is.
 use Rattle.std.specs.Prelude.{◌≡◌, Bool, true, not, ◌&&◌, List, [], ◌∷◌, ◌++◌, drop, map}
 use Rattle.tocmark_event.specs.Forest.{empty, leaf, node, flat}
 use Rattle.tocmark_event.specs.View.{TagView, SourcedEvent, Start, End, Leaf, end_of}
@@ -7,7 +7,7 @@ use Rattle.tocmark_spelling.specs.ById.{by_id}
 use Rattle.tocmark_spelling.specs.Plan.{Setting}
 use Rattle.tocmark_spelling.specs.Spelling.{is_wrong_in}
 
--- the containers that are open behind these events, the innermost first, where those were open before
+-- the containers that are open after these events, the innermost first, where those were open before
 abbrev pub open_behind : List TagView → List SourcedEvent → List TagView
 open_behind outside [] = outside
 open_behind outside (Leaf l ∷ es) = open_behind outside es
@@ -33,7 +33,7 @@ marked s f = marked_onto s true f []
 abbrev pub events_in : List Marked → List SourcedEvent
 events_in es = map (λ e. e.0) es
 
--- a Start among a unit's events, in no body that its id replaces, that may not stand in the containers that are open before
+-- a Start among a unit's events, in no body that its id replaces, that may not be in the containers that are open before
 -- it: an Item not directly in a List, a Heading in a Heading, a TableHead not directly in a Table, or a TableCell in no Table
 pub record HasMisplacedStart (s : Setting) (f : Trees) : Type 0 where
   pub before : List Marked

@@ -28,7 +28,7 @@ is_numbered_line i = is_number i.digits && is_word_line i.line
 abbrev pub is_delimiter : ℕ → Bool
 is_delimiter b = (b == 46) || (b == 41)
 
--- an item behind its number, a delimiter and a space
+-- an item after its number, a delimiter and a space
 abbrev pub numbered_line : ℕ → NumberedLine → List ℕ
 numbered_line delimiter i = i.digits ++ delimiter ∷ 32 ∷ i.line
 

@@ -30,11 +30,11 @@ pub record ReadsAsSpan (text : List ℕ) (walk : Walk Done) : Type 0 where
   pub span : concat walk.texts ≡ code_span false text
   pub read : 0 < length text → unspan (concat walk.texts) ≡ Some text
 
--- a writer keeps each text that it takes behind those before it, as a String does
+-- a writer keeps each text that it takes after those before it, as a String does
 abbrev pub Keeps : {W : Type 0} → (W → List ℕ → W → Type 0) → (W → List ℕ) → Type 0
 Keeps {W} takes contents = (w : W) (text : List ℕ) (v : W) → takes w text v → contents v ≡ contents w ++ text
 
--- behind what was there stands something that is read as the text
+-- after what was there is something that is read as the text
 pub record AppendsTo (old new text : List ℕ) : Type 0 where
   pub more : List ℕ
   pub behind : new ≡ old ++ more

@@ -16,7 +16,7 @@ pub record FencedCode : Type 0 where
   pub info : List ℕ
   pub lines : List (List ℕ)
 
--- a byte stands so many times in a row somewhere in a line
+-- a byte is so many times in a row somewhere in a line
 abbrev pub has_run : ℕ → ℕ → List ℕ → Bool
 has_run count token [] = false
 has_run count token (b ∷ bs) = starts_with nat_eq (b ∷ bs) (replicate count token) || has_run count token bs
@@ -25,11 +25,11 @@ has_run count token (b ∷ bs) = starts_with nat_eq (b ∷ bs) (replicate count 
 abbrev pub is_line_byte : ℕ → Bool
 is_line_byte b = nat_lt b 128 && not ((b == 0) || (b == 10) || (b == 13))
 
--- a line of them in which no fence stands
+-- a line of them in which no fence is
 abbrev pub is_code_line : ℕ → ℕ → List ℕ → Bool
 is_code_line count token line = list_all is_line_byte line && not (has_run count token line)
 
--- at least three backticks or tildes, letters and digits behind them, and such lines
+-- at least three backticks or tildes, letters and digits after them, and such lines
 abbrev pub is_fenced_code : FencedCode → Bool
 is_fenced_code c =
     ((c.token == 96) || (c.token == 126)) && nat_le 3 c.count && list_all is_ascii_alphanumeric c.info

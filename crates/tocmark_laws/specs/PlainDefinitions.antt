@@ -7,7 +7,7 @@ use Rattle.tocmark_reader.specs.PlainTexts.{IsReadAs}
 use Rattle.tocmark_reader.specs.Reading.{reading_of}
 use Rattle.tocmark_laws.specs.Extensions.{is_word_line}
 
--- a title, and on the next line its definition behind a colon and a space
+-- a title, and on the next line its definition after a colon and a space
 abbrev pub defined_words : List ℕ → List ℕ → List ℕ
 defined_words title words = title ++ 10 ∷ 58 ∷ 32 ∷ words
 

@@ -12,7 +12,7 @@ use Rattle.tocmark_laws.specs.Extensions.{is_word_line, lined}
 abbrev pub is_bullet : ℕ → Bool
 is_bullet b = (b == 45) || (b == 43) || (b == 42)
 
--- an item behind a bullet and a space
+-- an item after a bullet and a space
 abbrev pub bullet_line : ℕ → List ℕ → List ℕ
 bullet_line bullet line = bullet ∷ 32 ∷ line
 
@@ -29,7 +29,7 @@ items_events (l ∷ ls) = Start Item ∷ Leaf (Text l) ∷ End end.Item ∷ item
 abbrev pub bullet_events : List (List ℕ) → List EventView
 bullet_events ls = Start (ListOf None) ∷ items_events ls ++ End (end.List false) ∷ []
 
--- under every syntax, lines of words behind one of `-`, `+` and `*` are a tight list with an item for each
+-- under every syntax, lines of words after one of `-`, `+` and `*` are a tight list with an item for each
 abbrev pub BulletListsAreRead : Type 0
 BulletListsAreRead =
     (syntax : Syntax) (bullet : ℕ) (l : List ℕ) (ms : List (List ℕ)) →

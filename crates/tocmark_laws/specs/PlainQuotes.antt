@@ -9,7 +9,7 @@ use Rattle.tocmark_reader.specs.Reading.{reading_of}
 use Rattle.tocmark_laws.specs.Extensions.{is_word_line}
 use Rattle.tocmark_laws.specs.HardBreaks.{NextLine, end_bytes, broken_paragraph, lines_behind}
 
--- a line and further lines, each behind `> `
+-- a line and further lines, each after `> `
 abbrev pub quoted_text : List ℕ → List NextLine → List ℕ
 quoted_text l [] = 62 ∷ 32 ∷ l
 quoted_text l (m ∷ ms) = 62 ∷ 32 ∷ (l ++ (end_bytes m.behind ++ 10 ∷ quoted_text m.line ms))
@@ -24,7 +24,7 @@ QuotesAreRead =
     (syntax : Syntax) (l : List ℕ) (ms : List NextLine) → list_all is_word_line (l ∷ lines_behind ms) ≡ true → length (quoted_text l ms) < 2 ^ 64 →
     IsReadAs (reading_of syntax (quoted_text l ms)) (quoted_paragraph l ms)
 
--- lines behind `> `, with `>` alone between two
+-- lines after `> `, with `>` alone between two
 abbrev pub parted_quote : List ℕ → List (List ℕ) → List ℕ
 parted_quote l [] = 62 ∷ 32 ∷ l
 parted_quote l (m ∷ ms) = 62 ∷ 32 ∷ (l ++ 10 ∷ 62 ∷ 10 ∷ parted_quote m ms)

@@ -10,11 +10,11 @@ use Rattle.tocmark_reader.specs.PlainTexts.{IsReadAs}
 use Rattle.tocmark_reader.specs.Reading.{reading_of}
 use Rattle.tocmark_laws.specs.Extensions.{lined, is_phrase}
 
--- bytes with so many spaces before and behind them
+-- bytes with so many spaces before and after them
 abbrev pub spaced : ℕ → List ℕ → ℕ → List ℕ
 spaced before bytes behind = replicate before 32 ++ (bytes ++ replicate behind 32)
 
--- each cell, and a bar behind it
+-- each cell, and a bar after it
 abbrev pub barred : List (List ℕ) → List ℕ
 barred [] = []
 barred (c ∷ cs) = c ++ 124 ∷ barred cs
@@ -30,7 +30,7 @@ dashes align.Left more = 58 ∷ 45 ∷ replicate more 45
 dashes align.Right more = 45 ∷ (replicate more 45 ++ 58 ∷ [])
 dashes align.Center more = 58 ∷ 45 ∷ (replicate more 45 ++ 58 ∷ [])
 
--- a column of a delimiter row: how it is aligned, how many dashes stand behind the first, and the spaces round them
+-- a column of a delimiter row: how it is aligned, how many dashes are after the first, and the spaces round them
 pub record PlainColumn : Type 0 where
   pub before : ℕ
   pub alignment : Alignment

@@ -21,7 +21,7 @@ kind_word Caution = codes "CAUTION"
 abbrev pub kind_line : BlockQuoteKind → List ℕ
 kind_line k = 62 ∷ 32 ∷ 91 ∷ 33 ∷ (kind_word k ++ 93 ∷ [])
 
--- below it a line of words behind `> `
+-- below it a line of words after `> `
 abbrev pub kind_quote : BlockQuoteKind → List ℕ → List ℕ
 kind_quote k words = kind_line k ++ 10 ∷ 62 ∷ 32 ∷ words
 

@@ -42,7 +42,7 @@ abbrev pub is_heading_kind : Kind → Bool
 is_heading_kind ParagraphKind = false
 is_heading_kind (HeadingKind level) = true
 
--- where the text of a block stands: at its front, in no table, in a heading if it is one, and before its End
+-- where the text of a block is: at its front, in no table, in a heading if it is one, and before its End
 abbrev pub place_in : OptionsView → ParserOptions → Kind → Surroundings
 place_in o flags kind = record {
   flags = flags;
@@ -56,7 +56,7 @@ place_in o flags kind = record {
   next = Some (End (end_of (tag_of kind)));
 }
 
--- what stands before the text: as many `#` as the heading's level, and a space (CommonMark, section 4.2)
+-- what is before the text: as many `#` as the heading's level, and a space (CommonMark, section 4.2)
 abbrev pub mark_of : Kind → List ℕ
 mark_of ParagraphKind = []
 mark_of (HeadingKind level) = replicate (level_number level) 35 ++ codes " "
@@ -65,17 +65,17 @@ mark_of (HeadingKind level) = replicate (level_number level) 35 ++ codes " "
 abbrev pub block_text : OptionsView → ParserOptions → Block → List ℕ
 block_text o flags b = mark_of b.kind ++ escaped (place_in o flags b.kind) (concat b.texts)
 
--- how many line feeds stand between a block and the next one: at least two behind a paragraph, at least one behind a heading
+-- how many line feeds are between a block and the next one: at least two after a paragraph, at least one after a heading
 abbrev pub feeds_behind : OptionsView → Kind → ℕ
 feeds_behind o ParagraphKind = max o.newlines_after_paragraph 2
 feeds_behind o (HeadingKind level) = max o.newlines_after_headline 1
 
--- a text for each block, the first one behind so many line feeds
+-- a text for each block, the first one after so many line feeds
 abbrev pub texts_behind : OptionsView → ParserOptions → ℕ → List Block → List (List ℕ)
 texts_behind o flags feeds [] = []
 texts_behind o flags feeds (b ∷ bs) = (replicate feeds 10 ++ block_text o flags b) ∷ texts_behind o flags (feeds_behind o b.kind) bs
 
--- some character stands in a block
+-- some character is in a block
 abbrev pub HasText : Block → Type 0
 HasText b = chars (concat b.texts) ≢ []
 
@@ -91,7 +91,7 @@ BlocksAreEscapes =
     options.check_plain_blocks ≡ false → AllByRecursion HasText bs → script (rendering options reading) source (nothing_yet flags) (document_of bs) ≡ blocks_walk options flags bs
 
 -- if the events are those of blocks with text, a call with the default options handed a text for each where it succeeded, and
--- else failed at one or for want of memory, behind a front of them
+-- else failed at one or for want of memory, after a front of them
 abbrev pub MakesBlocks : {W X : Type 0} → (W → List ℕ → W → Type 0) → (W → List ℕ → W → Type 0) → W → W → Result X Error → ParserOptions → List Pair → Type 0
 MakesBlocks gives refuses w v r flags p =
     (bs : List Block) → AllByRecursion HasText bs → p ≡ document_of bs → Makes gives refuses w v r done (blocks_walk default_options flags bs)

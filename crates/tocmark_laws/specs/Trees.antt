@@ -98,7 +98,7 @@ walk_trees how kept (node t kids f) part refused =
     (deferred_unit kept (Start t ∷ flat_onto kids (End (end_of t) ∷ flat_onto f (part_onto part []))) part refused)
     (λ k. walk_trees how k f part refused)
 
--- a bad range is refused behind the events before it
+-- a bad range is refused after the events before it
 abbrev pub end_ranged : Ranged → Standing → Result Standing Error
 end_ranged r s = if r.is_cut then Err error.InvalidSourceRange else Ok (record s { range_end = r.range_end })
 

@@ -14,24 +14,24 @@ use Rattle.tocmark_state.specs.Ranges.{Pair}
 use Rattle.tocmark_state.specs.Walk.{Kept, Rendering, Standing, walk}
 use Rattle.tocmark_laws.specs.Misplaced.{HasMisplacedStart}
 
--- what units are written with behind a document, but for the label of one
+-- what units are written with after a document, but for the label of one
 abbrev pub setting_at : OptionsView → (List ℕ → ParserOptions → ReadingView) → Kept → Setting
 setting_at options reading kept = setting_of options kept.flags reading None
 
--- these events are a forest's, and one of them may not stand where it does
+-- these events are a forest's, and one of them isn't allowed where it is
 pub record IsMisplacedUnit (s : Setting) (unit : List SourcedEvent) : Type 0 where
   pub forest : Trees
   pub is : flat forest ≡ unit
   pub start : HasMisplacedStart s forest
 
--- why a pair is unexpected, where the pairs before it stand: an event of the unit that it makes due may not stand where it
+-- why a pair is unexpected, where the pairs before it are: an event of the unit that it makes due isn't allowed where it
 -- does, or it is an End without its Start or of a container that isn't the innermost
 pub data IsUnexpected (s : Setting) (at : Standing) (pair : Pair) : Type 0 where
   InUnit : IsMisplacedUnit s at.pending → IsUnexpected s at pair
   ItsEnd : HasWrongEnd at pair UnexpectedEvent → IsUnexpected s at pair
 
--- why the end of the events is unexpected, where all pairs stand: a container isn't ended, or an event of the last unit may
--- not stand where it does
+-- why the end of the events is unexpected, where all pairs are: a container isn't ended, or an event of the last unit may
+-- not be where it is
 pub data IsUnexpectedEnd (s : Setting) (at : Standing) : Type 0 where
   IsOpen : at.open_tags ≢ [] → IsUnexpectedEnd s at
   InLastUnit : IsMisplacedUnit s at.pending → IsUnexpectedEnd s at

@@ -9,19 +9,19 @@ use Rattle.tocmark_spelling.specs.Body.{Trees}
 use Rattle.tocmark_spelling.specs.Plan.{Setting}
 use Rattle.tocmark_write_labels.specs.Document.{DocumentView}
 use Rattle.tocmark_write_labels.specs.Units.{labelled}
-use Rattle.tocmark_render.specs.Unrepresentable.{IsUnrepresentable}
+use Rattle.tocmark_choose.specs.Unrepresentable.{IsUnrepresentable}
 use Rattle.tocmark_laws.specs.Unexpected.{setting_at}
 use Rattle.tocmark_state.specs.Ranges.{Pair}
 use Rattle.tocmark_state.specs.Walk.{Rendering, Standing, is_due, walk}
 
--- a unit is the events of a forest which, behind this document, before this event and with the label of these events, can't be
+-- a unit is the events of a forest which, after this document, before this event and with the label of these events, can't be
 -- represented
 pub record IsUnrepresentableUnit (s : Setting) (d : DocumentView) (unit : List SourcedEvent) (next : Option EventView) : Type 0 where
   pub forest : Trees
   pub is : flat forest ≡ unit
   pub cause : IsUnrepresentable (labelled s d unit next) d forest next
 
--- the first pair at which a list is refused where units are written so, behind the document that is made of the one there: it makes
+-- the first pair at which a list is refused where units are written so, after the document that is made of the one there: it makes
 -- a unit due, which doesn't wait and can't be represented
 pub record HasUnrepresentableUnit (how : Rendering) (seen : DocumentView → DocumentView) (options : OptionsView) (reading : List ℕ → ParserOptions → ReadingView) (source : List ℕ) (from : Standing) (p : List Pair) : Type 0 where
   pub before : List Pair

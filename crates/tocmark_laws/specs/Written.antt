@@ -12,9 +12,9 @@ use Rattle.tocmark_spelling.specs.Page.{Page}
 use Rattle.tocmark_spelling.specs.Plan.{Setting}
 use Rattle.tocmark_write_labels.specs.Ending.{last_texts}
 use Rattle.tocmark_write_labels.specs.Units.{labelled}
-use Rattle.tocmark_render.specs.Candidates.{candidates, is_delimiter_block}
-use Rattle.tocmark_render.specs.Choice.{document_after}
-use Rattle.tocmark_render.specs.FirstReadBack.{IsFirstReadBack}
+use Rattle.tocmark_choose.specs.Candidates.{candidates, is_delimiter_block}
+use Rattle.tocmark_choose.specs.Choice.{document_after}
+use Rattle.tocmark_choose.specs.FirstReadBack.{IsFirstReadBack}
 use Rattle.tocmark_laws.specs.Trees.{Part, Trees, part_onto, ranged}
 use Rattle.tocmark_laws.specs.Unexpected.{setting_at}
 use Rattle.tocmark_state.specs.Ranges.{Pair}
@@ -28,7 +28,7 @@ pub record Written : Type 0 where
   pub text : List ℕ
   pub after : Kept
 
--- a unit as it is chosen, and the units behind it; none where it is refused
+-- a unit as it is chosen, and the units after it; none where it is refused
 abbrev pub written_as : Kept → List SourcedEvent → Option EventView → Result (List ℕ × Kept) Error → (Kept → List Written) → List Written
 written_as kept unit next (Ok x) others = record { unit = unit; next = next; before = kept; text = x.0; after = x.1 } ∷ others x.1
 written_as kept unit next (Err e) others = []
@@ -81,7 +81,7 @@ abbrev pub ending_unless_refused : Rendering → Kept → List Written → Resul
 ending_unless_refused how kept last (Ok d) = ending_texts how kept last
 ending_unless_refused how kept last (Err e) = []
 
--- what a script hands behind the units of its walk, by how the walk ends, and how the script
+-- what a script hands after the units of its walk, by how the walk ends, and how the script
 abbrev pub texts_at_end : Rendering → Result Standing Error → Result Done Error → List (List ℕ)
 texts_at_end how (Ok at) outcome = ending_unless_refused how at.document (last_written how at.open_tags at) outcome
 texts_at_end how (Err e) outcome = []

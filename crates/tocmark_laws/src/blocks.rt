@@ -21,7 +21,7 @@ ghost use Rattle.tocmark_laws.specs.UnrepresentableLists.{IsUnrepresentableIn};
 ghost use Rattle.tocmark_spelling.specs.Page.{Reference};
 ghost use Rattle.tocmark_write_labels.specs.Defined.{behind};
 ghost use Rattle.tocmark_write_labels.specs.Document.{DocumentView};
-ghost use Rattle.tocmark_render.specs.Chosen.{chosen};
+ghost use Rattle.tocmark_choose.specs.Chosen.{chosen};
 ghost use Rattle.tocmark_spelling.specs.Plan.{Setting};
 
 use tocmark_state::taker::Taker;
@@ -37,7 +37,7 @@ pub fn code_is_fenced()
 {}
 
 /// A call that succeeds on the events of such a code block, over a writer that keeps what it takes, as a
-/// `String` does, leaves the code block behind what the writer held.
+/// `String` does, leaves the code block after what the writer held.
 pub fn a_code_block_is_appended<W: Taker>()
     ensures { (contents : W → List ℕ) (options : OptionsView)
         (reading : List ℕ → ParserOptions → ReadingView) (flags : ParserOptions)
@@ -57,7 +57,7 @@ pub fn links_are_closed()
 {}
 
 /// A call that succeeds on the events of such a paragraph, over a writer that keeps what it takes, as a
-/// `String` does, leaves the link behind what the writer held.
+/// `String` does, leaves the link after what the writer held.
 pub fn a_link_is_appended<W: Taker>()
     ensures { (contents : W → List ℕ) (options : OptionsView)
         (reading : List ℕ → ParserOptions → ReadingView) (flags : ParserOptions)
@@ -69,7 +69,7 @@ pub fn a_link_is_appended<W: Taker>()
         → contents v ≡ contents w ++ link_text options flags dest title text }
 {}
 
-/// A unit, the events of a forest, is refused as `UnexpectedEvent` only for an event that may not stand where it
+/// A unit, the events of a forest, is refused as `UnexpectedEvent` only for an event that isn't allowed where it
 /// does (`causes`): an Item that isn't directly in a List, a Heading in a Heading, a TableHead that isn't directly
 /// in a Table, or a TableCell in no Table. Events in a body that is replaced by an id don't count. A unit with such an
 /// event is refused so (`exact`).
@@ -83,9 +83,9 @@ pub fn unexpected_units_are_misplaced()
 {}
 
 /// A list of events that is refused as `UnexpectedEvent` has a cause, at the first pair at which it is or at its
-/// end. At a pair: an event of the unit before it may not stand where it does, or it is an End without its Start or
+/// end. At a pair: an event of the unit before it isn't allowed where it is, or it is an End without its Start or
 /// of a container that isn't the innermost one. At the end: a container isn't ended, or an event of the last unit may
-/// not stand where it does. So it is from the start of a new state (`new`), and from every standing whose pending
+/// not be where it is. So it is from the start of a new state (`new`), and from every standing whose pending
 /// events begin a forest in which its open containers are open, of a state that is told of definitions (`told`).
 pub fn unexpected_events_have_causes()
     ensures new { (options : OptionsView) (reading : List ℕ → ParserOptions → ReadingView)
@@ -104,7 +104,7 @@ pub fn unexpected_events_have_causes()
 /// A list of events that is refused as `Unrepresentable` has a unit that can't be represented: one that is due at
 /// the first pair at which the list is refused, or the last one, where all pairs are taken and no container is open.
 /// So it is from the start of a new state (`new`), and from each standing of that kind of a state that is told of
-/// definitions, which the first unit is written behind (`told`).
+/// definitions, which the first unit is written after (`told`).
 pub fn unrepresentable_lists_have_causes()
     ensures new { (options : OptionsView) (reading : List ℕ → ParserOptions → ReadingView)
         (flags : ParserOptions) (source : List ℕ) (p : List Pair)

@@ -23,7 +23,7 @@ pub fn front_matter_is_read()
 {}
 
 /// Under each syntax with mathematics, a formula between dollar signs is mathematics with just this text. It has no
-/// dollar sign, backslash or brace, and no space at either end. Other marks may stand in it, as in `$a_1 * b$`.
+/// dollar sign, backslash or brace, and no space at either end. Other marks may be in it, as in `$a_1 * b$`.
 pub fn formulas_are_read()
     ensures { FormulasAreRead }
 {}
@@ -39,7 +39,7 @@ pub fn scripts_are_read()
     ensures { ScriptsAreRead }
 {}
 
-/// Under each syntax with attributes of headings, a name behind a heading's phrase, as in `# two words {#name}`, is the
+/// Under each syntax with attributes of headings, a name after a heading's phrase, as in `# two words {#name}`, is the
 /// heading's id. The name has letters and digits alone.
 pub fn attributes_are_read()
     ensures { AttributesAreRead }
@@ -52,13 +52,13 @@ pub fn tasks_are_read()
 {}
 
 /// Under each syntax with tables, a row of cells, a row of dashes and further rows, each on a line, are a table with
-/// these alignments and cells. Each row begins with a bar and has one behind each cell, and all have as many cells. A
-/// cell is a phrase without bars, and any number of spaces may stand around it, as in `| two words |one|`.
+/// these alignments and cells. Each row begins with a bar and has one after each cell, and all have as many cells. A
+/// cell is a phrase without bars, and any number of spaces may be around it, as in `| two words |one|`.
 pub fn tables_are_read()
     ensures { TablesAreRead }
 {}
 
-/// Under each syntax with footnotes, words with a reference behind them, a blank line, and the
+/// Under each syntax with footnotes, words with a reference after them, a blank line, and the
 /// footnote with words, as in `two words[^a]` and `[^a]: more words`, are a paragraph with the
 /// reference, and the footnote with a paragraph. The label has at most 998 characters. None of them
 /// is a mark or a space.
@@ -66,13 +66,13 @@ pub fn footnotes_are_read()
     ensures { FootnotesAreRead }
 {}
 
-/// Under each syntax with definition lists, a line of words and another one behind `: `, as `Term`
+/// Under each syntax with definition lists, a line of words and another one after `: `, as `Term`
 /// and `: two words`, are a list of this title and this definition, with a text in each.
 pub fn definition_lists_are_read()
     ensures { DefinitionListsAreRead }
 {}
 
-/// Under each syntax with kinds of quotes, a line with a kind and a line of words behind `> `, as
+/// Under each syntax with kinds of quotes, a line with a kind and a line of words after `> `, as
 /// `> [!NOTE]` and `> two words`, are a quote of this kind with a paragraph.
 pub fn quote_kinds_are_read()
     ensures { QuoteKindsAreRead }

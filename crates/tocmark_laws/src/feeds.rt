@@ -5,7 +5,7 @@ ghost use Rattle.tocmark_spelling.specs.Page.{Sheet, laid};
 ghost use Rattle.tocmark_laws.specs.LineFeeds.{Part, ending_feeds, laid_in_turn};
 
 /// What a sheet counts as its line feeds are those at the end of all that was laid on it, where the prefixes of lines
-/// are left out: of one text more, laid with any prefix (`more`), and of all texts that are laid one behind another on
+/// are left out: of one text more, laid with any prefix (`more`), and of all texts that are laid one after another on
 /// a sheet with nothing before them (`all`).
 #[tactic(auto, using(crate::proofs::LineFeeds::feeds_more, crate::proofs::LineFeeds::feeds_all))]
 pub fn feeds_are_the_line_feeds_at_the_end()

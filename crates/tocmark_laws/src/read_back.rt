@@ -45,7 +45,7 @@ pub fn ordered_lists_are_read_back()
 
 /// For a paragraph of a line and a reference to a footnote, and the footnote with a paragraph of a
 /// line, the texts that are handed join to one that every syntax with footnotes reads as exactly
-/// these events, if the options don't ask for more than two line feeds behind a paragraph.
+/// these events, if the options don't ask for more than two line feeds after a paragraph.
 pub fn footnotes_are_read_back()
     ensures { FootnotesAreReadBack }
 {}

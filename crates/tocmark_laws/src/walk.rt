@@ -97,7 +97,7 @@ pub fn a_paragraph_is_read_back()
 }
 
 /// A call that succeeds on the events of such a paragraph, over a writer that keeps what it takes, as a `String` does,
-/// leaves behind what the writer held an escape that is read as the text.
+/// leaves after what the writer held an escape that is read as the text.
 pub fn what_is_appended_is_read_back<W: Taker>()
     ensures { (contents : W → List ℕ) (options : OptionsView)
         (reading : List ℕ → ParserOptions → ReadingView) (flags : ParserOptions)
@@ -148,7 +148,7 @@ pub fn escapes_of_lines_are_plain()
 {}
 
 /// For paragraphs and headings without id, classes and attributes, each with one or more texts in which some
-/// character stands, exactly one text is handed for each: the line feeds that set it apart from the one before,
+/// character is, exactly one text is handed for each: the line feeds that set it apart from the one before,
 /// as many `#` as its level and a space if it is a heading, and the escape of its texts as one. So it is under
 /// all flags, whatever reader is given, and under all options that don't ask that plain blocks be checked.
 pub fn blocks_are_escapes()

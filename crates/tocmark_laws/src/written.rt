@@ -12,11 +12,11 @@ ghost use Rattle.tocmark_spelling.specs.Page.{Page};
 ghost use Rattle.tocmark_spelling.specs.Plan.{Setting};
 ghost use Rattle.tocmark_write_labels.specs.Document.{DocumentView};
 ghost use Rattle.tocmark_write_labels.specs.Units.{labelled};
-ghost use Rattle.tocmark_render.specs.Candidates.{candidates, is_delimiter_block};
-ghost use Rattle.tocmark_render.specs.Choice.{document_after, has_standard_markers};
-ghost use Rattle.tocmark_render.specs.Chosen.{chosen};
-ghost use Rattle.tocmark_render.specs.FirstReadBack.{IsFirstReadBack};
-ghost use Rattle.tocmark_render.specs.Validates.{validates};
+ghost use Rattle.tocmark_choose.specs.Candidates.{candidates, is_delimiter_block};
+ghost use Rattle.tocmark_choose.specs.Choice.{document_after, has_standard_markers};
+ghost use Rattle.tocmark_choose.specs.Chosen.{chosen};
+ghost use Rattle.tocmark_choose.specs.FirstReadBack.{IsFirstReadBack};
+ghost use Rattle.tocmark_choose.specs.Validates.{validates};
 ghost use Rattle.tocmark_laws.specs.Paragraphs.{Keeps};
 ghost use Rattle.tocmark_laws.specs.Written.{AreWritten, ReadsBackIfDelimited, Written, last_of, last_written, texts_at_end, texts_of};
 ghost use Rattle.tocmark_state.specs.Ranges.{Pair};
@@ -70,7 +70,7 @@ pub fn what_is_written_reads_back()
         (walk (rendering options reading) source (beginning kept) p).outcome) }
 {}
 
-/// A `StringWriter` keeps each text that it takes behind those before it (`keeps`): when it has taken texts it
+/// A `StringWriter` keeps each text that it takes after those before it (`keeps`): when it has taken texts it
 /// holds what it held, and then these texts (`texts`).
 pub fn string_writers_keep_their_texts()
     ensures keeps { Keeps ⟦<StringWriter as Taker>⟧.takes held }

@@ -1,4 +1,4 @@
--- Parts of paths: what stands between slashes, and how loops over parts go on.
+-- Parts of paths: what is between slashes, and how loops over parts go on.
 use Rattle.std.proofs.Common.{◌≡◌, refl, sym, true≢false, ◌∙◌, ap, ℕ, suc, ◌<◌, ◌+◌, ◌≢◌, ◌==◌, Bool, true, false, List, [], ◌∷◌, ◌++◌, length, get_or, map, drop, arith, Option, None, Some, if◌then◌else◌, append_assoc, drop-drop, codes, Bor}
 use Rattle.std.specs.List.{fold}
 use Rattle.std.specs.Str.{bytes_eq}

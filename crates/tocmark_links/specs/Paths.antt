@@ -14,7 +14,7 @@ abbrev pub parts_of : List ℕ → List (List ℕ)
 parts_of [] = [] ∷ []
 parts_of (b ∷ bytes) = if b == 47 then [] ∷ parts_of bytes else begun b (parts_of bytes)
 
--- a part behind a path, with a slash between them unless the path is empty
+-- a part after a path, with a slash between them unless the path is empty
 abbrev pub followed : List ℕ → List ℕ → List ℕ
 followed [] part = part
 followed (b ∷ path) part = (b ∷ path) ++ (47 ∷ part)

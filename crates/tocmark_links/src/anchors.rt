@@ -19,7 +19,7 @@ pub enum AnchorKind {
 #[derive(Drop)]
 pub struct Anchor {
     pub kind: AnchorKind,
-    /// What stands after `#` in a link.
+    /// What is after `#` in a link.
     pub name: String,
     /// The words of the heading; empty for HTML.
     pub words: String,

@@ -28,18 +28,24 @@ pub enum Fault {
     /// Memory ran out.
     #[error("out of memory")]
     OutOfMemory,
-    /// What stands in this line can't be changed without changing what the text says elsewhere, or its place isn't found.
+    /// What is in this line can't be changed without changing what the text says elsewhere, or its place isn't found.
     #[error("line {line}: changing this would change what else the page says")]
     Misread {
         /// The line, from 1 on.
         line: usize,
     },
     /// The new words of a heading are empty, or have several lines.
-    #[error("a heading's words stand in one line")]
+    #[error("a heading's words are in one line")]
     NoWords,
     /// There is no `<!-- toc -->` with a `<!-- tocstop -->` after it.
     #[error("there is no <!-- toc --> with a <!-- tocstop --> after it")]
     NoContents,
+    /// Between `<!-- toc -->` and `<!-- tocstop -->` is more than a list.
+    #[error("line {line}: only a list can be between <!-- toc --> and <!-- tocstop -->")]
+    NoList {
+        /// The line of what isn't a list, from 1 on.
+        line: usize,
+    },
 }
 
 impl From<AllocError> for Fault {
@@ -93,7 +99,7 @@ fn with_backslashes(alloc: Global, destination: &str) -> Result<String, AllocErr
     Ok(text)
 }
 
-/// Whether a destination can stand without `<` and `>`.
+/// Whether a destination can be without `<` and `>`.
 fn is_bare(destination: &str) -> bool {
     !destination.is_empty()
         && destination
@@ -325,11 +331,33 @@ fn heading_number(found: &Reading, at: usize) -> usize {
     number
 }
 
+/// Whether a heading of a text has all these words, which begin at a byte: none of the last ones is read as an anchor or as `#`
+/// that close it.
+fn has_words(
+    alloc: Global,
+    text: &str,
+    flags: ParserOptions,
+    (start, words): (usize, &str),
+) -> Result<bool, AllocError> {
+    let end = start.saturating_add(words.len());
+    let page = Page::read(alloc, text, flags, Slugs::GitHub)?;
+    for anchor in &page.anchors {
+        if anchor.kind != AnchorKind::Html
+            && let Some((first, last)) = anchor.place
+            && first >= start
+            && last == end
+        {
+            return Ok(true);
+        }
+    }
+    Ok(false)
+}
+
 /// The text in which a heading has other words; `heading` is its anchor in the text's page.
 ///
-/// The words are Markdown in one line. The reader finds the same events before and after the heading. An anchor that is written
-/// after the words stays. It fails if memory runs out, if the words are empty or have several lines, or if there is no such
-/// text: then the fault names the line.
+/// The words are Markdown in one line. The reader finds the same events before and after the heading, and takes all words for
+/// words. An anchor that is written after them stays. It fails if memory runs out, if the words are empty or have several lines,
+/// or if there is no such text: then the fault names the line.
 pub fn with_heading(
     alloc: Global,
     text: &str,
@@ -359,7 +387,7 @@ pub fn with_heading(
     let number = heading_number(&before, start);
     let kept = without_heading(alloc, before, number)?;
     let found = without_heading(alloc, after, number)?;
-    if are_same(alloc, &kept, &found)? {
+    if are_same(alloc, &kept, &found)? && has_words(alloc, new.as_str(), flags, (start, words))? {
         return Ok(new);
     }
     Err(Fault::Misread { line })
@@ -378,6 +406,21 @@ fn contents_place(found: &Reading) -> Option<(usize, usize)> {
                 && let Some(start) = start
             {
                 return Some((start, range.0));
+            }
+        }
+    }
+    None
+}
+
+/// The first byte between two others of what is in no list.
+fn outside_of_lists(found: &Reading, start: usize, end: usize) -> Option<usize> {
+    let mut list_end = start;
+    for (event, range) in &found.events {
+        if range.0 >= list_end && range.0 < end {
+            if let Event::Start(Tag::List(_)) = event {
+                list_end = range.1;
+            } else {
+                return Some(range.0);
             }
         }
     }
@@ -415,7 +458,7 @@ fn escaped(alloc: Global, words: &str) -> Result<String, AllocError> {
     Ok(text)
 }
 
-/// Leaves the headings that one of this level doesn't stand under.
+/// Leaves the headings that one of this level isn't under.
 fn leave(levels: &mut Vec<usize>, level: usize) {
     for _ in 0..levels.len() {
         if levels.last().copied().unwrap_or(0) < level {
@@ -460,9 +503,20 @@ fn contents(alloc: Global, page: &Page, after: usize) -> Result<String, AllocErr
     Ok(list)
 }
 
+/// Lines that end as those of a text do: with a carriage return, if the first one does.
+fn with_feeds_of(alloc: Global, text: &str, lines: String) -> Result<String, AllocError> {
+    match text.split_once('\n') {
+        Some((first, _rest)) if first.ends_with('\r') => {
+            lines.as_str().replace(alloc, "\n", "\r\n")
+        }
+        _ => Ok(lines),
+    }
+}
+
 /// The text with a list of links to the headings after it, between a line `<!-- toc -->` and a line `<!-- tocstop -->`.
 ///
-/// The events before and after these lines stay. It fails if memory runs out, or if there are no such lines.
+/// The events before and after these lines stay. It fails if memory runs out, if there are no such lines, or if
+/// more than a list is between them.
 pub fn with_contents(
     alloc: Global,
     text: &str,
@@ -473,15 +527,17 @@ pub fn with_contents(
     let Some((start, end)) = contents_place(&before) else {
         return Err(Fault::NoContents);
     };
+    if let Some(at) = outside_of_lists(&before, start, end) {
+        return Err(Fault::NoList {
+            line: line_of(text, at),
+        });
+    }
     let page = Page::read(alloc, text, flags, slugs)?;
     let list = contents(alloc, &page, end)?;
-    let length = list.len().saturating_add(2);
+    let new = with_feeds_of(alloc, text, format!(in alloc; "\n{list}\n")?)?;
+    let length = new.len();
     let mut edits = Vec::new(alloc);
-    edits.push(Edit {
-        start,
-        end,
-        new: format!(in alloc; "\n{list}\n")?,
-    })?;
+    edits.push(Edit { start, end, new })?;
     let Some(new) = spliced(alloc, text, &edits)? else {
         return Err(Fault::NoContents);
     };

@@ -36,22 +36,26 @@ impl Moves {
     }
 }
 
-/// A path of the form that another path had: the page that it names, as `.html`, without its ending, or as its folder.
+/// Whether a page is that of its folder, by its name.
+fn is_index(name: &str) -> bool {
+    name == "README.md" || name == "index.md"
+}
+
+/// A path of the form that another path had: the page that it names, as `.html`, without its ending, or as its folder. A page that
+/// isn't that of its folder any more is named itself.
 fn in_form(alloc: Global, path: &str, form: Form) -> Result<String, AllocError> {
     let (folder, name) = folder_and_name(path);
     let stem = path.strip_suffix(".md");
     match (form, stem) {
         (Form::Html, Some(stem)) => format!(in alloc; "{stem}.html"),
-        (Form::Index, _) if name == "README.md" || name == "index.md" => {
+        (Form::Index, _) if is_index(name) => {
             let slash = if folder.is_empty() { "" } else { "/" };
             format!(in alloc; "{folder}{slash}index.html")
         }
         (Form::Index, Some(stem)) => format!(in alloc; "{stem}/index.html"),
-        (Form::Folder, _) if name == "README.md" || name == "index.md" => {
-            String::from_str(alloc, folder)
-        }
+        (Form::Folder, _) if is_index(name) => String::from_str(alloc, folder),
+        (Form::Bare, _) if is_index(name) => String::from_str(alloc, folder),
         (Form::Bare, Some(stem)) => String::from_str(alloc, stem),
-        (Form::Folder, Some(stem)) => String::from_str(alloc, stem),
         _ => String::from_str(alloc, path),
     }
 }
@@ -70,7 +74,8 @@ fn spelled(alloc: Global, old: &str, folder: &str, target: &str) -> Result<Strin
     } else {
         relative(alloc, folder, target)?
     };
-    if old.ends_with('/') && !path.as_str().ends_with('/') {
+    let ends_with_slash = path.as_str().ends_with('/');
+    if old.ends_with('/') && !ends_with_slash && !target.ends_with(".md") {
         path.push('/')?;
     }
     let begins_with_dot = path.as_str().starts_with('.');

@@ -217,7 +217,7 @@ pub fn relative_leads_back(folder: &str, target: &str)
         → resolved folder.now (relative folder.now target.now) ≡ Some target.now }
 {}
 
-/// The folder that a path stands in, and its name.
+/// The folder that a path is in, and its name.
 pub fn folder_and_name(path: &str) -> (&str, &str) {
     match path.rsplit_once('/') {
         None => ("", path),

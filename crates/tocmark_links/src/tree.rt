@@ -52,7 +52,7 @@ pub enum Led {
     },
 }
 
-/// What stands at a path.
+/// What is at a path.
 #[derive(Drop)]
 enum Entry {
     Folder,
@@ -156,7 +156,7 @@ impl Tree {
     }
 
     /// What a path from the root leads to, and how it names that: the file itself, the page that a site makes this path of, or
-    /// a folder.
+    /// a folder. If a folder and a page have this name, the folder counts.
     pub fn named(&self, path: &str) -> Result<Option<(String, Form)>, AllocError> {
         if self.has(path) && !self.has_folder(path) {
             return Ok(Some((String::from_str(self.alloc, path)?, Form::Exact)));
@@ -171,16 +171,16 @@ impl Tree {
         {
             return Ok(Some((page, Form::Html)));
         }
-        if let Some(page) = self.page_with(path, &[".md"])? {
-            return Ok(Some((page, Form::Bare)));
+        if self.has_folder(path) {
+            return match self.page_with(path, &["/index.md", "/README.md"])? {
+                Some(page) => Ok(Some((page, Form::Folder))),
+                None => Ok(Some((String::from_str(self.alloc, path)?, Form::Exact))),
+            };
         }
-        if let Some(page) = self.page_with(path, &["/index.md", "/README.md"])? {
-            return Ok(Some((page, Form::Folder)));
+        match self.page_with(path, &[".md"])? {
+            Some(page) => Ok(Some((page, Form::Bare))),
+            None => Ok(None),
         }
-        if self.has(path) {
-            return Ok(Some((String::from_str(self.alloc, path)?, Form::Exact)));
-        }
-        Ok(None)
     }
 
     /// The anchor of a page that a link names: this one, or the same one in lower case.
@@ -201,7 +201,7 @@ impl Tree {
     /// Where a link of a page leads. It fails if memory runs out.
     ///
     /// A path names the file itself; or `a.html` the page `a.md`; `a/index.html` or `a/` the page `a/README.md` or `a/index.md`;
-    /// `a` the page `a.md`; or a folder. A path with a slash in front begins at the root. Percent signs are decoded, and a query
+    /// or a folder; or `a` the page `a.md`. A path with a slash in front begins at the root. Percent signs are decoded, and a query
     /// doesn't count. An anchor counts in pages alone, also in lower case; `top` is in each page.
     pub fn led_to(&self, from: &str, destination: &str) -> Result<Led, AllocError> {
         if !is_local(destination) {

@@ -21,6 +21,8 @@ pub enum Fault {
     NotUtf8(String, usize),
     /// A file, and a line of it that would parse differently in more than what is changed.
     Misread(String, usize),
+    /// A file, and a line of it where more than a list is between the lines for its contents.
+    NoList(String, usize),
     /// A file that isn't replaced, and why. All others are as they were.
     NotReplaced(String, ReplaceError),
     /// A path that can't be moved or made, and why. All files are as they were.
@@ -73,6 +75,7 @@ pub fn fault_of(path: String, fault: changed::Fault) -> Fault {
             "the words of a heading are one line, and not empty",
         ),
         changed::Fault::NoContents => Fault::Path(path, NO_CONTENTS),
+        changed::Fault::NoList { line } => Fault::NoList(path, line),
     }
 }
 
@@ -86,6 +89,10 @@ impl fmt::Display for Fault {
             Fault::Misread(path, line) => write!(
                 f,
                 "{path}:{line}: this block would parse differently; nothing was changed, so edit it yourself first"
+            ),
+            Fault::NoList(path, line) => write!(
+                f,
+                "{path}:{line}: only a list can be between <!-- toc --> and <!-- tocstop -->; nothing was changed"
             ),
             Fault::NotReplaced(path, error) => write!(f, "{path}: {error}; nothing was changed"),
             Fault::NotMoved(path, error) => {

@@ -11,14 +11,18 @@ use tocmark_links::anchors::{Anchor, AnchorKind};
 use tocmark_links::changed::{with_contents, with_heading};
 use tocmark_links::page::Page;
 
+/// What is said of a place that isn't written as one.
+const NO_PLACE: &str = "wanted: FILE#ANCHOR, by the anchor that the heading has now";
+
 /// What is said of a place that names no heading.
-const NO_ANCHOR: &str = "wanted: FILE#ANCHOR, by the anchor that the heading has now";
+const NO_ANCHOR: &str = "no heading has this anchor";
 
 /// What is said of a file that isn't read.
 const NO_PAGE: &str = "no such Markdown file is in the tree";
 
-/// What is said of a page that has the anchor twice.
-const TWICE: &str = "with these words, an element and a heading would have the same anchor";
+/// What is said of words by which links would lead elsewhere.
+const TWICE: &str =
+    "with these words, the heading would have the same anchor as an element or another one, or none";
 
 /// The heading of a page that has an anchor.
 fn heading_of<'p>(page: &'p Page, name: &str) -> Option<&'p Anchor> {
@@ -30,18 +34,18 @@ fn heading_of<'p>(page: &'p Page, name: &str) -> Option<&'p Anchor> {
     None
 }
 
-/// Whether an element of HTML has an anchor.
-fn has_element(page: &Page, name: &str) -> bool {
+/// Whether an element of HTML, or a heading that names it itself, has an anchor.
+fn is_taken(page: &Page, name: &str) -> bool {
     for anchor in &page.anchors {
-        if anchor.kind == AnchorKind::Html && anchor.name.as_str() == name {
+        if anchor.kind != AnchorKind::Heading && anchor.name.as_str() == name {
             return true;
         }
     }
     false
 }
 
-/// The anchors of the headings of two pages with as many headings that differ: each old one with the new one. `None`: an element
-/// has the new one.
+/// The anchors of the headings of two pages with as many headings that differ: each old one with the new one. `None`: the new
+/// one is empty, or is taken.
 fn new_names(
     alloc: Global,
     old: &Page,
@@ -58,7 +62,7 @@ fn new_names(
         .filter(|anchor| anchor.kind != AnchorKind::Html);
     for (one, other) in olds.zip(news) {
         if one.name.as_str() != other.name.as_str() {
-            if has_element(new, other.name.as_str()) {
+            if other.name.is_empty() || is_taken(new, other.name.as_str()) {
                 return Ok(None);
             }
             let key = String::from_str(alloc, one.name.as_str())?;
@@ -81,7 +85,8 @@ impl Site {
         let shown = self.root.shown(rt.alloc(), path)?;
         let page = self.page_of(rt.alloc(), old)?;
         let Some(heading) = heading_of(&page, name) else {
-            return Err(Fault::path(rt.alloc(), shown.as_str(), NO_ANCHOR));
+            let place = format!(in rt.alloc(); "{shown}#{name}")?;
+            return Err(Fault::path(rt.alloc(), place.as_str(), NO_ANCHOR));
         };
         report.add(
             rt.alloc(),
@@ -114,7 +119,7 @@ impl Site {
         report: &mut Report,
     ) -> Result<Plan, Fault> {
         let Some((file, name)) = place.rsplit_once('#') else {
-            return Err(Fault::path(rt.alloc(), place, NO_ANCHOR));
+            return Err(Fault::path(rt.alloc(), place, NO_PLACE));
         };
         let path = self.root.inner(rt, file)?;
         if !self.has_page(path.as_str()) {

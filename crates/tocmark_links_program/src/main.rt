@@ -17,7 +17,7 @@ mod walk;
 
 use crate::arguments::{Terms, Work, command, terms_of, work_of};
 use crate::fault::Fault;
-use crate::outcome::status_of;
+use crate::outcome::{Outcome, status_of};
 use crate::plan::Plan;
 use crate::report::Report;
 use crate::root::Root;
@@ -36,6 +36,9 @@ const SYNTAX: &str = "Kind of Markdown: commonmark, gfm (default) or all";
 
 /// What is said of a path that isn't in the tree.
 const MISSING: &str = "no such file or folder is in the tree";
+
+/// What is said of the root of a tree.
+const WHOLE: &str = "is the whole tree: name a file or a folder in it";
 
 /// The rules of `--exclude`.
 fn exclude_of(rt: &HostRuntime, root: &Root, matches: &ArgMatches<'_>) -> Result<Rules, Fault> {
@@ -60,6 +63,14 @@ fn site_of(
     let mut site = Site::new(rt.alloc(), root, terms);
     site.read(rt, exclude)?;
     Ok(site)
+}
+
+/// Refuses to move a whole tree, before that is read.
+fn refuse_root(rt: &HostRuntime, word: &str) -> Result<(), Fault> {
+    if Root::of(rt, word)?.inner(rt, word)?.is_empty() {
+        return Err(Fault::path(rt.alloc(), word, WHOLE));
+    }
+    Ok(())
 }
 
 /// Writes to standard output.
@@ -142,7 +153,8 @@ fn finish(
     } else {
         "changed"
     };
-    let line = format!(in rt.alloc(); "{what}: {count} in {files} files")?;
+    let noun = if files == 1 { "file" } else { "files" };
+    let line = format!(in rt.alloc(); "{what}: {count} in {files} {noun}")?;
     LINKS.complain(&mut rt.stderr(), &line.as_str());
     show_staging(rt, site, plan)?;
     Ok(status_of(&site.outcomes))
@@ -163,6 +175,7 @@ fn perform(
             return check_paths(rt, site_of(rt, first, terms, matches)?, paths);
         }
         Work::Move(old, new) => {
+            refuse_root(rt, old)?;
             let site = site_of(rt, old, terms, matches)?;
             let plan = site.move_plan(rt, old, new, &mut report)?;
             (site, plan)
@@ -175,8 +188,11 @@ fn perform(
         }
         Work::Contents(paths) => {
             let root = Root::of(rt, paths.first().copied().unwrap_or("."))?;
-            let site = Site::new(rt.alloc(), root, terms);
+            let mut site = Site::new(rt.alloc(), root, terms);
             let plan = site.contents_plan(rt, paths, &mut report)?;
+            if terms.is_dry && !plan.edits.is_empty() {
+                site.outcomes.push(Outcome::Stale)?;
+            }
             (site, plan)
         }
     };

@@ -54,7 +54,7 @@ fn names(written: &str, old: &str) -> bool {
     written.contains('/') && stem.ends_with(written) && begins_at_slash(stem, written)
 }
 
-/// Whether what ends a path begins behind a slash of it, or is all of it.
+/// Whether what ends a path begins after a slash of it, or is all of it.
 fn begins_at_slash(path: &str, end: &str) -> bool {
     match path.strip_suffix(end) {
         Some(front) => front.is_empty() || front.ends_with('/'),

@@ -18,6 +18,9 @@ const MISSING: &str =
 /// What is said of a path that is taken.
 const TAKEN: &str = "is there already, and nothing is overwritten";
 
+/// What is said of a symbolic link.
+const LINK: &str = "is a symbolic link, and only what it leads to can be moved";
+
 /// What is said of a folder that would be in itself.
 const IN_ITSELF: &str = "cannot be moved into itself";
 
@@ -60,6 +63,10 @@ impl Site {
         let old = self.root.inner(rt, old_word)?;
         if old.is_empty() || !self.tree.has(old.as_str()) {
             return Err(Fault::path(rt.alloc(), old_word, MISSING));
+        }
+        let full = self.root.full(rt.alloc(), old.as_str())?;
+        if fs::symlink_metadata(rt, full.as_str()).is_ok_and(|found| found.is_symlink()) {
+            return Err(Fault::path(rt.alloc(), old_word, LINK));
         }
         let new = self.new_path(rt, old.as_str(), new_word)?;
         let full = self.root.full(rt.alloc(), new.as_str())?;

@@ -13,6 +13,8 @@ pub enum Outcome {
     Broken,
     /// It could not be read, or can't be changed.
     Failed,
+    /// Its table of contents isn't as it should be, and nothing is to be changed.
+    Stale,
 }
 
 impl Outcome {
@@ -39,7 +41,7 @@ fn has_reason(outcomes: &[Outcome]) -> bool
     false
 }
 
-/// The status of a call: 1 if a link leads nowhere or a file could not be read, else 0.
+/// The status of a call: 1 if a link leads nowhere, a file could not be read, or a table of contents would change; else 0.
 pub fn status_of(outcomes: &[Outcome]) -> u8
     ensures { result ≡ status (list_any is_reason outcomes.now) }
 {

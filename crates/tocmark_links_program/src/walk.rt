@@ -152,7 +152,15 @@ impl Walk {
         let level = self.enter(rt, full.as_str(), level)?;
         let folder = Folder { path, level };
         for entry in fs::read_dir(rt, full.as_str())? {
-            self.add(rt, root, &folder, &entry?)?;
+            let added = match entry {
+                Ok(entry) => self.add(rt, root, &folder, &entry),
+                Err(error) => Err(error),
+            };
+            // one name that can't be read hides no other
+            if let Err(error) = added {
+                let fault = Fault::unreadable(rt.alloc(), full.as_str(), error);
+                self.files.faults.push(fault)?;
+            }
         }
         Ok(())
     }

@@ -9,7 +9,7 @@ use Rattle.tocmark_print.specs.declared.style.Tables.TheVariants.{Aligned}
 use Rattle.tocmark_print.specs.declared.style.Wrap.TheVariants.{Keep}
 
 -- as in the source what the source has, also its lines and its markers of emphasis; fences of three, rules of dashes, one
--- blank behind the markers of items, and aligned tables of 120 columns
+-- blank after the markers of items, and aligned tables of 120 columns
 abbrev pub usual_style : Style
 usual_style = record {
   bullet = None;

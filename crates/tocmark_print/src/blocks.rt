@@ -3,12 +3,12 @@
 use crate::numbers::Numbers;
 use std::alloc::{AllocError, Global};
 
-/// What stands at the top of a document: a tree, some that are kept together, or definitions of links.
+/// What is at the top of a document: a tree, some that are kept together, or definitions of links.
 #[derive(Clone, Copy)]
 pub struct Block {
     /// The number of its first tree; definitions have none.
     pub tree: Option<usize>,
-    /// Where it stands in the source.
+    /// Where it is in the source.
     pub range: (usize, usize),
     /// Where its text begins.
     pub start: usize,
@@ -91,7 +91,7 @@ impl Blocks {
         }
     }
 
-    /// Adds a block behind the others.
+    /// Adds a block after the others.
     pub(crate) fn push(&mut self, block: Block) -> Result<(), AllocError> {
         if let Some(last) = self.last {
             self.pack(last)?;
@@ -102,7 +102,7 @@ impl Blocks {
         Ok(())
     }
 
-    /// Puts a block's numbers behind the others.
+    /// Puts a block's numbers after the others.
     fn pack(&mut self, block: Block) -> Result<(), AllocError> {
         let before = self.before;
         let signs = match block.tree {
@@ -123,7 +123,7 @@ impl Blocks {
         self.numbers.push(block.start.saturating_sub(before.start))
     }
 
-    /// Moves all texts behind some bytes.
+    /// Moves all texts after some bytes.
     pub(crate) fn shift(&mut self, bytes: usize) {
         self.shift = self.shift.saturating_add(bytes);
     }
@@ -141,7 +141,7 @@ impl Blocks {
         }
     }
 
-    /// A block whose numbers stand at a place.
+    /// A block whose numbers are at a place.
     fn packed(&self, place: &mut BlockPlace) -> Option<Block> {
         let before = place.before;
         let signs = self.numbers.take(&mut place.at)?;
@@ -161,7 +161,7 @@ impl Blocks {
         })
     }
 
-    /// Takes the block at a place, which becomes the one behind it; none behind the last one.
+    /// Takes the block at a place, which becomes the one after it; none after the last one.
     pub fn take(&self, place: &mut BlockPlace) -> Option<Block> {
         if place.is_behind_last {
             return None;

@@ -24,7 +24,7 @@ struct Open {
 /// Finds tables, line by line.
 #[derive(Clone, Copy)]
 pub(crate) struct Columns {
-    /// Where the lines behind the last blank one begin, if a table could begin there.
+    /// Where the lines after the last blank one begin, if a table could begin there.
     front: Option<usize>,
     /// Whether the first one of them is a run of dashes.
     is_ruled: bool,

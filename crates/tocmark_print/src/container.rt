@@ -11,7 +11,7 @@ use std::alloc::AllocError;
 /// The longest number that a list may have, in digits.
 const DIGITS: usize = 9;
 
-/// Another sign for the items of a list just behind a list with this one.
+/// Another sign for the items of a list just after a list with this one.
 fn other_marker(marker: u8) -> u8 {
     match marker {
         b'-' => b'*',
@@ -39,7 +39,7 @@ fn number_in(digits: &str) -> u64 {
     number
 }
 
-/// What an item has in the source: columns before its marker and behind it, and where its content begins, with its column.
+/// What an item has in the source: columns before its marker and after it, and where its content begins, with its column.
 #[derive(Clone, Copy)]
 struct ItemColumns {
     indent: usize,
@@ -131,7 +131,7 @@ impl Printer<'_> {
         }
     }
 
-    /// Puts behind a text the marker of the next item of the innermost list.
+    /// Puts after a text the marker of the next item of the innermost list.
     fn push_marker(&mut self, text: &mut String, own: &str) -> Result<(), AllocError> {
         let list = self.page.top();
         let marker = char::from(list.marker);
@@ -179,7 +179,7 @@ impl Printer<'_> {
         self.page.open(frame)
     }
 
-    /// The column of a place behind the front of a block that begins here.
+    /// The column of a place after the front of a block that begins here.
     fn column_of(&self, start: usize, at: usize) -> usize {
         let front = self.page.front(self.source, start);
         self.source.column_at(front.column, front.at.min(start), at)

@@ -1,4 +1,4 @@
-//! Definitions of links, which no event covers: they stand between blocks.
+//! Definitions of links, which no event covers: they are between blocks.
 
 use crate::link::push_title;
 use crate::page::Kind;
@@ -7,7 +7,7 @@ use crate::printer::Printer;
 use std::alloc::{AllocError, Global};
 use tocmark_read_tokens::word::{Definition, Word, definition_at};
 
-/// A definition, where it begins, and whether an empty line stands before it.
+/// A definition, where it begins, and whether an empty line is before it.
 #[derive(Clone, Copy)]
 struct Found {
     definition: Definition,
@@ -15,7 +15,7 @@ struct Found {
     is_apart: bool,
 }
 
-/// A word as it is spelled, with what stands round it.
+/// A word as it is spelled, with what is round it.
 fn spelled(text: &str, word: Word) -> &str {
     let from = if word.next > word.end {
         word.start.saturating_sub(1)
@@ -85,7 +85,7 @@ fn push_collapsed(line: &mut String, words: &str) -> Result<(), AllocError> {
     Ok(())
 }
 
-/// Adds a definition that stands in a text.
+/// Adds a definition that is in a text.
 fn push_definition(
     whole: &mut String,
     text: &str,
@@ -112,7 +112,7 @@ fn are_white(bytes: &[u8]) -> bool {
 }
 
 impl Printer<'_> {
-    /// Prints the definitions of links that stand before a place of the source and behind what is printed of the innermost
+    /// Prints the definitions of links that are before a place of the source and after what is printed of the innermost
     /// container.
     pub(crate) fn print_gap(&mut self, end: usize) -> Result<(), AllocError> {
         let source = self.source;
@@ -193,7 +193,7 @@ impl Printer<'_> {
     }
 
     /// Prints definitions, with an empty line where there are some between them. Comments stay as they are spelled, and
-    /// so do lines in which something else stands, too.
+    /// so do lines in which something else is, too.
     fn print_definitions(&mut self, text: &str) -> Result<(), AllocError> {
         if self.look.is_literal {
             return self.print_spelled(text);

@@ -1,4 +1,4 @@
-//! Other dialects of Markdown. Their blocks are text to the reader; here they keep their lines, and what stands below them.
+//! Other dialects of Markdown. Their blocks are text to the reader; here they keep their lines, and what is below them.
 
 use crate::page::{Kind, Place};
 use crate::part::{Mark, Part};
@@ -50,7 +50,7 @@ fn begins_command(text: &str) -> bool {
 }
 
 /// Whether a line that begins like this text defines the line above for kramdown, pandoc and MkDocs: it begins with a colon,
-/// with white space or nothing behind it.
+/// with white space or nothing after it.
 fn begins_definition(text: &str) -> bool {
     match text.strip_prefix(':') {
         Some(rest) => rest.is_empty() || rest.starts_with(&[' ', '\t', '\n']),
@@ -100,7 +100,7 @@ fn begins_foreign_block(text: &str) -> bool {
     }
 }
 
-/// Whether bytes are a letter, and letters, digits, blanks, `-` and `_` behind it.
+/// Whether bytes are a letter, and letters, digits, blanks, `-` and `_` after it.
 fn is_key(bytes: &[u8]) -> bool {
     bytes.first().is_some_and(|byte| byte.is_ascii_alphabetic())
         && bytes.iter().all(|byte| byte.is_ascii_alphanumeric()
@@ -112,7 +112,7 @@ fn begins_blank(text: &str) -> bool {
     text.is_empty() || text.starts_with(&[' ', '\t'])
 }
 
-/// Whether a line begins with a key of metadata, as MultiMarkdown and Pelican read them: words, and a colon with a blank behind
+/// Whether a line begins with a key of metadata, as MultiMarkdown and Pelican read them: words, and a colon with a blank after
 /// it.
 fn begins_key(line: &str) -> bool {
     match line.split_once(':') {
@@ -139,7 +139,7 @@ fn is_lone_tag(line: &str) -> bool {
         && line.trim_end_matches(&[' ', '\t']).ends_with('>')
 }
 
-/// What stands behind the marker of an item, if a line begins with one.
+/// What is after the marker of an item, if a line begins with one.
 fn behind_marker(line: &str) -> Option<&str> {
     let behind = match line.as_bytes().first() {
         Some(b'-' | b'*' | b'+') => line.get(1..)?,
@@ -196,7 +196,7 @@ fn begins_with_lone_box(text: &str) -> bool {
     }
 }
 
-/// Whether a line ends with a marker and the box of a task alone behind it.
+/// Whether a line ends with a marker and the box of a task alone after it.
 fn ends_with_box(line: &str) -> bool {
     let text = line.trim_end_matches(&[' ', '\t']);
     let front = text.strip_suffix("[ ]").or(text.strip_suffix("[x]"));
@@ -206,7 +206,7 @@ fn ends_with_box(line: &str) -> bool {
     }
 }
 
-/// Whether a line begins with the definition of a link, behind markers and signs of quotes.
+/// Whether a line begins with the definition of a link, after markers and signs of quotes.
 fn begins_link_definition(line: &str) -> bool {
     let mut text = line;
     for _ in 0..NEAR {
@@ -231,7 +231,7 @@ fn is_delimiter_row(line: &str) -> bool {
 }
 
 impl Printer<'_> {
-    /// Whether a line between two places of the source, but not that of the first one, is one of another dialect: behind its
+    /// Whether a line between two places of the source, but not that of the first one, is one of another dialect: after its
     /// indent and the signs of quotes, or of a list or quote a lazy line.
     fn has_foreign_line(&self, start: usize, end: usize, is_lazy: bool) -> bool {
         let source = self.source;
@@ -347,7 +347,7 @@ impl Printer<'_> {
         false
     }
 
-    /// Whether fenced code stands behind a tab that a list cuts with two columns or more left over. `cmark-gfm` puts blanks in
+    /// Whether fenced code is after a tab that a list cuts with two columns or more left over. `cmark-gfm` puts blanks in
     /// front of such code.
     fn has_cut_tab(&self, start: usize) -> bool {
         let source = self.source;
@@ -357,7 +357,7 @@ impl Printer<'_> {
         ) && self.page.front(source, start).spare > 1
     }
 
-    /// Whether what stands between two places goes on on a lazy line that begins with blanks.
+    /// Whether what is between two places goes on on a lazy line that begins with blanks.
     fn goes_on_lazily(&self, from: usize, to: usize) -> bool {
         let source = self.source;
         let second = source.line_of(from).saturating_add(1);
@@ -471,7 +471,7 @@ impl Printer<'_> {
         false
     }
 
-    /// Whether a quote begins with a callout of MkDocs, as `>? a`, or with text that is hidden, as `>! a`: no blank stands
+    /// Whether a quote begins with a callout of MkDocs, as `>? a`, or with text that is hidden, as `>! a`: no blank is
     /// between its sign and the mark. `>![a](b)` is an image.
     fn begins_marked_quote(&self, start: usize) -> bool {
         let source = self.source;
@@ -521,7 +521,7 @@ impl Printer<'_> {
         }
     }
 
-    /// The column in the innermost container where the text of a line begins that goes on here behind its prefixes.
+    /// The column in the innermost container where the text of a line begins that goes on here after its prefixes.
     fn indent_behind(&self, place: Place) -> usize {
         let source = self.source;
         let at = source.past_blanks(place.at);
@@ -536,7 +536,7 @@ impl Printer<'_> {
         self.indent_behind(self.page.front(self.source, place))
     }
 
-    /// Whether a block stands below one of another dialect, deeper indented.
+    /// Whether a block is below one of another dialect, deeper indented.
     fn is_below_foreign(&self, start: usize) -> bool {
         match self.foreign {
             Some(above) if above.depth == self.page.depth() => self.column_in_container(start)
@@ -554,7 +554,7 @@ impl Printer<'_> {
         }
     }
 
-    /// Whether a block belongs to another dialect: it has a line of that, or it stands below such a block, deeper indented.
+    /// Whether a block belongs to another dialect: it has a line of that, or it is below such a block, deeper indented.
     pub(crate) fn is_foreign(&mut self, kind: Kind, start: usize, end: usize) -> bool {
         if self.page.depth() > 0 && self.is_misread(kind, start, end) {
             self.keep_top();

@@ -8,7 +8,7 @@ use crate::sentence::ends_sentence;
 use crate::width::width;
 use std::alloc::{AllocError, Global};
 
-/// How many columns stand before the first line and before the others, and how many a line may have.
+/// How many columns are before the first line and before the others, and how many a line may have.
 #[derive(Clone, Copy)]
 pub(crate) struct Measure {
     pub(crate) first: usize,
@@ -18,7 +18,7 @@ pub(crate) struct Measure {
     pub(crate) breaks_sentences: bool,
 }
 
-/// What stands before a word.
+/// What is before a word.
 #[derive(Clone, Copy, PartialEq, Eq)]
 enum Before {
     /// Nothing: it begins a line, or goes on with the word before it.
@@ -37,7 +37,7 @@ struct Filling<'p> {
     text: &'p str,
     lines: Lines,
     measure: Measure,
-    /// The columns of the line that isn't ended, with what stands before it.
+    /// The columns of the line that isn't ended, with what is before it.
     column: usize,
     /// Whether that line could begin a block in the source, but that it is indented or lazy.
     is_deep: bool,
@@ -69,7 +69,7 @@ fn are_unspaced(before: &str, behind: &str) -> bool {
     }
 }
 
-/// Whether a tag of Jekyll or Hugo is open behind a word.
+/// Whether a tag of Jekyll or Hugo is open after a word.
 fn is_in_tag(word: &str, was_in_tag: bool) -> bool {
     if word.contains("}}") || word.contains("%}") {
         return false;
@@ -88,7 +88,7 @@ fn first_word(text: &str) -> &str {
 /// How far the end of attributes or of a link of a wiki is looked for, in bytes.
 const LONGEST_BRACKETED: usize = 200;
 
-/// Whether attributes stand behind a brace that is between two texts, as in `[a](b){ .name }` and `{: .name }`.
+/// Whether attributes are after a brace that is between two texts, as in `[a](b){ .name }` and `{: .name }`.
 fn begins_attributes(before: &str, behind: &str) -> bool {
     behind
         .trim_start_matches(&[' ', '\t', '\n'])
@@ -96,7 +96,7 @@ fn begins_attributes(before: &str, behind: &str) -> bool {
         || before.ends_with(&[')', ']', '`', '*', '_', '>'])
 }
 
-/// Where brackets end in a text that a word at a place begins behind another text: attributes, or a link of a wiki, as
+/// Where brackets end in a text that a word at a place begins after another text: attributes, or a link of a wiki, as
 /// `[[a page]]`. 0 if it begins none, or if they end in the word.
 fn brackets_end(before: &str, word: &str, text: &str, at: usize) -> usize {
     for (open, close) in [("{", "}"), ("[[", "]]")] {
@@ -213,7 +213,7 @@ impl Filling<'_> {
         Ok(())
     }
 
-    /// Breaks the line, behind a mark: at a hard break, or at a line feed of the source that stays.
+    /// Breaks the line, after a mark: at a hard break, or at a line feed of the source that stays.
     fn break_line(&mut self, mark: &str, is_deep: bool) -> Result<(), AllocError> {
         let is_behind_blank = self.word.is_empty() && self.before != Before::Nothing;
         if is_behind_blank && mark == "\\" {

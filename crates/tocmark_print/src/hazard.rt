@@ -64,13 +64,13 @@ fn is_address(word: &str) -> bool {
     }
 }
 
-/// Tags that stand within lines.
+/// Tags that are within lines.
 const INLINE_TAGS: [&str; 25] = [
     "a", "abbr", "b", "bdi", "bdo", "br", "cite", "code", "del", "em", "font", "i", "img", "ins",
     "kbd", "mark", "q", "s", "samp", "small", "span", "strong", "sub", "sup", "u",
 ];
 
-/// Whether a text begins with a tag that stands within lines, with more behind it: alone on its line a tag could begin a
+/// Whether a text begins with a tag that is within lines, with more after it: alone on its line a tag could begin a
 /// block.
 pub(crate) fn begins_inline_tag(text: &str) -> bool {
     let Some((tag, behind)) = text.split_once('>') else {
@@ -91,7 +91,7 @@ pub(crate) fn begins_inline_tag(text: &str) -> bool {
 pub(crate) fn is_hazard(text: &str) -> bool {
     let word = first_word(text);
     match word.as_bytes().first() {
-        // Python-Markdown takes any text behind `#` for a heading
+        // Python-Markdown takes any text after `#` for a heading
         Some(b'>' | b'|' | b':' | b'#') => true,
         Some(b'<') => !is_address(word),
         Some(b'`') => word.starts_with("```"),

@@ -38,7 +38,7 @@ struct Open {
 #[derive(Drop)]
 pub(crate) struct Inlines<'d, 'p, 'g> {
     context: Context<'d, 'p, 'g>,
-    /// The place in the source behind what is printed.
+    /// The place in the source after what is printed.
     pub(crate) at: usize,
     /// Where the leaf begins and ends in the source.
     range: (usize, usize),
@@ -52,7 +52,7 @@ pub(crate) struct Inlines<'d, 'p, 'g> {
     labels: usize,
 }
 
-/// What stands between the lines of a slice of the source.
+/// What is between the lines of a slice of the source.
 #[derive(Clone, Copy)]
 enum Glue {
     Blank,
@@ -122,7 +122,7 @@ fn is_hindered(sign: u8, character: Option<char>) -> bool {
 /// How far before emphasis and before its end a bare web address is looked for, in bytes.
 const LONGEST_ADDRESS: usize = 256;
 
-/// How far before and behind emphasis brackets are looked for, in bytes.
+/// How far before and after emphasis brackets are looked for, in bytes.
 const LONGEST_BRACKETED: usize = 100;
 
 /// Brackets of other programs: links of wikis or tables of contents, tags of Jekyll and Hugo, and those of templates.
@@ -155,7 +155,7 @@ fn are_in_brackets(before: &str, behind: &str) -> bool {
 }
 
 /// Whether a text ends with a bare web or mail address. Programs that link such an address take the signs in it, and an
-/// underscore behind it, for a part of it.
+/// underscore after it, for a part of it.
 fn ends_with_address(text: &str) -> bool {
     let word = match text.rsplit_once(&[' ', '\t', '\n']) {
         Some((_, word)) => word,
@@ -268,7 +268,7 @@ impl<'d, 'p, 'g> Inlines<'d, 'p, 'g> {
             .add_slice(&mut self.pieces, (from, to), Glue::Feed)
     }
 
-    /// Adds what stands before an event: backslashes, or a blank for blanks and a line's end behind a task's box.
+    /// Adds what is before an event: backslashes, or a blank for blanks and a line's end after a task's box.
     fn add_gap(&mut self, start: usize) -> Result<(), AllocError> {
         if start <= self.at {
             return Ok(());
@@ -289,7 +289,7 @@ impl<'d, 'p, 'g> Inlines<'d, 'p, 'g> {
         }
     }
 
-    /// Whether a hard break at a place of the source is printed as blanks. Behind a bare address it stays as it is: programs
+    /// Whether a hard break at a place of the source is printed as blanks. After a bare address it stays as it is: programs
     /// that link the address take a backslash for a part of it.
     fn is_blanks(&self, start: usize) -> bool {
         let own = self.context.source.byte(start) != b'\\';
@@ -329,7 +329,7 @@ impl<'d, 'p, 'g> Inlines<'d, 'p, 'g> {
         self.pieces.push(Piece::Hard { is_deep, is_blanks })
     }
 
-    /// The characters before and behind a stretch of the source.
+    /// The characters before and after a stretch of the source.
     fn around(&self, start: usize, end: usize) -> (Option<char>, Option<char>) {
         let text = self.context.source.text;
         let before = text.get(..start).unwrap_or("").chars().next_back();
@@ -337,7 +337,7 @@ impl<'d, 'p, 'g> Inlines<'d, 'p, 'g> {
         (before, behind)
     }
 
-    /// Whether a bare address goes on at a place of the source; it begins here or behind.
+    /// Whether a bare address goes on at a place of the source; it begins here or after.
     fn is_in_address(&self, from: usize, place: usize) -> bool {
         let source = self.context.source;
         let front = source
@@ -352,7 +352,7 @@ impl<'d, 'p, 'g> Inlines<'d, 'p, 'g> {
         inner.ends_with(&[')', ']', '>', '`'])
     }
 
-    /// Whether another sign than the source's can stand round a stretch of it.
+    /// Whether another sign than the source's can be round a stretch of it.
     fn fits(&self, sign: u8, range: (usize, usize)) -> bool {
         let (start, end) = range;
         if self.is_in_address(self.range.0, start) {
@@ -390,8 +390,8 @@ impl<'d, 'p, 'g> Inlines<'d, 'p, 'g> {
         found
     }
 
-    /// Whether a stretch of the source stands between `[[` and `]]` or the signs of a tag, which are near it in the leaf.
-    /// To the programs that know them, what stands there is a name.
+    /// Whether a stretch of the source is between `[[` and `]]` or the signs of a tag, which are near it in the leaf.
+    /// To the programs that know them, what is there is a name.
     fn is_bracketed(&self, range: (usize, usize)) -> bool {
         let (start, end) = range;
         let source = self.context.source;
@@ -582,7 +582,7 @@ impl<'d, 'p, 'g> Inlines<'d, 'p, 'g> {
         }
     }
 
-    /// Adds the event at a place; the place behind it.
+    /// Adds the event at a place; the place after it.
     fn add(&mut self, at: usize) -> Result<usize, AllocError> {
         let next = at.saturating_add(1);
         let range = self.context.part.range(at);

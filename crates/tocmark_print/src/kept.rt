@@ -1,5 +1,5 @@
 //! Lines that are kept: those that a comment names, those that other programs read as one, those of blocks that would be
-//! read otherwise, and those behind front matter that isn't at the front.
+//! read otherwise, and those after front matter that isn't at the front.
 
 use crate::hazard::is_hazard;
 use crate::page::{Kind, Place};
@@ -17,7 +17,7 @@ enum Until {
     Next,
     /// A comment with this text.
     Comment(&'static str),
-    /// The block that ends at this place of the source, or behind it.
+    /// The block that ends at this place of the source, or after it.
     Place(usize),
     /// The end of the document.
     End,
@@ -35,7 +35,7 @@ pub(crate) struct Stretch {
     kind: Kind,
 }
 
-/// Comments that keep what is behind them, each with what ends that.
+/// Comments that keep what is after them, each with what ends that.
 const COMMENTS: [(&str, Until); 3] = [
     ("tocmark-format off", Until::Comment("tocmark-format on")),
     (
@@ -75,8 +75,8 @@ fn comment_at(part: &Part, at: usize) -> Option<&str> {
 }
 
 impl Printer<'_> {
-    /// Prints a line of the source up to a place, behind the blanks that a tab leaves over. A lazy line that would begin a
-    /// block behind the prefixes gets four blanks.
+    /// Prints a line of the source up to a place, after the blanks that a tab leaves over. A lazy line that would begin a
+    /// block after the prefixes gets four blanks.
     fn print_rest(&mut self, place: Place, to: usize) -> Result<(), AllocError> {
         let text = self.source.slice(place.at, to);
         let is_lazy_hazard = !place.is_met && is_hazard(text.trim_start_matches(&[' ', '\t']));
@@ -179,7 +179,7 @@ impl Printer<'_> {
 
     /// The lines that other programs read as one, if the block at a place has some of them; it ends
     /// here in the source. A container that begins before them leaves them to its blocks. Lines that
-    /// begin in code don't count, nor do those that begin in a container and end behind it.
+    /// begin in code don't count, nor do those that begin in a container and end after it.
     fn span_at(&mut self, part: &Part, at: usize, end: usize) -> Option<Span> {
         let (start, _) = part.range(at);
         let span = self.source.span_behind(start, self.code_end)?;
@@ -212,8 +212,8 @@ impl Printer<'_> {
         Some(span)
     }
 
-    /// Whether front matter isn't at the front. Most programs read a rule there, and what is behind it otherwise. Behind
-    /// blank lines that counts only if a text goes on behind the last line.
+    /// Whether front matter isn't at the front. Most programs read a rule there, and what is after it otherwise. After
+    /// blank lines that counts only if a text goes on after the last line.
     fn is_stray(&self, range: (usize, usize)) -> bool {
         let (start, end) = range;
         if start == 0 {
@@ -276,7 +276,7 @@ impl Printer<'_> {
         Ok(())
     }
 
-    /// Passes a block or bare text that is kept, or a comment that keeps others; the place behind it.
+    /// Passes a block or bare text that is kept, or a comment that keeps others; the place after it.
     pub(crate) fn pass_kept(
         &mut self,
         part: &Part,

@@ -28,7 +28,7 @@ impl Step {
 /// How near to the source each tree at the top is printed.
 #[derive(Drop)]
 pub struct Ladder {
-    /// For each tree. Those behind the last one are styled.
+    /// For each tree. Those after the last one are styled.
     pub steps: Vec<Step>,
     /// Whether definitions stay as they are spelled.
     pub keeps_definitions: bool,

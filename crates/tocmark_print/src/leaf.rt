@@ -35,7 +35,7 @@ fn run(text: &str, byte: u8) -> usize {
         .count()
 }
 
-/// How many bytes the signs of a heading have at the front of a line, with the blanks behind them; 0 if there are none.
+/// How many bytes the signs of a heading have at the front of a line, with the blanks after them; 0 if there are none.
 fn signs_length(line: &str) -> usize {
     let hashes = run(line, b'#');
     let rest = line.get(hashes..).unwrap_or("");
@@ -53,7 +53,7 @@ fn signs_length(line: &str) -> usize {
     }
 }
 
-/// The attributes of a heading, in braces, in what stands behind its text.
+/// The attributes of a heading, in braces, in what is after its text.
 fn attributes_in(tail: &str) -> Option<&str> {
     let (before, rest) = tail.split_once('{')?;
     let (inner, _) = rest.split_once('}')?;
@@ -61,8 +61,8 @@ fn attributes_in(tail: &str) -> Option<&str> {
     tail.get(from..from.saturating_add(inner.len()).saturating_add(2))
 }
 
-/// Whether a text ends with a sign of a heading. Behind `#` that would be a closing sign; to pandoc, kramdown and
-/// Python-Markdown also if no blank stands before it, as in `C#`.
+/// Whether a text ends with a sign of a heading. After `#` that would be a closing sign; to pandoc, kramdown and
+/// Python-Markdown also if no blank is before it, as in `C#`.
 fn ends_with_sign(line: &str) -> bool {
     match line.strip_suffix('#') {
         Some(before) => !ends_with_backslash(before),
@@ -104,15 +104,15 @@ fn has_preformatted(text: &str) -> bool {
     false
 }
 
-/// Whether the breaks of a paragraph's lines mean something to other programs: in a text that is shown as it stands; or in one
-/// behind a box, to `cmark-gfm`, which checks the box if `[x]` stands anywhere on its line.
+/// Whether the breaks of a paragraph's lines mean something to other programs: in a text that is shown as it is; or in one
+/// after a box, to `cmark-gfm`, which checks the box if `[x]` is anywhere on its line.
 fn has_meant_breaks(text: &str) -> bool {
     let is_open_box = text.starts_with("[ ]");
     has_preformatted(text) || (is_open_box && (text.contains("[x]") || text.contains("[X]")))
 }
 
 impl<'d> Printer<'d> {
-    /// The pieces of events, whose text starts here in the source; and the place in the source behind them. Their room comes
+    /// The pieces of events, whose text starts here in the source; and the place in the source after them. Their room comes
     /// from the printer, which gets it back by `keep_room`.
     pub(crate) fn pieces_of(
         &mut self,
@@ -200,7 +200,7 @@ impl<'d> Printer<'d> {
         }
     }
 
-    /// The box of a task without a text, which starts here in the source, with the blank behind it that GitHub wants.
+    /// The box of a task without a text, which starts here in the source, with the blank after it that GitHub wants.
     fn lone_box(&self, part: &Part, events: (usize, usize), start: usize) -> Option<&'d str> {
         if self.source.byte(start) != b'[' || self.page.top().kind != Kind::Item {
             return None;
@@ -269,7 +269,7 @@ impl<'d> Printer<'d> {
         Ok(())
     }
 
-    /// Prints a heading behind `#`; underlined if it has several lines or ends in `#`, or behind a task's box.
+    /// Prints a heading after `#`; underlined if it has several lines or ends in `#`, or after a task's box.
     pub(crate) fn print_heading(
         &mut self,
         part: &Part,
@@ -297,7 +297,7 @@ impl<'d> Printer<'d> {
         }
     }
 
-    /// The lines of a heading whose text starts here in the source, with its attributes behind the last one.
+    /// The lines of a heading whose text starts here in the source, with its attributes after the last one.
     fn heading_lines(&mut self, part: &Part, at: usize, start: usize) -> Result<Lines, AllocError> {
         let events = (at.saturating_add(1), part.end(at));
         let (pieces, behind) = self.pieces_of(part, events, start)?;
@@ -399,7 +399,7 @@ impl<'d> Printer<'d> {
         Ok(fence)
     }
 
-    /// Prints code between fences, the first one with what stands behind it.
+    /// Prints code between fences, the first one with what is after it.
     fn print_fenced(&mut self, text: &str, fence: &str, info: &str) -> Result<(), AllocError> {
         self.page.line_with(fence, info)?;
         self.print_raw(text)?;
@@ -433,14 +433,14 @@ impl<'d> Printer<'d> {
     pub(crate) fn print_html(&mut self, part: &Part, at: usize) -> Result<(), AllocError> {
         let text = part.raw_text(at);
         if text.starts_with(' ') && !self.page.top().is_used {
-            // behind a marker its blanks would be the marker's
+            // after a marker its blanks would be the marker's
             self.page.line("")?;
         }
         self.print_raw(text)
     }
 
     /// Prints a rule: not of `-` below a text without a blank line between, nor at the front of a document, where metadata
-    /// would begin; and behind a bullet not of its sign.
+    /// would begin; and after a bullet not of its sign.
     pub(crate) fn print_rule(&mut self, range: (usize, usize)) -> Result<(), AllocError> {
         let top = self.page.top();
         let own = match self.look.rule {

@@ -4,7 +4,7 @@
 //! how things look, and `ladder` how near to the source each tree is printed. `printer` walks over the events; `page` has what
 //! is printed and the containers that are open; `leaf`, `table`, `container` and `definitions` print the blocks; `kept`,
 //! `spans`, `columns` and `dialect` say which keep their lines. `inline` makes `piece`s of events, and `lines` and `fill` make
-//! lines of these; `sentence` says where sentences end. `line_starts`, `blocks` and `numbers` keep in little memory what stands
+//! lines of these; `sentence` says where sentences end. `line_starts`, `blocks` and `numbers` keep in little memory what is
 //! where.
 //!
 //! Nothing is promised of what is printed: `tocmark_format` lets `tocmark_judge` compare it with the source.

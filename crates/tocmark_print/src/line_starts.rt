@@ -12,7 +12,7 @@ const LAST: usize = 0xFFFF_FFFF;
 #[derive(Drop)]
 pub(crate) struct LineStarts {
     starts: Vec<u32>,
-    /// For each stretch of bytes the number of the line that its first byte stands on.
+    /// For each stretch of bytes the number of the line that its first byte is on.
     index: Vec<usize>,
 }
 
@@ -40,7 +40,7 @@ impl LineStarts {
         self.index_to(at)
     }
 
-    /// Adds a line, behind the others. Behind 4 GiB there is no room for one.
+    /// Adds a line, after the others. After 4 GiB there is no room for one.
     fn push(&mut self, at: usize) -> Result<(), AllocError> {
         if at > LAST {
             return Err(AllocError);
@@ -49,7 +49,7 @@ impl LineStarts {
         Ok(())
     }
 
-    /// Indexes the bytes before a place: they stand on the last line, or are indexed already.
+    /// Indexes the bytes before a place: they are on the last line, or are indexed already.
     fn index_to(&mut self, at: usize) -> Result<(), AllocError> {
         let line = self.starts.len().saturating_sub(1);
         let count = at.saturating_add(STRETCH - 1) / STRETCH;
@@ -70,7 +70,7 @@ impl LineStarts {
         Some(start as usize)
     }
 
-    /// The number of the line that a place stands on, counted from 0. The place stands in the text, or just behind it.
+    /// The number of the line that a place is on, counted from 0. The place is in the text, or just after it.
     pub(crate) fn line_of(&self, at: usize) -> usize {
         let mut line = self.index.get(at / STRETCH).copied().unwrap_or(0);
         for _ in 0..STRETCH {

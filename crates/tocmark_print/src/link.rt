@@ -22,7 +22,7 @@ fn destination_length(text: &str) -> usize {
     bytes.len()
 }
 
-/// Adds a title, between `"` if it can stand there as it is spelled.
+/// Adds a title, between `"` if it can be there as it is spelled.
 pub(crate) fn push_title(text: &mut String, title: &str) -> Result<(), AllocError> {
     let is_other = title.starts_with('\'') || title.starts_with('(');
     let inner = title.get(1..title.len().saturating_sub(1)).unwrap_or("");

@@ -2,7 +2,7 @@
 
 use std::alloc::{AllocError, Global};
 
-/// The bit of a byte behind which the same number goes on.
+/// The bit of a byte after which the same number goes on.
 const MORE: u8 = 128;
 
 /// The most bytes that a number takes.
@@ -26,7 +26,7 @@ impl Numbers {
         self.bytes.len()
     }
 
-    /// Adds a number behind the others.
+    /// Adds a number after the others.
     pub fn push(&mut self, number: usize) -> Result<(), AllocError> {
         let mut rest = number;
         for _ in 0..LONGEST {
@@ -41,7 +41,7 @@ impl Numbers {
         Ok(())
     }
 
-    /// Takes the number that stands at a byte, which becomes the byte behind it; none behind the last one.
+    /// Takes the number that is at a byte, which becomes the byte after it; none after the last one.
     pub fn take(&self, at: &mut usize) -> Option<usize> {
         let mut number = 0usize;
         let mut unit = 1usize;

@@ -46,9 +46,9 @@ pub(crate) enum Lead {
 #[derive(Drop)]
 pub(crate) struct Frame {
     pub(crate) kind: Kind,
-    /// What stands before its first line, if that is something else than before the others.
+    /// What is before its first line, if that is something else than before the others.
     pub(crate) first: String,
-    /// What stands before its lines.
+    /// What is before its lines.
     pub(crate) rest: Lead,
     /// How many columns an item, a footnote or a definition has before each of its lines in the source.
     pub(crate) columns: usize,
@@ -56,12 +56,12 @@ pub(crate) struct Frame {
     pub(crate) content: usize,
     pub(crate) column: usize,
     pub(crate) end: usize,
-    /// The place in the source behind what is printed of it.
+    /// The place in the source after what is printed of it.
     pub(crate) at: usize,
     pub(crate) is_tight: bool,
-    /// Whether blank lines stand only beside definitions of links, in a list and in its items.
+    /// Whether blank lines are only beside definitions of links, in a list and in its items.
     pub(crate) is_close: bool,
-    /// Whether blank lines stand only where the source has them: in a list that has some, and in its items.
+    /// Whether blank lines are only where the source has them: in a list that has some, and in its items.
     pub(crate) keeps_gaps: bool,
     /// Whether its first line is printed.
     pub(crate) is_used: bool,
@@ -69,7 +69,7 @@ pub(crate) struct Frame {
     pub(crate) last: Option<Kind>,
     /// Of the list that is its last block, the sign of its items.
     pub(crate) last_marker: u8,
-    /// Of a list, the sign of its items: a bullet, or what stands behind numbers.
+    /// Of a list, the sign of its items: a bullet, or what is after numbers.
     pub(crate) marker: u8,
     /// Of a list with numbers, that of its next item.
     pub(crate) number: Option<u64>,
@@ -103,7 +103,7 @@ impl Frame {
         !self.is_used && (!self.first.is_empty() || self.kind == Kind::Quote)
     }
 
-    /// Puts behind a text what stands before its next line.
+    /// Puts after a text what is before its next line.
     fn push_prefix(&mut self, text: &mut String) -> Result<(), AllocError> {
         let is_first = !self.is_used && !self.first.is_empty();
         self.is_used = true;
@@ -114,7 +114,7 @@ impl Frame {
         }
     }
 
-    /// How many columns stand before its next line, and before each line behind it.
+    /// How many columns are before its next line, and before each line after it.
     fn prefix_columns(&self) -> (usize, usize) {
         let others = match self.rest {
             Lead::Nothing => 0,
@@ -128,7 +128,7 @@ impl Frame {
         }
     }
 
-    /// Passes what it has before a line of the source; whether that stands there.
+    /// Passes what it has before a line of the source; whether that is there.
     fn is_passed(&self, cursor: &mut Cursor, source: &Source<'_>) -> bool {
         let before = *cursor;
         let is_passed = if self.kind == Kind::Quote {
@@ -151,7 +151,7 @@ fn push_lead(text: &mut String, lead: Lead) -> Result<(), AllocError> {
     }
 }
 
-/// Where a line goes on behind the prefixes of its containers.
+/// Where a line goes on after the prefixes of its containers.
 #[derive(Clone, Copy)]
 pub(crate) struct Place {
     pub(crate) at: usize,
@@ -203,7 +203,7 @@ impl Cursor {
         passed
     }
 
-    /// Passes the sign of a quote, with up to three columns before it and one behind it; whether there is one.
+    /// Passes the sign of a quote, with up to three columns before it and one after it; whether there is one.
     fn pass_quote(&mut self, source: &Source<'_>) -> bool {
         self.pass_blanks(source, 3);
         if self.spare > 0 || source.byte(self.at) != b'>' {
@@ -294,7 +294,7 @@ impl Page {
         self.is_over
     }
 
-    /// Takes back what is printed behind a byte.
+    /// Takes back what is printed after a byte.
     pub(crate) fn take_back(&mut self, start: usize) {
         for _ in start..self.text.len() {
             if self.text.len() <= start {
@@ -304,7 +304,7 @@ impl Page {
         }
     }
 
-    /// How many columns the containers have before the next line, and before each line behind it.
+    /// How many columns the containers have before the next line, and before each line after it.
     pub(crate) fn prefix_columns(&self) -> (usize, usize) {
         let (mut first, mut others) = self.top.prefix_columns();
         for frame in self.outer.iter() {
@@ -323,7 +323,7 @@ impl Page {
         self.top.push_prefix(&mut self.text)
     }
 
-    /// Prints a line behind what the containers have before it; no blanks stand at the end of one without a text.
+    /// Prints a line after what the containers have before it; no blanks are at the end of one without a text.
     pub(crate) fn line(&mut self, line: &str) -> Result<(), AllocError> {
         self.line_with(line, "")
     }
@@ -361,7 +361,7 @@ impl Page {
         self.text.push('\n')
     }
 
-    /// Where a line of the source goes on behind the prefixes of the open containers.
+    /// Where a line of the source goes on after the prefixes of the open containers.
     pub(crate) fn stripped(&self, source: &Source<'_>, line_start: usize) -> Place {
         let mut cursor = Cursor {
             at: line_start,
@@ -377,7 +377,7 @@ impl Page {
         cursor.place(is_met)
     }
 
-    /// Where on the line of a place a block begins that begins there: behind the markers on it, or behind its prefixes.
+    /// Where on the line of a place a block begins that begins there: after the markers on it, or after its prefixes.
     pub(crate) fn front(&self, source: &Source<'_>, at: usize) -> Place {
         let base = source.line_start(at);
         match self.content_behind(base) {
@@ -391,7 +391,7 @@ impl Page {
         }
     }
 
-    /// Where the content of the innermost container that begins behind a place begins, with its column; lists don't count.
+    /// Where the content of the innermost container that begins after a place begins, with its column; lists don't count.
     fn content_behind(&self, place: usize) -> Option<(usize, usize)> {
         if self.top.kind != Kind::List && self.top.content > place {
             return Some((self.top.content, self.top.column));

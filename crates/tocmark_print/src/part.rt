@@ -59,7 +59,7 @@ pub(crate) enum Mark {
     Other,
 }
 
-/// What printing needs of a container that is no block of its own kind, or stands within a line.
+/// What printing needs of a container that is no block of its own kind, or is within a line.
 fn inner_opening(tag: &Tag<'_>) -> Opening {
     match tag {
         Tag::TableHead | Tag::TableRow | Tag::TableCell => Opening::TablePart,
@@ -113,7 +113,7 @@ fn mark_of(event: &Event<'_>) -> Mark {
     }
 }
 
-/// Whether a container stands within a line.
+/// Whether a container is within a line.
 fn is_inline_opening(opening: Opening) -> bool {
     match opening {
         Opening::Emphasis | Opening::Strong | Opening::Strikethrough | Opening::Script => true,
@@ -122,7 +122,7 @@ fn is_inline_opening(opening: Opening) -> bool {
     }
 }
 
-/// Whether an event stands within a line.
+/// Whether an event is within a line.
 pub(crate) fn is_inline(mark: Mark) -> bool {
     match mark {
         Mark::Start(opening) => is_inline_opening(opening),
@@ -132,14 +132,14 @@ pub(crate) fn is_inline(mark: Mark) -> bool {
     }
 }
 
-/// An event, and where it stands in the source. A Start has the place of its End, and both end in the source where that does.
+/// An event, and where it is in the source. A Start has the place of its End, and both end in the source where that is.
 /// All numbers are short, because one list may be the whole document.
 #[derive(Clone, Copy)]
 struct Node {
     mark: Mark,
-    /// How far behind the front of the trees it begins in the source.
+    /// How far after the front of the trees it begins in the source.
     start: u32,
-    /// How far behind that front it ends; of a Start the place of its End, and its own as long as there is none.
+    /// How far after that front it ends; of a Start the place of its End, and its own as long as there is none.
     end: u32,
 }
 
@@ -153,7 +153,7 @@ fn short(number: usize) -> u32 {
     }
 }
 
-/// Whether blank lines stand between the items of a list.
+/// Whether blank lines are between the items of a list.
 #[derive(Clone, Copy, PartialEq, Eq)]
 enum Spread {
     Unknown,
@@ -161,12 +161,12 @@ enum Spread {
     Loose,
 }
 
-/// A list: the place of its Start, and whether blank lines stand between its items.
+/// A list: the place of its Start, and whether blank lines are between its items.
 #[derive(Clone, Copy)]
 struct ListSpread {
     at: u32,
     spread: Spread,
-    /// Whether a blank line of the source stands between two of its items, or between two blocks of an item. One beside
+    /// Whether a blank line of the source is between two of its items, or between two blocks of an item. One beside
     /// the definitions of links alone is none.
     has_gap: bool,
 }
@@ -190,7 +190,7 @@ enum Role {
     Raw,
     /// Another block.
     Block,
-    /// It stands within a line.
+    /// It is within a line.
     Inline,
 }
 
@@ -210,7 +210,7 @@ pub(crate) struct Part {
     nodes: Vec<Node>,
     /// Where the first one begins in the source.
     front: usize,
-    /// How many events stand before the last cell of a table.
+    /// How many events are before the last cell of a table.
     cell: usize,
     /// The containers that are open.
     open: Vec<OpenContainer>,
@@ -437,7 +437,7 @@ impl Part {
         }
     }
 
-    /// Leaves out the events in a cell that ends, unless a container stands in it: its text stays as
+    /// Leaves out the events in a cell that ends, unless a container is in it: its text stays as
     /// it is spelled, and its End says where that is.
     fn leave_out_leaves(&mut self) {
         let inner = self.nodes.get(self.cell..).unwrap_or(&[]);
@@ -536,7 +536,7 @@ impl Part {
         }
     }
 
-    /// Where in the source an event stands; at its front, if there is no such event.
+    /// Where in the source an event is; at its front, if there is no such event.
     pub(crate) fn range(&self, at: usize) -> (usize, usize) {
         let Some(node) = self.nodes.get(at) else {
             return (0, 0);
@@ -560,7 +560,7 @@ impl Part {
         }
     }
 
-    /// The list whose Start stands at a place.
+    /// The list whose Start is at a place.
     fn list(&self, at: usize) -> Option<ListSpread> {
         let number = self.lists.partition_point(|one| (one.at as usize) < at);
         self.lists.get(number).copied()
@@ -572,7 +572,7 @@ impl Part {
             .is_some_and(|one| one.spread == Spread::Loose)
     }
 
-    /// Whether a list is loose only because definitions of links stand in it: `cmark-gfm` takes it for a tight one.
+    /// Whether a list is loose only because definitions of links are in it: `cmark-gfm` takes it for a tight one.
     pub(crate) fn is_loose_by_definitions(&self, list: usize) -> bool {
         self.list(list)
             .is_some_and(|one| one.spread == Spread::Loose && !one.has_gap)
@@ -584,7 +584,7 @@ impl Part {
             .is_some_and(|one| one.spread == Spread::Loose && one.has_gap)
     }
 
-    /// Whether a byte, `*` or `_`, stands in a stretch of the source.
+    /// Whether a byte, `*` or `_`, is in a stretch of the source.
     pub(crate) fn has_between(&self, byte: u8, from: usize, to: usize) -> bool {
         let places = if byte == b'*' {
             &self.stars
@@ -603,7 +603,7 @@ impl Part {
         }
     }
 
-    /// The first place from here on that is no inline event: what is behind a stretch of inlines.
+    /// The first place from here on that is no inline event: what is after a stretch of inlines.
     pub(crate) fn past_inlines(&self, at: usize) -> usize {
         let mut next = at;
         for _ in at..self.len() {
@@ -618,7 +618,7 @@ impl Part {
         next
     }
 
-    /// The place behind the block, or behind the stretch of inlines, that begins at a place.
+    /// The place after the block, or after the stretch of inlines, that begins at a place.
     pub(crate) fn past(&self, at: usize) -> usize {
         if self.is_block(at) {
             self.end(at).saturating_add(1)

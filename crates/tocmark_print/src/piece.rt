@@ -10,7 +10,7 @@ pub(crate) enum Piece {
     Text(usize),
     /// A code span, a sign, the tail of a link or HTML, up to this byte, which isn't broken.
     Solid(usize),
-    /// A line feed of such a piece. `is_deep` says of a break that the line behind it could begin a block in the source,
+    /// A line feed of such a piece. `is_deep` says of a break that the line after it could begin a block in the source,
     /// but that it is indented or lazy.
     Feed { is_deep: bool },
     /// A soft break.
@@ -69,7 +69,7 @@ impl Pieces {
         self.push(Piece::Solid(end))
     }
 
-    /// Adds the pieces of others behind these.
+    /// Adds the pieces of others after these.
     pub(crate) fn append(&mut self, other: &Pieces) -> Result<(), AllocError> {
         let base = self.text.len();
         self.text.push_str(other.text.as_str())?;
@@ -119,7 +119,7 @@ impl Pieces {
     }
 }
 
-/// Whether a text ends with a backslash that escapes what is behind it.
+/// Whether a text ends with a backslash that escapes what is after it.
 pub(crate) fn ends_with_backslash(text: &str) -> bool {
     let signs = text.len().saturating_sub(text.trim_end_matches('\\').len());
     signs % 2 == 1

@@ -141,7 +141,7 @@ impl<'d> Printer<'d> {
         Ok(())
     }
 
-    /// Begins definitions of links. They get a line before them, unless they stand directly below a block of another dialect.
+    /// Begins definitions of links. They get a line before them, unless they are directly below a block of another dialect.
     pub(crate) fn begin_definitions(
         &mut self,
         is_apart: bool,
@@ -152,7 +152,7 @@ impl<'d> Printer<'d> {
         self.begin(Kind::Definitions, !is_below_foreign, (None, (from, to)))
     }
 
-    /// Whether a blank line of the source stands before the line of a place, or nothing.
+    /// Whether a blank line of the source is before the line of a place, or nothing.
     pub(crate) fn is_apart(&self, place: usize) -> bool {
         let source = self.source;
         let base = source.line_start(place);
@@ -160,7 +160,7 @@ impl<'d> Printer<'d> {
         before.trim_matches(&[' ', '\t', '>', '\n']).is_empty()
     }
 
-    /// Begins a block of events behind the definitions that stand before it.
+    /// Begins a block of events after the definitions that are before it.
     pub(crate) fn begin_events(
         &mut self,
         kind: Kind,
@@ -223,7 +223,7 @@ impl<'d> Printer<'d> {
         Ok(())
     }
 
-    /// Prints the inlines of a tight item from a place on; the place behind them.
+    /// Prints the inlines of a tight item from a place on; the place after them.
     fn print_bare_text(&mut self, part: &Part, at: usize) -> Result<usize, AllocError> {
         let source = self.source;
         let start = part.range(at).0;
@@ -270,13 +270,13 @@ impl<'d> Printer<'d> {
         Ok(false)
     }
 
-    /// Prints a block that no comment keeps; the place behind its event, or behind its End.
+    /// Prints a block that no comment keeps; the place after its event, or after its End.
     fn print_next(&mut self, part: &Part, at: usize, kind: Kind) -> Result<usize, AllocError> {
         let (start, end) = part.range(at);
         let behind = part.end(at).saturating_add(1);
         if kind == Kind::Item {
             self.separate(kind, self.is_apart(start))?;
-            // what stands in another item isn't above
+            // what is in another item isn't above
             self.foreign = None;
         } else if self.is_foreign(kind, start, end) {
             self.print_foreign(start, end)?;
@@ -295,7 +295,7 @@ impl<'d> Printer<'d> {
         Ok(behind)
     }
 
-    /// Prints the next block, or opens or closes a container; the place behind that.
+    /// Prints the next block, or opens or closes a container; the place after that.
     fn print_at(&mut self, part: &Part, at: usize) -> Result<usize, AllocError> {
         let next = at.saturating_add(1);
         let Some(event) = part.event(at) else {
@@ -329,7 +329,7 @@ impl<'d> Printer<'d> {
         Ok(())
     }
 
-    /// Prints what stands behind the last tree.
+    /// Prints what is after the last tree.
     pub(crate) fn end(&mut self) -> Result<(), AllocError> {
         self.end_kept()?;
         self.print_gap(self.source.text.len().saturating_add(1))?;

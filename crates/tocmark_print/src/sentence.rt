@@ -8,12 +8,12 @@ const ABBREVIATIONS: [&str; 52] = [
     "pp", "prof", "ref", "resp", "sec", "sr", "st", "usw", "vgl", "viz", "vol", "vs",
 ];
 
-/// What may stand between the end of a sentence and the blank behind it.
+/// What may be between the end of a sentence and the blank after it.
 const CLOSERS: [char; 10] = [
     '"', '\'', ')', ']', '*', '_', '~', '\u{201d}', '\u{2019}', '\u{bb}',
 ];
 
-/// What may stand before the first word of a sentence.
+/// What may be before the first word of a sentence.
 const OPENERS: [char; 11] = [
     '"', '\'', '(', '[', '*', '_', '~', '\u{201c}', '\u{2018}', '\u{ab}', '\u{201e}',
 ];
@@ -47,7 +47,7 @@ fn could_begin(word: &str) -> bool {
     }
 }
 
-/// Whether a sentence ends with a line, if this word stands behind it: it ends with a mark that ends sentences, and the word
+/// Whether a sentence ends with a line, if this word is after it: it ends with a mark that ends sentences, and the word
 /// could begin one.
 pub(crate) fn ends_sentence(line: &str, next: &str) -> bool {
     let word = last_word(line).trim_end_matches(&CLOSERS);

@@ -1,4 +1,4 @@
-//! The source of a document: its lines, and where a place stands on its line. All places are in bytes.
+//! The source of a document: its lines, and where a place is on its line. All places are in bytes.
 
 ghost use Rattle.std.specs.Prelude.{◌≡◌, IfOk};
 
@@ -40,7 +40,7 @@ impl<'s> Source<'s> {
         Ok(Source { text, lines, spans })
     }
 
-    /// The first lines that other programs read as one, of those that end behind a place and don't begin before another one.
+    /// The first lines that other programs read as one, of those that end after a place and don't begin before another one.
     pub(crate) fn span_behind(&self, place: usize, least: usize) -> Option<Span> {
         let number = self
             .spans
@@ -64,7 +64,7 @@ impl<'s> Source<'s> {
         self.text.as_bytes().get(at).copied().unwrap_or(b'\n')
     }
 
-    /// The number of the line that a place stands on, counted from 0.
+    /// The number of the line that a place is on, counted from 0.
     pub(crate) fn line_of(&self, at: usize) -> usize {
         self.lines.line_of(at.min(self.text.len()))
     }
@@ -122,7 +122,7 @@ impl<'s> Source<'s> {
         column
     }
 
-    /// Whether a line without anything but blanks and signs of quotes stands between two places.
+    /// Whether a line without anything but blanks and signs of quotes is between two places.
     pub(crate) fn has_blank_line(&self, from: usize, to: usize) -> bool {
         let first = self.line_of(from).saturating_add(1);
         let last = self.line_of(to);

@@ -1,5 +1,5 @@
 //! Lines that other programs read as one, and that keep their bytes: front matter in which the reader finds rules and texts,
-//! tables of pandoc, and what stands between a tag of Liquid, a shortcode of Hugo or a command of Doxygen and its closing one.
+//! tables of pandoc, and what is between a tag of Liquid, a shortcode of Hugo or a command of Doxygen and its closing one.
 
 use crate::columns::Columns;
 use crate::line_starts::LineStarts;
@@ -55,7 +55,7 @@ struct TagLine<'t> {
     family: Family,
     name: &'t str,
     is_closing: bool,
-    /// How many blanks stand before it, and where its line begins.
+    /// How many blanks are before it, and where its line begins.
     indent: usize,
     from: usize,
 }
@@ -69,7 +69,7 @@ fn ends_front(line: &str) -> bool {
     bare == "---" || bare == "..."
 }
 
-/// Whether a line could stand in front matter: it is blank, a comment, indented, an item, or has a colon behind a key.
+/// Whether a line could be in front matter: it is blank, a comment, indented, an item, or has a colon after a key.
 fn is_front_line(line: &str) -> bool {
     match line.as_bytes().first() {
         None | Some(b' ' | b'\t' | b'#') => true,
@@ -154,7 +154,7 @@ fn doxygen_name(inner: &str) -> Option<(&str, bool)> {
     }
 }
 
-/// The tag that begins a line. An opening has no other tag of its kind behind it on the line, which could close it.
+/// The tag that begins a line. An opening has no other tag of its kind after it on the line, which could close it.
 fn tag_at(line: &str, from: usize) -> Option<TagLine<'_>> {
     let bare = without_front_blanks(line);
     let indent = line.len().saturating_sub(bare.len());
@@ -181,7 +181,7 @@ fn tag_at(line: &str, from: usize) -> Option<TagLine<'_>> {
     None
 }
 
-/// Whether a sign of tags is the first character of a line behind blanks.
+/// Whether a sign of tags is the first character of a line after blanks.
 fn has_sign(line: &str) -> bool {
     let first = line.as_bytes().iter().find(|byte| !is_blank(**byte));
     matches!(first, Some(b'{' | b'@' | b'\\'))
@@ -215,7 +215,7 @@ fn add_span(spans: &mut Vec<Span>, span: Span) -> Result<(), AllocError> {
 }
 
 /// The span that ends with the line that begins at a place, if that closes a tag. Tags that it opens, and those that are open
-/// then, stand in the list.
+/// then, are in the list.
 fn tagged<'t>(
     open: &mut Vec<TagLine<'t>>,
     line: &'t str,
@@ -240,7 +240,7 @@ fn tagged<'t>(
     Ok(Some(Span { from, to }))
 }
 
-/// Adds the spans of a text, behind its front matter, whose lines begin at these places.
+/// Adds the spans of a text, after its front matter, whose lines begin at these places.
 fn add_spans(
     alloc: Global,
     spans: &mut Vec<Span>,

@@ -4,7 +4,7 @@ ghost use Rattle.std.specs.Prelude.{◌≡◌};
 ghost use Rattle.tocmark_print.specs.Defaults.{usual_style};
 ghost use Rattle.tocmark_print.specs.Fills.{fills};
 
-/// What stands before an item of a bullet list.
+/// What is before an item of a bullet list.
 #[derive(Clone, Copy)]
 pub enum Bullet {
     /// `*`
@@ -15,7 +15,7 @@ pub enum Bullet {
     Plus,
 }
 
-/// What stands behind the number of an item.
+/// What is after the number of an item.
 #[derive(Clone, Copy)]
 pub enum Delimiter {
     /// `.`
@@ -24,7 +24,7 @@ pub enum Delimiter {
     Parenthesis,
 }
 
-/// What stands round emphasis: once for emphasis, twice for strong emphasis.
+/// What is round emphasis: once for emphasis, twice for strong emphasis.
 #[derive(Clone, Copy)]
 pub enum Marker {
     /// `*`
@@ -101,11 +101,11 @@ impl Wrap {
 /// Where the content of a list's items begins.
 #[derive(Clone, Copy)]
 pub enum ListIndent {
-    /// One blank behind the marker.
+    /// One blank after the marker.
     Marker,
-    /// Four columns behind the marker's front, as Python-Markdown wants it; one blank behind a marker that is longer.
+    /// Four columns after the marker's front, as Python-Markdown wants it; one blank after a marker that is longer.
     Four,
-    /// As in the source: up to three columns before the marker and four behind it.
+    /// As in the source: up to three columns before the marker and four after it.
     Source,
 }
 
@@ -123,12 +123,12 @@ pub enum Tables {
 pub struct Style {
     /// The bullet of all lists; `None`: each list has that of its first item in the source.
     pub bullet: Option<Bullet>,
-    /// What stands behind the numbers of all lists; `None`: what stands behind the first one in the source.
+    /// What is after the numbers of all lists; `None`: what is after the first one in the source.
     pub delimiter: Option<Delimiter>,
     pub numbering: Numbering,
-    /// What stands round emphasis; `None`: each has that of the source.
+    /// What is round emphasis; `None`: each has that of the source.
     pub emphasis: Option<Marker>,
-    /// What stands round strong emphasis; `None`: each has that of the source.
+    /// What is round strong emphasis; `None`: each has that of the source.
     pub strong: Option<Marker>,
     /// What fences are made of; `None`: each as in the source.
     pub fence: Option<Fence>,
@@ -145,7 +145,7 @@ pub struct Style {
 
 impl Style {
     /// Bullets, delimiters, numbers, emphasis, fences and breaks of lines as in the source, rules of `---`, fences of three, one
-    /// blank behind the markers of items, and tables that are aligned up to 120 columns.
+    /// blank after the markers of items, and tables that are aligned up to 120 columns.
     pub fn new() -> Style
         ensures { result ≡ usual_style }
     {

@@ -37,7 +37,7 @@ fn push_dashes(line: &mut String, alignment: Alignment, width: usize) -> Result<
     if right { line.push(':') } else { Ok(()) }
 }
 
-/// The row of dashes for columns of these widths, behind its first bar.
+/// The row of dashes for columns of these widths, after its first bar.
 fn push_delimiters(
     line: &mut String,
     alignments: &[Alignment],
@@ -86,17 +86,17 @@ fn cell_end(row: &str) -> usize {
     row.len()
 }
 
-/// How the bars of two rows stand to one another.
+/// How the bars of two rows lie to one another.
 #[derive(Clone, Copy, PartialEq, Eq)]
 enum Bars {
-    /// Some don't stand in the same columns.
+    /// Some aren't in the same columns.
     Apart,
     /// Only those differ that close the rows, or there are none that do.
     Ragged,
     Same,
 }
 
-/// How the bars of two rows stand to one another.
+/// How the bars of two rows lie to one another.
 fn bars_of(first: &str, second: &str) -> Bars {
     let mut rests = (first, second);
     for _ in 0..=first.len() {
@@ -210,7 +210,7 @@ impl Cells {
 }
 
 impl Printer<'_> {
-    /// Adds the cell with these events, behind which its End stands. One without events stays as it
+    /// Adds the cell with these events, after which its End is. One without events stays as it
     /// is spelled.
     fn add_cell(
         &mut self,
@@ -286,7 +286,7 @@ impl Printer<'_> {
         Ok(true)
     }
 
-    /// How the bars of a table stand to one another in the source.
+    /// How the bars of a table are to one another in the source.
     fn bars(&self, start: usize, end: usize) -> Bars {
         let source = self.source;
         let head = without_blanks(source.slice(start, source.line_end(start)));
@@ -326,7 +326,7 @@ impl Printer<'_> {
         Ok(widths)
     }
 
-    /// Prints the rows of a table as they stand in the source, without blanks at their ends.
+    /// Prints the rows of a table as they are in the source, without blanks at their ends.
     fn print_own_rows(&mut self, start: usize, end: usize) -> Result<(), AllocError> {
         let source = self.source;
         let first = source.line_of(start);

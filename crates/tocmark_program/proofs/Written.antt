@@ -27,7 +27,7 @@ use Rattle.tocmark_program.specs.declared.arguments.Spelling.TheVariants.{Escape
 abbrev Text : Type 0
 Text = String Global
 
--- a string takes a text behind what it holds
+-- a string takes a text after what it holds
 abbrev pub takes : Text → List ℕ → Text → Type 0
 takes s t u = string_bytes u ≡ string_bytes s ++ t
 

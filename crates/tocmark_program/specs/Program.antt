@@ -78,7 +78,7 @@ pub record IsRewritten (spelling : Spelling) (text output : List ℕ) : Type 0 w
   pub ends_well : (rewriting spelling text).outcome ≡ Ok done
   pub joined : output ≡ concat (rewriting spelling text).texts
 
--- the input is text, and was read and written back behind what the output held
+-- the input is text, and was read and written back after what the output held
 pub record Wrote (spelling : Spelling) (input : List ℕ) (old new : Option (List ℕ)) : Type 0 where
   pub output : List ℕ
   pub is_text : IsUtf8 input

@@ -1,5 +1,5 @@
 //! Reads Markdown on standard input, and writes it back on standard output; with `--source` each text as it
-//! stands in the input, where that reads back.
+//! is in the input, where that reads back.
 #![tactic(auto)]
 
 mod arguments;

@@ -1,4 +1,4 @@
--- A line of open fenced code at the top is taken as it stands, if its first byte is no fence's.
+-- A line of open fenced code at the top is taken as it is, if its first byte is no fence's.
 use Rattle.std.proofs.Common.{◌≡◌, ℕ, zero, suc, ◌+◌, ◌-◌, ◌%◌, ◌<◌, Bool, true, false, not, ◌==◌, ◌&&◌, ◌||◌, cond, if◌then◌else◌, nat_lt, nat_le, List, [], ◌∷◌, ◌++◌, length, take, drop, take_while, replicate, unwrap_or, Option, Some, None, min, refl, ap, sym, ◌∙◌, arith}
 use Rattle.std.proofs.lemmas.Bool.Decides.{nat_tests}
 use Rattle.std.proofs.lemmas.List.{length-drop}
@@ -62,7 +62,7 @@ stays cells c b at h = by_test (b == 9)
     by_test true = longer (replicate (4 - length cells % 4) (cell 32 at))
     by_test false = longer (cell b at ∷ [])
 
--- columns behind the first that is no space change nothing
+-- columns after the first that is no space change nothing
 kept : (cells : List Cell) (c : Cell) (at : ℕ) (bytes : List ℕ) → find is_marked cells ≡ Some c → find is_marked (cells_of cells at bytes) ≡ Some c
 kept cells c at [] h = h
 kept cells c at (b ∷ bs) h = kept (filled cells b at) c (plus at 1) bs (stays cells c b at h)
@@ -95,7 +95,7 @@ begins_behind cells at (x ∷ xs) b none h =
       byte = ap (λ (o : Option ℕ). unwrap_or o x) f;
     }
 
--- where the first column stands that is no space
+-- where the first column is that is no space
 record StandsAt (c : Cell) (cells : List Cell) : Type 0 where
   behind : List Cell
   rest : drop (prefix_len is_space cells) cells ≡ c ∷ behind
@@ -190,7 +190,7 @@ first_kept c cs at (b ∷ bs) end = by_test (λ more. first_kept c more (plus at
     by_test more true = more (cs ++ replicate (4 - length (c ∷ cs) % 4) (cell 32 at))
     by_test more false = more (cs ++ cell b at ∷ [])
 
--- the first column stands at the first byte
+-- the first column is at the first byte
 first_place : (at : ℕ) (bytes : List ℕ) (b end : ℕ) → find is_ink bytes ≡ Some b → cell_place (cells_of [] at bytes) 0 end ≡ at
 unfolding filled
 first_place at [] b end h = absurd (none-some b h)

@@ -67,7 +67,7 @@ one_differs b c x h = by_test (b == x) refl
     by_test true e = inr (let same : b ≡ x = eq_of b x e in subst (λ y. (c == y) ≡ false) same h)
     by_test false e = inl e
 
--- the tail of a line begins behind a minus with a byte behind it that is neither a minus nor a space
+-- the tail of a line begins after a minus with a byte after it that is neither a minus nor a space
 tail_behind : (at c : ℕ) (cs : List ℕ) → IsBehindMark c → 0 < (tail_of (numbered at (45 ∷ c ∷ cs))).from
 unfolding tail_of
 tail_behind at c cs h =
@@ -99,7 +99,7 @@ no_bullet at b c cs h d = rw (h.space, two_cells (length (numbered (at + 1 + 1) 
     by_mark x true = refl
     by_mark x false = refl
 
--- a minus with such a byte behind it begins nothing
+-- a minus with such a byte after it begins nothing
 pub minus_begins_nothing : (at c : ℕ) (cs : List ℕ) → IsBehindMark c → BeginsNothing (45 ∷ c ∷ cs) (numbered at (45 ∷ c ∷ cs))
 unfolding first_cursor underline_at is_underline_byte
 minus_begins_nothing at c cs h = record {
@@ -144,7 +144,7 @@ equals_begins_nothing at c cs h = record {
   underline = rw (h.equals, h.space, two_cells (length (numbered (at + 1 + 1) cs))) refl;
 }
 
--- how many digits stand in front
+-- how many digits are in front
 abbrev digits : ℕ → List ℕ → ℕ
 digits at bs = digit_count (numbered at bs) 0
 
@@ -189,7 +189,7 @@ no_number at bs fits h =
     by_count d x true false = refl
     by_count d x false b = refl
 
--- digits with neither `.` nor `)` behind them begin nothing
+-- digits with neither `.` nor `)` after them begin nothing
 pub digits_begin_nothing : (at b : ℕ) (bs : List ℕ) → length (b ∷ bs) < 2 ^ 64 → is_ascii_digit b ≡ true → ends_number (b ∷ bs) ≡ false → BeginsNothing (b ∷ bs) (numbered at (b ∷ bs))
 unfolding first_cursor marker_at bullet_at is_rule is_rule_byte
 digits_begin_nothing at b bs fits d h =
@@ -212,12 +212,12 @@ digits_begin_nothing at b bs fits d h =
       underline = no_underline at b bs (grind (arith, nat_tests)) minus;
     }
 
--- what stands behind a mark keeps it from being a marker
+-- what is after a mark keeps it from being a marker
 abbrev pub GoesOn : List ℕ → Type 0
 GoesOn [] = ⊥
 GoesOn (c ∷ cs) = IsBehindMark c
 
--- a line that begins no block by what stands in front: another byte than a marker's, digits without `.` and `)`, or a mark that goes on
+-- a line that begins no block by what is in front: another byte than a marker's, digits without `.` and `)`, or a mark that goes on
 abbrev pub BeginsPlainly : List ℕ → Type 0
 BeginsPlainly [] = ⊥
 BeginsPlainly (b ∷ bs) = IsQuiet b ⊎ ((is_ascii_digit b ≡ true) × (ends_number (b ∷ bs) ≡ false)) ⊎ (((b ≡ 45) ⊎ (b ≡ 43) ⊎ (b ≡ 61)) × GoesOn bs)

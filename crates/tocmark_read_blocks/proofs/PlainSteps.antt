@@ -161,7 +161,7 @@ whole pieces start end number = record (paragraph pieces start end number) {
   leaf = leaf.Nothing;
 }
 
--- no definition stands at the front of a paragraph whose first byte is no bracket
+-- no definition is at the front of a paragraph whose first byte is no bracket
 settled_none : (text : List ℕ) (p : Piece) (pieces : List Piece) (end number : ℕ) → (byte_at text p.start == 91) ≡ false → settled text (paragraph (p ∷ pieces) p.start end number) ≡ paragraph (p ∷ pieces) p.start end number
 unfolding settled definitions_from begins_definition shortened
 settled_none text p pieces end number h = rw h refl

@@ -11,7 +11,7 @@ use Rattle.tocmark_read_blocks.proofs.PlainLines.{IsWithin, lines_within, cells_
 use Rattle.tocmark_read_blocks.proofs.PlainSteps.{IsPlainLine, BeginsNothing}
 use Rattle.tocmark_read_blocks.proofs.PlainPages.{ArePlain}
 
--- a line of a text: no byte of it ends a line or is a tab, and it begins no block, wherever it stands
+-- a line of a text: no byte of it ends a line or is a tab, and it begins no block, wherever it is
 pub record IsTextLine (l : List ℕ) : Type 0 where
   pub some : 0 < length l
   pub within : AllByRecursion IsWithin l
@@ -60,7 +60,7 @@ first_place_of : (l : List ℕ) (start end : ℕ) → 0 < length l → cell_plac
 first_place_of [] start end h = absurd (omega arith)
 first_place_of (b ∷ bs) start end h = refl
 
--- such a line that stands in a text is plain
+-- such a line that is in a text is plain
 line_plain : (text l : List ℕ) (start next number : ℕ) → bytes_between text start (start + length l) ≡ l → IsTextLine l → start + length l < 2 ^ 64 → start < next → IsPlainLine text (numbered start l) (record { number = number; start = start; end = start + length l; next = next })
 line_plain text l start next number e h fits order =
     record {

@@ -46,7 +46,7 @@ start_or known text cells line place directly s other =
     (tag_or (tag_in known text cells line place directly s)
     (task_or (task_in known text cells line place s) (metadata_or (metadata_in known text cells line place directly s) other)))
 
--- a thematic break or metadata where one stands, and text elsewhere
+-- a thematic break or metadata where one is, and text elsewhere
 abbrev pub rule_or_text : LeafStart → List ℕ → List Cell → Line → LineStart → State → State
 rule_or_text start.Rule text cells line place s = rule_started text cells line place s
 rule_or_text start.Blank text cells line place s = text_taken text cells line place s
@@ -65,7 +65,7 @@ abbrev pub underlined_if : Known → Bool → LeafStart → List ℕ → List Ce
 underlined_if known true other text cells line place level s = underlined_in known text level line s
 underlined_if known false other text cells line place level s = rule_or_text other text cells line place s
 
--- behind definitions alone, an underline is metadata, a thematic break or text
+-- after definitions alone, an underline is metadata, a thematic break or text
 unfoldable pub underline_taken_in : Known → List ℕ → List Cell → Line → Tail → LineStart → HeadingLevel → State → State
 underline_taken_in known text cells line tail place level s =
     let t = settled text s in
@@ -86,7 +86,7 @@ started_in known (start.Metadata k) text cells line tail place s = metadata_star
 started_in known (start.Task done) text cells line tail place s = task_started text cells line place done s
 started_in known (start.QuoteKind k) text cells line tail place s = quote_kind_started cells line place k s
 
--- the leaf that begins behind the containers that began
+-- the leaf that begins after the containers that began
 abbrev pub started_at_in : Known → List ℕ → List Cell → Line → Tail → State × LineStart → State
 started_at_in known text cells line tail found =
     let s = found.0 in
@@ -107,7 +107,7 @@ leaf_started_in known text cells line place s =
 abbrev pub is_lazy : LineStart → State → State → Bool
 is_lazy place before after = nat_lt place.depth (length before.opened) && (length after.blocks == length before.blocks)
 
--- what a line may be as a header is noted behind it
+-- what a line may be as a header is noted after it
 abbrev pub noted : List Cell → LineStart → State → State → State
 noted cells place before after = record after { header = header_of cells place.cursor (is_lazy place before after) }
 
@@ -116,7 +116,7 @@ abbrev pub tabled_as : Known → List ℕ → List Cell → Line → LineStart �
 tabled_as known text cells line place (s, true) = s
 tabled_as known text cells line place (s, false) = noted cells place s (leaf_started_in known text cells line place s)
 
--- the delimiter row of a table stands before all else
+-- the delimiter row of a table is before all else
 unfoldable pub tabled_in : Known → List ℕ → List Cell → Line → LineStart → State → State
 tabled_in known text cells line place s =
     tabled_as known text cells line place (delimiters_taken text cells line place.cursor (goes_directly place.depth s) s)
@@ -150,7 +150,7 @@ turn_taken_in known (turn.Takes column) text cells line place s = code_taken tex
 turn_taken_in known turn.Passes text cells line place s = passed_in known text cells line place s
 turn_taken_in known (turn.Row t) text cells line place s = row_taken text cells line place.cursor t s
 
--- a line is taken from the place behind the containers that go on
+-- a line is taken from the place after the containers that go on
 abbrev pub taken_at_in : Known → List ℕ → List Cell → Line → LineStart → State → State
 taken_at_in known text cells line place s = turn_taken_in known (turn_in known text cells line place s) text cells line place s
 

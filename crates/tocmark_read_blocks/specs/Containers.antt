@@ -23,7 +23,7 @@ use Rattle.tocmark_read_constructs.specs.DefinitionLists.{definition_opened}
 use Rattle.tocmark_read_constructs.specs.Footnotes.{note_opened}
 use Rattle.tocmark_read_constructs.specs.Quotes.{quote_opened}
 
--- the open paragraph stands in the innermost container that goes on
+-- the open paragraph is in the innermost container that goes on
 unfoldable pub goes_directly : ℕ → State → Bool
 goes_directly depth s = is_paragraph s.leaf && nat_le (length s.opened) depth
 

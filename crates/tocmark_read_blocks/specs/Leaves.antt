@@ -33,7 +33,7 @@ goes_past_blank html.CharacterData = true
 goes_past_blank html.Named = false
 goes_past_blank html.Alone = false
 
--- indented code goes on behind four columns, and in blank lines
+-- indented code goes on after four columns, and in blank lines
 abbrev pub indented_turn : List Cell → Cursor → Turn
 indented_turn cells cursor =
     if nat_le 4 (indent_of cursor) then turn.Takes (plus cursor.column 4)
@@ -53,7 +53,7 @@ leaf_turn text cells line cursor (leaf.Metadata k) =
     if closes_metadata k text line.start then turn.Closes else turn.Takes cursor.column
 leaf_turn text cells line cursor (leaf.Table t) = option_map_or (λ longer. turn.Row longer) (row_turn text cells line cursor t) turn.Passes
 
--- a leaf ends before each blank line, whatever stands in it
+-- a leaf ends before each blank line, whatever is in it
 unfoldable pub ends_at_blank : Leaf → Bool
 ends_at_blank leaf.Nothing = true
 ends_at_blank leaf.Paragraph = true
@@ -100,14 +100,14 @@ leaf_at cells rest tail cursor in_paragraph directly =
 unfoldable pub metadata_or : Option MetadataBlockKind → LeafStart → LeafStart
 metadata_or found other = option_map_or (λ k. start.Metadata k) found other
 
--- a box, or what else stands there
+-- a box, or what else is there
 unfoldable pub task_or : Option Bool → LeafStart → LeafStart
 task_or found other = option_map_or (λ done. start.Task done) found other
 
--- a kind, or what else stands there
+-- a kind, or what else is there
 unfoldable pub quote_kind_or : Option BlockQuoteKind → LeafStart → LeafStart
 quote_kind_or found other = option_map_or (λ k. start.QuoteKind k) found other
 
--- HTML that is a tag alone on its line, or what else stands there
+-- HTML that is a tag alone on its line, or what else is there
 unfoldable pub tag_or : Bool → LeafStart → LeafStart
 tag_or found other = if found then start.Html html.Alone else other

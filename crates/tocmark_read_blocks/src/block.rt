@@ -297,7 +297,7 @@ fn take_cells(so_far: &mut BlocksSoFar, alloc: Global, row: &Row<'_, '_>) -> Res
     }
 }
 
-/// A text, what is known of it, and whether a tab stands in it.
+/// A text, what is known of it, and whether a tab is in it.
 #[derive(Clone, Copy)]
 struct Source<'t> {
     known: Known,
@@ -341,7 +341,7 @@ fn whole_piece(line: Line) -> Piece
 }
 
 /// Whether a line is one of open fenced code at the top, as its first bytes tell: it isn't blank, and
-/// begins with another byte than the fence, behind spaces and tabs.
+/// begins with another byte than the fence, after spaces and tabs.
 fn is_fenced(so_far: &BlocksSoFar, source: &Source<'_>, line: Line) -> bool
     ensures { result ≡ true →
         line_taken_in source.now.known source.now.text.now (page so_far.now) line
@@ -362,7 +362,7 @@ fn is_fenced(so_far: &BlocksSoFar, source: &Source<'_>, line: Line) -> bool
     }
 }
 
-/// Whether a leaf ends before each blank line, whatever stands in it.
+/// Whether a leaf ends before each blank line, whatever is in it.
 #[tactic(auto, unfolding(crate::specs::Leaves::ends_at_blank))]
 fn ends_at_blank(leaf: Leaf) -> bool
     ensures { result ≡ ends_at_blank leaf }
@@ -378,7 +378,7 @@ fn ends_at_blank(leaf: Leaf) -> bool
     }
 }
 
-/// Whether a line only ends the open leaf: it is empty and stands at the top, and no tables are read.
+/// Whether a line only ends the open leaf: it is empty and is at the top, and no tables are read.
 fn is_plain_end(so_far: &BlocksSoFar, source: &Source<'_>, line: Line) -> bool
     ensures { result ≡ true →
         line_taken_in source.now.known source.now.text.now (page so_far.now) line

@@ -16,7 +16,7 @@ use tocmark_read_page::leaf::is_paragraph;
 use tocmark_read_page::line_start::{LineStart, Row};
 use tocmark_read_page::page::{BlockKind, BlocksSoFar};
 
-/// Whether the open paragraph stands in the innermost container that goes on.
+/// Whether the open paragraph is in the innermost container that goes on.
 #[tactic(auto, unfolding(crate::specs::Containers::goes_directly))]
 pub fn goes_directly(so_far: &BlocksSoFar, depth: usize) -> bool
     ensures { result ≡ goes_directly depth (page so_far.now) }
@@ -91,7 +91,7 @@ fn open_item(
     })
 }
 
-/// Opens the container that begins at a place, and gives the place behind its marker.
+/// Opens the container that begins at a place, and gives the place after its marker.
 #[tactic(auto, unfolding(crate::specs::Containers::container_once_in))]
 fn open_once(
     so_far: &mut BlocksSoFar,

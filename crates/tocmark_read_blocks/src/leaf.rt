@@ -69,7 +69,7 @@ fn goes_past_blank(kind: HtmlKind) -> bool
     }
 }
 
-/// What indented code does with a line: it goes on behind four columns, and in blank lines.
+/// What indented code does with a line: it goes on after four columns, and in blank lines.
 fn indented_turn(cells: &Cells, cursor: Cursor) -> Turn
     ensures { result ≡ indented_turn cells.now cursor }
 {
@@ -188,9 +188,9 @@ fn mark_at(
     rule_at(cells, tail, cursor.ink)
 }
 
-/// What the rest of a line is. `rest` are its bytes behind its spaces, `tail` is the tail of the whole
+/// What the rest of a line is. `rest` are its bytes after its spaces, `tail` is the tail of the whole
 /// line; `in_paragraph` says that it can go on with a paragraph, and `directly` that this paragraph
-/// stands in the innermost container that goes on in the line.
+/// is in the innermost container that goes on in the line.
 #[tactic(auto, unfolding(crate::specs::Leaves::leaf_at))]
 pub fn leaf_at(
     cells: &Cells,
@@ -235,7 +235,7 @@ pub fn task_or(found: Option<bool>, other: LeafStart) -> LeafStart
     }
 }
 
-/// The kind of a quote where one is named, and else what stands there.
+/// The kind of a quote where one is named, and else what is there.
 #[tactic(auto, unfolding(crate::specs::Leaves::quote_kind_or))]
 pub fn quote_kind_or(found: Option<BlockQuoteKind>, other: LeafStart) -> LeafStart
     ensures { result ≡ quote_kind_or found other }
@@ -246,7 +246,7 @@ pub fn quote_kind_or(found: Option<BlockQuoteKind>, other: LeafStart) -> LeafSta
     }
 }
 
-/// An HTML block where a tag alone behind a quote's kind begins one, and else what stands there.
+/// An HTML block where a tag alone after a quote's kind begins one, and else what is there.
 #[tactic(auto, unfolding(crate::specs::Leaves::tag_or))]
 pub fn tag_or(found: bool, other: LeafStart) -> LeafStart
     ensures { result ≡ tag_or found other }

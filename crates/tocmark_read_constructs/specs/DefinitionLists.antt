@@ -86,7 +86,7 @@ abbrev pub definitions_open : ℕ → ℕ → ℕ → State → State
 definitions_open list end line s =
     record s { opened = s.opened ++ record { container = container.Definitions; block = list; end = end; line = line; had = true } ∷ [] }
 
--- a list begins with a paragraph in its place, which is a title behind all blocks
+-- a list begins with a paragraph in its place, which is a title after all blocks
 unfoldable pub list_begun : ℕ → Block → ℕ → State → State
 list_begun place b line s =
     definitions_open place b.end line (record s { blocks = slice_set s.blocks place (list_from b) ++ title_of b ∷ [] })
@@ -102,7 +102,7 @@ abbrev pub title_in : ℕ → Block → ℕ → State → Option LeftList → St
 title_in place b line s None = list_begun place b line s
 title_in place b line s (Some left) = list_resumed place b line left s
 
--- the line of the last block; one behind which others stand is apart from each definition
+-- the line of the last block; one with others after it is apart from each definition
 abbrev pub line_of : ℕ → State → ℕ
 line_of place s = if is_last place s then s.line else 0
 
@@ -119,7 +119,7 @@ is_among_definitions depth s =
 abbrev pub ended_if_text : State → State × Bool
 ended_if_text s = if has_text s then (leaf_finished s, true) else (s, false)
 
--- the open paragraph, if there is one, ends if it has text behind its definitions of links
+-- the open paragraph, if there is one, ends if it has text after its definitions of links
 unfoldable pub text_ended : List ℕ → State → State × Bool
 text_ended text s = if is_paragraph s.leaf then ended_if_text (settled text s) else (s, true)
 
@@ -128,7 +128,7 @@ abbrev pub title_found : State → Option (ℕ × Block) → State × Bool
 title_found s None = (s, false)
 title_found s (Some (place, b)) = (title_put place b s, true)
 
--- behind a paragraph that has no text nothing is a title
+-- after a paragraph that has no text nothing is a title
 abbrev pub title_behind : State × Bool → State × Bool
 title_behind (s, false) = (s, false)
 title_behind (s, true) = title_found s (last_title (length s.opened) s.blocks)
@@ -137,7 +137,7 @@ title_behind (s, true) = title_found s (last_title (length s.opened) s.blocks)
 unfoldable pub title_taken : List ℕ → State → State × Bool
 title_taken text s = title_behind (text_ended text s)
 
--- a list of definitions is innermost, if a title or a definition stands before a line
+-- a list of definitions is innermost, if a title or a definition is before a line
 unfoldable pub definitions_entered : List ℕ → ℕ → State → State × Bool
 definitions_entered text depth s =
     if is_among_definitions depth s then (closed_to text depth s, true)
@@ -150,6 +150,6 @@ definition_begun cells line place d (s, true) =
     some_place (with_place (moved cells place.cursor d.next)
     (opened_with (container.Definition d.width) kind.DefinitionListDefinition (start_of cells place line) line s))
 
--- a definition begins, if a title or a definition of its list stands before it
+-- a definition begins, if a title or a definition of its list is before it
 unfoldable pub definition_opened : List ℕ → List Cell → Line → LineStart → DefinitionStart → State → State × Option LineStart
 definition_opened text cells line place d s = definition_begun cells line place d (definitions_entered text place.depth s)

@@ -16,7 +16,7 @@ use Rattle.tocmark_read_page.specs.declared.page.BlockKind.TheVariants as kind
 abbrev pub name_of : List Cell → NoteStart → Line → BlockKind
 name_of cells note line = kind.Note (cell_place cells note.from line.end) (cell_place cells note.to line.end)
 
--- the definition of a footnote begins, behind one in which it would stand directly
+-- the definition of a footnote begins, after one in which it would be directly
 unfoldable pub note_opened : List ℕ → List Cell → Line → LineStart → NoteStart → State → State × LineStart
 note_opened text cells line place note s =
     with_place (moved cells place.cursor note.next)

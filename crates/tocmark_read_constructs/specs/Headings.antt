@@ -1,4 +1,4 @@
--- Headings, with the attributes behind their text.
+-- Headings, with the attributes after their text.
 use Rattle.std.specs.Prelude.{ℕ, ◌-◌, Bool, not, ◌==◌, ◌&&◌, ◌||◌, if◌then◌else◌, List, length, reverse, take_while, Option, Some, None, true, take, slice_set}
 use Rattle.std.specs.Option.{option_map_or}
 use Rattle.tocmark_event.specs.declared.event.HeadingLevel.{HeadingLevel}
@@ -22,7 +22,7 @@ use Rattle.tocmark_read_constructs.specs.Blanks.{trailing_blanks}
 unfoldable pub is_no_word : ℕ → Bool
 is_no_word b = (b == 123) || (b == 125) || (b == 60) || (b == 62) || (b == 92)
 
--- the bytes at the end that may stand between braces
+-- the bytes at the end that may be between braces
 abbrev pub trailing_words : List ℕ → ℕ
 trailing_words bytes = length (take_while (λ b. not (is_no_word b)) (reverse bytes))
 
@@ -33,7 +33,7 @@ braces_in bytes =
     let from = to - trailing_words (bytes_between bytes 0 to) - 1 in
     if (byte_at bytes to == 125) && (byte_at bytes from == 123) then Some (record { from = from; to = to }) else None
 
--- the braces behind the text of a heading on one line, counted from its first column on
+-- the braces after the text of a heading on one line, counted from its first column on
 unfoldable pub heading_braces : List Cell → Heading → Option Braces
 heading_braces cells heading = braces_in (bytes_between (bytes_of cells) heading.from (length cells))
 
@@ -41,7 +41,7 @@ heading_braces cells heading = braces_in (bytes_between (bytes_of cells) heading
 unfoldable pub before_braces : List Cell → Heading → Braces → Heading
 before_braces cells heading b = record heading { to = heading_end_before cells heading.from (plus heading.from b.from) }
 
--- where the braces of a heading stand in a text, whose line ends at a place
+-- where the braces of a heading are in a text, whose line ends at a place
 unfoldable pub placed_braces : List Cell → Heading → ℕ → Braces → Braces
 placed_braces cells heading end b =
     record { from = cell_place cells (plus heading.from b.from) end; to = cell_place cells (plus heading.from b.to) end }
@@ -76,7 +76,7 @@ cut_before p b s =
     let last = length s.pieces - 1 in
     record s { pieces = if b.from == 0 then take last s.pieces else slice_set s.pieces last (record p { end = plus p.start b.from }) }
 
--- where the braces in a line stand
+-- where the braces in a line are
 abbrev pub braces_from : ℕ → Braces → Braces
 braces_from start b = record { from = plus start b.from; to = plus start b.to }
 

@@ -65,7 +65,7 @@ known_of syntax text lines = record {
   pluses_end = if syntax.pluses_metadata then last_closing metadata.PlusesStyle text lines else 0;
 }
 
--- metadata begins with a line if the next one is neither blank nor its end, and its end stands below
+-- metadata begins with a line if the next one is neither blank nor its end, and its end is below
 unfoldable pub begins_metadata : MetadataBlockKind → ℕ → List ℕ → Line → Bool
 begins_metadata k end text line =
     nat_lt line.number end && opens_metadata k text line.start
@@ -81,7 +81,7 @@ unfoldable pub is_outside : ℕ → State → Bool
 is_outside depth s =
     (depth == 0) || ((depth == 1) && option_map_or (λ (o : Opened). is_list o.container) (slice_get s.opened 0) false)
 
--- a place at the first byte of a line that stands in no container
+-- a place at the first byte of a line that is in no container
 unfoldable pub is_front : List Cell → LineStart → State → Bool
 is_front cells place s = not (is_blank_at cells place.cursor) && (place.cursor.ink == 0) && is_outside place.depth s
 

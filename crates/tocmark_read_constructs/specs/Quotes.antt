@@ -37,7 +37,7 @@ kind_named word =
     else (if same_word word (codes "[!warning]") then Some quote.Warning
     else (if same_word word (codes "[!caution]") then Some quote.Caution else None))))
 
--- the kind that a line names with nothing but spaces and tabs behind it
+-- the kind that a line names with nothing but spaces and tabs after it
 unfoldable pub quote_kind_of : List ℕ → Option BlockQuoteKind
 quote_kind_of line = kind_named (bytes_between line 0 (length line - trailing_blanks line))
 
@@ -50,7 +50,7 @@ unfoldable pub is_new_quote : Line → State → Bool
 is_new_quote line s =
     option_map_or (λ (o : Opened). is_quote o.container && begins_in line (slice_get s.blocks o.block)) (innermost s.opened) false
 
--- the kind just behind the mark of a quote
+-- the kind just after the mark of a quote
 unfoldable pub quote_kind_in : Known → List ℕ → List Cell → Line → LineStart → State → Option BlockQuoteKind
 quote_kind_in known text cells line place s =
     if known.syntax.quote_kinds && (not (is_blank_at cells place.cursor) && is_new_quote line s)
@@ -72,13 +72,13 @@ unfoldable pub is_first_line : List Cell → LineStart → Bool → State → Bo
 is_first_line cells place directly s =
     not (is_blank_at cells place.cursor) && nat_le (indent_of place.cursor) 3 && directly && not (has_text s)
 
--- a tag alone on the line behind a quote's kind begins HTML, since the paragraph there has no line
+-- a tag alone on the line after a quote's kind begins HTML, since the paragraph there has no line
 unfoldable pub tag_in : Known → List ℕ → List Cell → Line → LineStart → Bool → State → Bool
 tag_in known text cells line place directly s =
     if known.syntax.quote_kinds && is_first_line cells place directly s
     then is_alone (html_kind (bytes_between text (start_of cells place line) line.end)) else false
 
--- the line that began a quote names its kind, and the lines behind it go on as those of a paragraph
+-- the line that began a quote names its kind, and the lines after it go on as those of a paragraph
 unfoldable pub quote_kind_started : List Cell → Line → LineStart → BlockQuoteKind → State → State
 quote_kind_started cells line place k s =
     leaf_opened leaf.Paragraph kind.Paragraph (start_of cells place line) line (record s { blocks = of_kind (kind.Quote (Some k)) s.blocks })

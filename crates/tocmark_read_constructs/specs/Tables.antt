@@ -39,7 +39,7 @@ no_marks = record { left = false; right = false; dash = false }
 unfoldable pub is_blank_column : Column → Bool
 is_blank_column c = not c.left && not c.dash
 
--- one more byte of a column: a colon before its other marks says left, one behind them right
+-- one more byte of a column: a colon before its other marks says left, one after them right
 unfoldable pub column_step : Column → ℕ → Column
 column_step c b =
     if b == 45 then record c { dash = true }
@@ -77,11 +77,11 @@ is_delimiter_row row =
     list_all is_delimiter_byte row && list_any (λ b. b == 124) row && list_any (λ b. b == 45) row
     && not ((fold bare_step (false, false) (behind_bar row)).1)
 
--- a bar divides cells if no backslash stands just before it
+-- a bar divides cells if no backslash is just before it
 unfoldable pub is_bar : ℕ → ℕ → Bool
 is_bar before b = (b == 124) && not (before == 92)
 
--- the place of the first bar among bytes from a place on, behind a byte
+-- the place of the first bar among bytes from a place on, after a byte
 abbrev pub next_bar_from : ℕ → ℕ → ℕ → List ℕ → ℕ
 next_bar_from end place before [] = end
 next_bar_from end place before (b ∷ bs) = if is_bar before b then place else next_bar_from end (plus place 1) b bs
@@ -94,13 +94,13 @@ next_bar text from end = next_bar_from end from 124 (bytes_between text from end
 unfoldable pub first_cell : List ℕ → ℕ → ℕ
 first_cell text start = if byte_at text start == 124 then plus start 1 else start
 
--- where the cell that begins at a place ends: nothing but blanks behind the last bar is none
+-- where the cell that begins at a place ends: nothing but blanks after the last bar is none
 unfoldable pub cell_end : List ℕ → ℕ → ℕ → Option ℕ
 cell_end text end place =
     let bar = next_bar text place end in
     if nat_lt bar end || nat_lt (behind_blanks text place) end then Some bar else None
 
--- one more cell, and the place behind its bar
+-- one more cell, and the place after its bar
 unfoldable pub count_once : List ℕ → ℕ → ℕ → ℕ → ℕ × Option ℕ
 count_once text end place count = option_map_or (λ bar. (plus count 1, Some (plus bar 1))) (cell_end text end place) (count, None)
 
@@ -153,7 +153,7 @@ ink_of cells line cursor = cell_place cells cursor.ink line.end
 abbrev pub row_of : List ℕ → List Cell → Line → Cursor → List ℕ
 row_of text cells line cursor = bytes_between text (ink_of cells line cursor) line.end
 
--- a line that goes into a paragraph lazily is no header; one with a bar in front may stand behind other lines
+-- a line that goes into a paragraph lazily is no header; one with a bar in front may be after other lines
 unfoldable pub header_of : List Cell → Cursor → Bool → HeaderLine
 header_of cells cursor lazy =
     if lazy then header.Never
@@ -163,7 +163,7 @@ header_of cells cursor lazy =
 abbrev pub filled_up : Table → ℕ → Table
 filled_up t short = record t { filled = plus t.filled short }
 
--- a table in which a row of so many cells stands, if not too many are missing in the text
+-- a table in which a row of so many cells is, if not too many are missing in the text
 unfoldable pub lengthened : Table → ℕ → Option Table
 lengthened t count = if nat_lt 262144 (filled_up t (t.columns - count)).filled then None else Some (filled_up t (t.columns - count))
 
@@ -218,7 +218,7 @@ row_taken text cells line cursor t s = row_put text kind.TableRow t.columns (ink
 unfoldable pub is_sole_line : State → Bool
 is_sole_line s = option_map_or (λ (b : Block). plus b.first 1 == length s.pieces) (last_block s) false
 
--- the open paragraph has a line behind its definitions, and no box
+-- the open paragraph has a line after its definitions, and no box
 unfoldable pub may_have_header : State → Bool
 may_have_header s = option_map_or (λ (b : Block). nat_lt b.first (length s.pieces) && not (is_some b.task)) (last_block s) false
 
@@ -226,7 +226,7 @@ may_have_header s = option_map_or (λ (b : Block). nat_lt b.first (length s.piec
 unfoldable pub fits_columns : List ℕ → ℕ → State → Bool
 fits_columns text columns s = option_map_or (λ (p : Piece). header_columns text p.start p.end == columns) (last_piece s.pieces) false
 
--- a line that can be a delimiter row where it stands
+-- a line that can be a delimiter row where it is
 unfoldable pub may_delimit : List ℕ → List Cell → Line → Cursor → Bool → State → Bool
 may_delimit text cells line cursor directly s =
     directly && not (is_blank_at cells cursor) && nat_lt (indent_of cursor) 4 && may_have_header s
@@ -236,11 +236,11 @@ may_delimit text cells line cursor directly s =
 unfoldable pub tried_once : List ℕ → State → State
 tried_once text s = if s.tried == length s.blocks then s else record (settled text s) { tried = length s.blocks }
 
--- a header that may stand only where it is the paragraph's one line
+-- a header that may be only where it is the paragraph's one line
 abbrev pub alone_if : State → State × Bool
 alone_if s = (s, is_sole_line s)
 
--- whether the last line of the open paragraph can be a header where it stands
+-- whether the last line of the open paragraph can be a header where it is
 abbrev pub header_as : HeaderLine → List ℕ → State → State × Bool
 header_as header.Never text s = (s, false)
 header_as header.Alone text s = alone_if (tried_once text s)
@@ -267,7 +267,7 @@ abbrev pub ended_before : Line → State → State
 ended_before line s =
     record s { kept = length s.pieces; end = option_map_or (λ (p : Piece). p.end) (last_piece s.pieces) s.end; line = line.number - 2 }
 
--- the paragraph before the header ends, and the table begins behind it
+-- the paragraph before the header ends, and the table begins after it
 unfoldable pub table_begun : List ℕ → Line → BlockKind → Piece → State → State
 table_begun text line k p s =
     leaf_opened leaf.Nothing k p.start (record { number = line.number - 1; start = p.start; end = p.end; next = p.next })
@@ -284,12 +284,12 @@ table_from text line k columns p s =
 unfoldable pub table_started : List ℕ → Line → BlockKind → ℕ → State → State
 table_started text line k columns s = option_map_or (λ p. table_from text line k columns p s) (last_piece s.pieces) s
 
--- the table begins if the header can stand where it does
+-- the table begins if the header can be where it is
 abbrev pub started_if : List ℕ → Line → BlockKind → ℕ → State × Bool → State × Bool
 started_if text line k columns (s, true) = (table_started text line k columns s, true)
 started_if text line k columns (s, false) = (s, false)
 
--- a table begins with a delimiter row, if a header stands above it
+-- a table begins with a delimiter row, if a header is above it
 unfoldable pub delimited : List ℕ → Line → ℕ → State → State × Bool
 delimited text line start s =
     let columns = length (alignments_of (bytes_between text start line.end)) in

@@ -24,7 +24,7 @@ is_box_space b = (b == 32) || (b == 9) || (b == 11) || (b == 12)
 unfoldable pub box_of : ℕ → Option Bool
 box_of b = if (b == 120) || (b == 88) then Some true else (if is_box_space b then Some false else None)
 
--- a space or the line ending stands behind a box
+-- a space or the line ending is after a box
 unfoldable pub ends_box : List ℕ → Line → ℕ → Bool
 ends_box text line place = if nat_lt place line.end then is_box_space (byte_at text place) else nat_lt line.end line.next
 
@@ -40,7 +40,7 @@ is_new_item line depth s =
     nat_le (length s.opened) depth
     && option_map_or (λ (o : Opened). is_empty_item o && (o.line == line.number)) (innermost s.opened) false
 
--- the box just behind the marker of an item
+-- the box just after the marker of an item
 unfoldable pub task_in : Known → List ℕ → List Cell → Line → LineStart → State → Option Bool
 task_in known text cells line place s =
     if known.syntax.task_lists
@@ -55,13 +55,13 @@ with_task done start s =
           (slice_get s.blocks (length s.blocks - 1)) s.blocks;
     }
 
--- a paragraph begins with a box, and goes on behind it
+-- a paragraph begins with a box, and goes on after it
 unfoldable pub boxed_taken : List ℕ → Line → LineStart → Bool → ℕ → ℕ → State → State
 boxed_taken text line place done start behind s =
     piece_taken (piece_of 0 behind line.end line.next) line true
     (with_task done start (leaf_opened leaf.Paragraph kind.Paragraph start line (closed_to text place.depth s)))
 
--- a box that is all of its line is one of its item, and else one of the paragraph behind it
+-- a box that is all of its line is one of its item, and else one of the paragraph after it
 unfoldable pub task_started : List ℕ → List Cell → Line → LineStart → Bool → State → State
 task_started text cells line place done s =
     let start = start_of cells place line in

@@ -20,14 +20,14 @@ fn blanks_in(bytes: &[u8]) -> usize
         .count()
 }
 
-/// The place behind the spaces from one on.
+/// The place after the spaces from one on.
 pub(crate) fn behind_spaces(text: &[u8], place: usize) -> usize
     ensures { result ≡ behind_spaces text.now place }
 {
     place.saturating_add(spaces_in(rest(text, place)))
 }
 
-/// The place behind the spaces and tabs from one on.
+/// The place after the spaces and tabs from one on.
 pub(crate) fn behind_blanks(text: &[u8], place: usize) -> usize
     ensures { result ≡ behind_blanks text.now place }
 {

@@ -65,7 +65,7 @@ fn list_from(block: Block) -> Block
     }
 }
 
-/// How many paragraphs that hold definitions of links alone stand last.
+/// How many paragraphs that hold definitions of links alone are last.
 fn spent_count(blocks: &[PackedBlock]) -> usize
     ensures { result ≡ length (take_while is_spent (reverse blocks.now)) }
 {
@@ -188,7 +188,7 @@ fn resume_list(
     open_definitions(so_far, left.list, block.end, line)
 }
 
-/// The line of the last block, or none where blocks stand behind it.
+/// The line of the last block, or none where blocks are after it.
 fn line_of(so_far: &BlocksSoFar, place: usize) -> usize
     ensures { result ≡ line_of place (page so_far.now) }
 {
@@ -222,7 +222,7 @@ fn is_among_definitions(so_far: &BlocksSoFar, depth: usize) -> bool
     }
 }
 
-/// Ends the open paragraph, if there is one; false if it has no text behind its definitions of links.
+/// Ends the open paragraph, if there is one; false if it has no text after its definitions of links.
 #[tactic(auto, unfolding(crate::specs::DefinitionLists::text_ended))]
 fn end_text(so_far: &mut BlocksSoFar, alloc: Global, text: &[u8]) -> Result<bool, AllocError>
     ensures { IfOk result (λ found.
@@ -258,7 +258,7 @@ fn take_title(so_far: &mut BlocksSoFar, alloc: Global, text: &[u8]) -> Result<bo
     }
 }
 
-/// Lets a list of definitions be innermost, if a title or a definition stands before a line.
+/// Lets a list of definitions be innermost, if a title or a definition is before a line.
 #[tactic(auto, unfolding(crate::specs::DefinitionLists::definitions_entered))]
 fn enter_definitions(
     so_far: &mut BlocksSoFar,
@@ -279,8 +279,8 @@ fn enter_definitions(
     }
 }
 
-/// Begins a definition, if a title or a definition of its list stands before it, and gives the place
-/// behind its colon.
+/// Begins a definition, if a title or a definition of its list is before it, and gives the place
+/// after its colon.
 #[tactic(auto, unfolding(crate::specs::DefinitionLists::definition_opened))]
 pub fn open_definition(
     so_far: &mut BlocksSoFar,

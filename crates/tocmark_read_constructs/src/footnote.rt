@@ -12,7 +12,7 @@ use tocmark_read_page::leaf::is_table;
 use tocmark_read_page::line_start::{LineStart, Row};
 use tocmark_read_page::page::{BlockKind, BlocksSoFar};
 
-/// Opens the definition of a footnote, and gives the place behind its colon. It ends one in which it would stand
+/// Opens the definition of a footnote, and gives the place after its colon. It ends one in which it would be
 /// directly.
 #[tactic(auto, unfolding(crate::specs::Footnotes::note_opened))]
 pub fn open_note(

@@ -1,4 +1,4 @@
-//! Headings: on one line or underlined, with the attributes behind their text.
+//! Headings: on one line or underlined, with the attributes after their text.
 
 ghost use Rattle.std.specs.Prelude.{◌≡◌, not, length, reverse, take_while, OnOk};
 ghost use Rattle.tocmark_read_constructs.specs.Headings.{is_no_word, braces_in, heading_braces, before_braces, placed_braces, heading_started_in, heading_put, cut_before, underlined_attributed, underlined, underlined_in};
@@ -17,7 +17,7 @@ use tocmark_read_page::page::{Block, BlockKind, BlocksSoFar, Braces};
 use tocmark_read_page::piece::{Piece, heading_piece};
 use tocmark_read_scan::basic::{byte_at, bytes_between, set};
 
-/// Whether a byte can't stand between braces: a brace, an angle bracket or a backslash.
+/// Whether a byte can't be between braces: a brace, an angle bracket or a backslash.
 #[tactic(auto, unfolding(crate::specs::Headings::is_no_word))]
 fn is_no_word(byte: u8) -> bool
     ensures { result ≡ is_no_word byte }
@@ -25,7 +25,7 @@ fn is_no_word(byte: u8) -> bool
     byte == b'{' || byte == b'}' || byte == b'<' || byte == b'>' || byte == b'\\'
 }
 
-/// The number of bytes at the end that may stand between braces.
+/// The number of bytes at the end that may be between braces.
 fn trailing_words(bytes: &[u8]) -> usize
     ensures { result ≡ length (take_while (λ b. not (is_no_word b)) (reverse bytes.now)) }
 {
@@ -53,7 +53,7 @@ fn braces_in(bytes: &[u8]) -> Option<Braces>
     }
 }
 
-/// The braces behind the text of a heading on one line, in columns from the first one of its text on.
+/// The braces after the text of a heading on one line, in columns from the first one of its text on.
 #[tactic(auto, unfolding(crate::specs::Headings::heading_braces))]
 fn heading_braces(cells: &Cells, heading: Heading) -> Option<Braces>
     ensures { result ≡ heading_braces cells.now heading }
@@ -61,7 +61,7 @@ fn heading_braces(cells: &Cells, heading: Heading) -> Option<Braces>
     braces_in(bytes_between(cells.bytes(), heading.from, cells.len()))
 }
 
-/// The heading whose text ends before braces, which stand so many columns behind its first one.
+/// The heading whose text ends before braces, which are so many columns after its first one.
 #[tactic(auto, unfolding(crate::specs::Headings::before_braces))]
 fn before_braces(cells: &Cells, heading: Heading, braces: Braces) -> Heading
     ensures { result ≡ before_braces cells.now heading braces }
@@ -74,7 +74,7 @@ fn before_braces(cells: &Cells, heading: Heading, braces: Braces) -> Heading
     Heading { to, ..heading }
 }
 
-/// Where the braces of a heading stand in the text, whose line ends at `end`.
+/// Where the braces of a heading are in the text, whose line ends at `end`.
 #[tactic(auto, unfolding(crate::specs::Headings::placed_braces))]
 fn placed_braces(cells: &Cells, heading: Heading, end: usize, braces: Braces) -> Braces
     ensures { result ≡ placed_braces cells.now heading end braces }
@@ -195,7 +195,7 @@ fn underline(
 }
 
 /// Makes the open paragraph a heading of a level, whose underline is the line. Where attributes of headings are
-/// read, those behind its text leave it.
+/// read, those after its text leave it.
 #[tactic(auto, unfolding(crate::specs::Headings::underlined_in))]
 pub fn make_heading(
     so_far: &mut BlocksSoFar,

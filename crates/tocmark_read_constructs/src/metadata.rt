@@ -69,7 +69,7 @@ fn opens_metadata(kind: MetadataBlockKind, text: &[u8], place: usize) -> bool
 }
 
 /// Whether the line that begins at a place of a text closes metadata of a kind: three of its marks, or
-/// three dots behind dashes, and spaces.
+/// three dots after dashes, and spaces.
 #[tactic(auto, unfolding(crate::specs::Metadata::closes_metadata))]
 pub fn closes_metadata(kind: MetadataBlockKind, text: &[u8], place: usize) -> bool
     ensures { result ≡ closes_metadata kind text.now place }
@@ -182,7 +182,7 @@ fn is_outside(so_far: &BlocksSoFar, depth: usize) -> bool
     depth == 0 || depth == 1 && waits
 }
 
-/// Whether a place is the first byte of a line that stands in no container.
+/// Whether a place is the first byte of a line that is in no container.
 #[tactic(auto, unfolding(crate::specs::Metadata::is_front))]
 fn is_front(so_far: &BlocksSoFar, cells: &Cells, place: LineStart) -> bool
     ensures { result ≡ is_front cells.now place (page so_far.now) }

@@ -38,7 +38,7 @@ fn kind_named(word: &[u8]) -> Option<BlockQuoteKind>
 }
 
 /// The kind of quote that a line names: a word such as `[!NOTE]` in any case, with nothing but spaces
-/// and tabs behind it.
+/// and tabs after it.
 #[tactic(auto, unfolding(crate::specs::Quotes::quote_kind_of))]
 fn quote_kind_of(line: &[u8]) -> Option<BlockQuoteKind>
     ensures { result ≡ quote_kind_of line.now }
@@ -47,7 +47,7 @@ fn quote_kind_of(line: &[u8]) -> Option<BlockQuoteKind>
     kind_named(bytes_between(line, 0, end))
 }
 
-/// Opens a block quote, and gives the place behind its mark.
+/// Opens a block quote, and gives the place after its mark.
 #[tactic(auto, unfolding(crate::specs::Quotes::quote_opened))]
 pub fn open_quote(
     so_far: &mut BlocksSoFar,
@@ -91,7 +91,7 @@ fn begins_in(so_far: &BlocksSoFar, line: Line, index: usize) -> bool
     }
 }
 
-/// The kind just behind the mark of a quote that began in this line.
+/// The kind just after the mark of a quote that began in this line.
 #[tactic(auto, unfolding(crate::specs::Quotes::quote_kind_in))]
 pub fn quote_kind_in(
     so_far: &BlocksSoFar,
@@ -123,7 +123,7 @@ fn is_first_line(so_far: &BlocksSoFar, cells: &Cells, place: LineStart, directly
         && !so_far.has_text()
 }
 
-/// Whether a tag alone on its line stands behind a quote's kind, whose paragraph has no line yet.
+/// Whether a tag alone on its line is after a quote's kind, whose paragraph has no line yet.
 #[tactic(auto, unfolding(crate::specs::Quotes::tag_in))]
 pub fn tag_in(so_far: &BlocksSoFar, row: &Row<'_, '_>, place: LineStart, directly: bool) -> bool
     ensures { result ≡ tag_in row.now.known row.now.text.now row.now.cells.now row.now.line
@@ -137,7 +137,7 @@ pub fn tag_in(so_far: &BlocksSoFar, row: &Row<'_, '_>, place: LineStart, directl
     }
 }
 
-/// Names the kind of the quote that this line began. The lines behind it go on as a paragraph's do.
+/// Names the kind of the quote that this line began. The lines after it go on as a paragraph's do.
 #[tactic(auto, unfolding(crate::specs::Quotes::quote_kind_started))]
 pub fn start_quote_kind(
     so_far: &mut BlocksSoFar,

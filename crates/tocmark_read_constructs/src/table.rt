@@ -27,7 +27,7 @@ use tocmark_read_scan::basic::{byte_at, bytes_between, rest};
 struct Column {
     /// A colon is its first mark.
     pub left: bool,
-    /// A colon stands behind its first mark.
+    /// A colon is after its first mark.
     pub right: bool,
     /// It has a dash.
     pub dash: bool,
@@ -173,7 +173,7 @@ fn are_delimiter_bytes(row: &[u8]) -> bool
     row.iter().all(|byte| is_delimiter_byte(*byte))
 }
 
-/// Whether the bytes of a line behind its spaces are a delimiter row: bars, colons, dashes and spaces, at
+/// Whether the bytes of a line after its spaces are a delimiter row: bars, colons, dashes and spaces, at
 /// least one bar and one dash, and a dash in each column that a bar ends.
 #[tactic(auto, unfolding(crate::specs::Tables::is_delimiter_row))]
 fn is_delimiter_row(row: &[u8]) -> bool
@@ -235,7 +235,7 @@ fn cell_end(text: &[u8], place: usize, end: usize) -> Option<usize>
     }
 }
 
-/// Counts the cell at a place, and gives the place behind its bar.
+/// Counts the cell at a place, and gives the place after its bar.
 #[tactic(auto, unfolding(crate::specs::Tables::count_once))]
 fn count_once(text: &[u8], end: usize, place: usize, count: usize) -> (usize, Option<usize>)
     ensures { result ≡ count_once text.now end place count }
@@ -313,8 +313,8 @@ fn begins_named_html(row: &[u8]) -> bool
     }
 }
 
-/// Whether the line at a cursor is no row of a table that stands before it: a quote, a heading, a fence, a
-/// rule, an item, HTML or nothing but a bar. `row` are its bytes behind its spaces.
+/// Whether the line at a cursor is no row of a table that is before it: a quote, a heading, a fence, a
+/// rule, an item, HTML or nothing but a bar. `row` are its bytes after its spaces.
 #[tactic(auto, unfolding(crate::specs::Tables::ends_table))]
 fn ends_table(cells: &Cells, tail: Tail, cursor: Cursor, row: &[u8]) -> bool
     ensures { result ≡ ends_table cells.now tail cursor row.now }
@@ -405,7 +405,7 @@ fn last_block(so_far: &BlocksSoFar) -> Option<Block>
     block_at(&so_far.blocks, so_far.blocks.len().saturating_sub(1))
 }
 
-/// Puts a row, or a cell of one, behind the blocks.
+/// Puts a row, or a cell of one, after the blocks.
 #[tactic(auto, unfolding(crate::specs::Tables::row_pushed))]
 fn push_row(
     so_far: &mut BlocksSoFar,
@@ -433,7 +433,7 @@ fn push_row(
     )
 }
 
-/// Puts the cell at a place behind the blocks, and gives the place behind its bar.
+/// Puts the cell at a place after the blocks, and gives the place after its bar.
 #[tactic(auto, unfolding(crate::specs::Tables::cell_pushed))]
 fn push_cell(
     so_far: &mut BlocksSoFar,
@@ -474,7 +474,7 @@ fn push_cells(
     Ok(())
 }
 
-/// Puts a row with so many cells behind the blocks.
+/// Puts a row with so many cells after the blocks.
 #[tactic(auto, unfolding(crate::specs::Tables::row_put))]
 fn put_row(
     so_far: &mut BlocksSoFar,
@@ -530,7 +530,7 @@ fn is_sole_line(so_far: &BlocksSoFar) -> bool
     }
 }
 
-/// Whether the open paragraph has a line behind its definitions, and no box.
+/// Whether the open paragraph has a line after its definitions, and no box.
 #[tactic(auto, unfolding(crate::specs::Tables::may_have_header))]
 fn may_have_header(so_far: &BlocksSoFar) -> bool
     ensures { result ≡ may_have_header (page so_far.now) }
@@ -552,7 +552,7 @@ fn fits_columns(so_far: &BlocksSoFar, text: &[u8], columns: usize) -> bool
     }
 }
 
-/// Whether a line can be a delimiter row where it stands.
+/// Whether a line can be a delimiter row where it is.
 #[tactic(auto, unfolding(crate::specs::Tables::may_delimit))]
 fn may_delimit(so_far: &BlocksSoFar, row: &Row<'_, '_>, cursor: Cursor, directly: bool) -> bool
     ensures { result
@@ -579,7 +579,7 @@ fn try_definitions(so_far: &mut BlocksSoFar, alloc: Global, text: &[u8]) -> Resu
     Ok(())
 }
 
-/// Whether the last line of the open paragraph can be a header where it stands.
+/// Whether the last line of the open paragraph can be a header where it is.
 #[tactic(auto, unfolding(crate::specs::Tables::header_settled))]
 fn settle_header(so_far: &mut BlocksSoFar, alloc: Global, text: &[u8]) -> Result<bool, AllocError>
     ensures { IfOk result (λ stands.
@@ -678,7 +678,7 @@ fn start_table(
     put_row(so_far, text, head, columns, header.start, header.end)
 }
 
-/// Begins a table with the delimiter row at a place, if a header stands above it.
+/// Begins a table with the delimiter row at a place, if a header is above it.
 #[tactic(auto, unfolding(crate::specs::Tables::delimited))]
 fn delimit(
     so_far: &mut BlocksSoFar,
@@ -703,7 +703,7 @@ fn delimit(
 }
 
 /// Takes a line as the delimiter row of a table, and says whether it is one. `directly` says that the
-/// open paragraph stands in the innermost container that goes on in the line.
+/// open paragraph is in the innermost container that goes on in the line.
 #[tactic(auto, unfolding(crate::specs::Tables::delimiters_taken))]
 pub fn take_delimiters(
     so_far: &mut BlocksSoFar,

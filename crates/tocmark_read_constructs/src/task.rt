@@ -1,4 +1,4 @@
-//! Boxes of tasks: their bytes, behind which marker one stands, and what it belongs to.
+//! Boxes of tasks: their bytes, after which marker one is, and what it belongs to.
 
 ghost use Rattle.std.specs.Prelude.{◌≡◌, OnOk};
 ghost use Rattle.tocmark_read_constructs.specs.Tasks.{is_box_space, box_of, ends_box, box_at, is_new_item, task_in, with_task, boxed_taken, task_started};
@@ -49,7 +49,7 @@ fn ends_box(text: &[u8], line: Line, place: usize) -> bool
 }
 
 /// The box at a place of a line, true where it is checked: a space, `x` or `X` between brackets, and a
-/// space or the line ending behind them.
+/// space or the line ending after them.
 #[tactic(auto, unfolding(crate::specs::Tasks::box_at))]
 fn box_at(text: &[u8], line: Line, place: usize) -> Option<bool>
     ensures { result ≡ box_at text.now line place }
@@ -82,7 +82,7 @@ fn is_new_item(so_far: &BlocksSoFar, line: Line, depth: usize) -> bool
     }
 }
 
-/// The box just behind the marker of an item, true where it is checked.
+/// The box just after the marker of an item, true where it is checked.
 #[tactic(auto, unfolding(crate::specs::Tasks::task_in))]
 pub fn task_in(so_far: &BlocksSoFar, row: &Row<'_, '_>, place: LineStart) -> Option<bool>
     ensures { result ≡ task_in row.now.known row.now.text.now row.now.cells.now row.now.line
@@ -140,7 +140,7 @@ fn take_boxed(
     so_far.take_piece(words, row.line, true)
 }
 
-/// Takes a box: of the item where it is all of its line, and else of the paragraph behind it.
+/// Takes a box: of the item where it is all of its line, and else of the paragraph after it.
 #[tactic(auto, unfolding(crate::specs::Tasks::task_started))]
 pub fn start_task(
     so_far: &mut BlocksSoFar,

@@ -1,4 +1,4 @@
--- Nodes are written behind others as they are behind none.
+-- Nodes are written after others as they are after none.
 use Rattle.std.proofs.Common.{◌≡◌, ℕ, ◌-◌, Bool, true, false, nat_le, if◌then◌else◌, List, [], ◌∷◌, ◌++◌, Option, Some, None, refl, ap, sym, ◌∙◌, append_assoc, append-nil}
 use Rattle.std.specs.List.{fold}
 use Rattle.tocmark_read_inlines.specs.Write.{State, pushed, without_text, flushed_from, flushed, opened, deeper, closed, resumed, single, texted, fresh, shown, next_place, role_step, write_start, written}
@@ -55,11 +55,11 @@ fold_behind : (pre : List Node) (rs : List Role) (s : State) → fold role_step 
 fold_behind pre [] s = refl
 fold_behind pre (r ∷ rs) s = ap (λ (t : State). fold role_step t rs) (stepped_behind pre r s) ∙ fold_behind pre rs (role_step s r)
 
--- nothing is written behind these nodes yet
+-- nothing is written after these nodes yet
 abbrev begun : List Node → ℕ → State
 begun pre depth = record { nodes = pre; depth = depth; text = None; place = 0; resume = 0 }
 
--- nodes are written behind these
+-- nodes are written after these
 pub written_behind : (pre : List Node) (depth : ℕ) (rs : List Role) → (flushed (fold role_step (begun pre depth) rs)).nodes ≡ pre ++ written rs depth
 unfolding written
 written_behind pre depth rs =

@@ -1,4 +1,4 @@
--- When a part is read as it is meant, by the byte before it and the byte behind it.
+-- When a part is read as it is meant, by the byte before it and the byte after it.
 use Rattle.std.proofs.Common.{◌≡◌, ℕ, zero, suc, ◌+◌, ◌-◌, ◌^◌, ◌<◌, Bool, true, false, ◌==◌, ◌&&◌, if◌then◌else◌, nat_lt, List, [], ◌∷◌, ◌++◌, length, drop, codes, Option, Some, None, refl, ap, sym, subst, ◌∙◌, arith, append_assoc, length-append, ◌⊎◌, inl, inr, true≢false}
 use Rattle.std.proofs.lemmas.Bool.Decides.{nat_tests}
 use Rattle.std.specs.Char.{is_ascii_alphanumeric, is_ascii_punctuation}
@@ -17,7 +17,7 @@ use Rattle.tocmark_read_inlines.proofs.PlainPasses.{IsReadAt, AreRead}
 use Rattle.tocmark_read_inlines.proofs.PlainParts.{inert_is_read, exclamation_is_read, backslash_is_read, underscore_is_read}
 use Rattle.tocmark_read_scan.specs.PlainParts.{Part, Bare, Escaped, Referred, Feed, spelled_part, spelled, last_byte}
 
--- a byte that means itself between the bytes before and behind it; a line feed stands for none
+-- a byte that means itself between the bytes before and after it; a line feed stands for none
 abbrev pub IsPlainByte : ℕ → ℕ → ℕ → Type 0
 IsPlainByte before b behind =
     IsInert b
@@ -32,7 +32,7 @@ IsPlainPart before (Escaped b) behind = is_ascii_punctuation b ≡ true
 IsPlainPart before (Referred c bs) behind = ((c ≡ 38) × (bs ≡ 97 ∷ 109 ∷ 112 ∷ 59 ∷ [])) ⊎ ((c ≡ 32) × (bs ≡ 35 ∷ 51 ∷ 50 ∷ 59 ∷ []))
 IsPlainPart before Feed behind = (before == 32) ≡ false
 
--- parts that are read as they are meant, behind a byte
+-- parts that are read as they are meant, after a byte
 abbrev pub ArePlainParts : ℕ → List Part → Type 0
 ArePlainParts before [] = Unit {0}
 ArePlainParts before (a ∷ parts) = IsPlainPart before a (byte_at (spelled parts) 0) × ArePlainParts (last_byte before (spelled_part a)) parts
@@ -88,7 +88,7 @@ no_space bytes (suc p) h = let k : (byte_at bytes (suc p - 1) == 32) ≡ false =
     by_some true = refl
     by_some false = refl
 
--- a place in a text of parts: what stands behind it
+-- a place in a text of parts: what is after it
 record IsAt (bytes : List ℕ) (p : ℕ) (xs rest : List ℕ) : Type 0 where
   here : drop p bytes ≡ xs ++ rest
   next : drop (p + 1) bytes ≡ drop 1 (xs ++ rest)
@@ -110,12 +110,12 @@ plain_byte_is_read bytes rest ahead defs p b at (inr (inr (inl h))) =
 plain_byte_is_read bytes rest ahead defs p b at (inr (inr (inr h))) =
     subst (λ c. IsReadAt bytes ahead defs p (Bare c)) (sym (h.0)) (underscore_plain bytes rest ahead defs p (record { here = at.here ∙ ap (λ c. c ∷ rest) (h.0); next = at.next; fits = at.fits }) (h.1) (h.2))
 
--- what stands behind bytes at a place
+-- what is after bytes at a place
 behind : (bytes pre xs rest : List ℕ) (p : ℕ) → bytes ≡ pre ++ (xs ++ rest) → p ≡ length pre → drop (p + length xs) bytes ≡ rest
 behind bytes pre xs rest p e at =
     drop_at bytes (pre ++ xs) rest (p + length xs) (e ∙ sym (append_assoc pre xs rest)) (ap (λ n. n + length xs) at ∙ sym (length-append pre xs))
 
--- the last byte of bytes stands before what is behind them
+-- the last byte of bytes is before what is after them
 last_before : (bytes pre xs rest : List ℕ) (p x : ℕ) → bytes ≡ pre ++ ((x ∷ xs) ++ rest) → p ≡ length pre → before_at bytes (p + length (x ∷ xs)) ≡ last_byte x xs
 last_before bytes pre [] rest p x e at =
     let some : (p + 1 == 0) ≡ false = grind (arith, nat_tests) in
@@ -148,7 +148,7 @@ plain_part_is_read bytes pre rest ahead defs p Feed e at fits h =
     let all : length bytes ≡ length pre + suc (length rest) = ap length e ∙ length-append pre (10 ∷ rest) in
     (no_space bytes p h, omega arith)
 
--- the byte before what is behind a part
+-- the byte before what is after a part
 part_before : (bytes pre rest : List ℕ) (p before : ℕ) (a : Part) → bytes ≡ pre ++ (spelled_part a ++ rest) → p ≡ length pre → before_at bytes (p + length (spelled_part a)) ≡ last_byte before (spelled_part a)
 part_before bytes pre rest p before (Bare b) e at = last_before bytes pre [] rest p b e at
 part_before bytes pre rest p before (Escaped b) e at = last_before bytes pre (b ∷ []) rest p 92 e at

@@ -1,4 +1,4 @@
--- Which bytes mean themselves where they stand.
+-- Which bytes mean themselves where they are.
 use Rattle.std.proofs.Common.{◌≡◌, ℕ, ◌+◌, ◌-◌, ◌^◌, ◌<◌, false, ◌==◌, List, ◌∷◌, length, drop, codes, Option, refl, ap, ◌∙◌, arith}
 use Rattle.tocmark_read_scan.specs.Basic.{plus, starts_at}
 use Rattle.tocmark_read_scan.specs.Class.{run_end, is_in}
@@ -17,12 +17,12 @@ use Rattle.tocmark_read_scan.specs.PlainParts.{Bare}
 pub inert_is_read : (bytes : List ℕ) (ahead : s.Known) (defs : List ℕ → Option Entry) (p b : ℕ) → IsInert b → IsReadAt bytes ahead defs p (Bare b)
 inert_is_read bytes ahead defs p b h = λ t e before. (t.resume, omega arith, looked_inert bytes ahead defs b t h)
 
--- an exclamation mark with no bracket behind it
+-- an exclamation mark with no bracket after it
 pub exclamation_is_read : (bytes : List ℕ) (ahead : s.Known) (defs : List ℕ → Option Entry) (p : ℕ) → starts_at bytes p (codes "![") ≡ false → IsReadAt bytes ahead defs p (Bare 33)
 unfolding s.looked s.imaged
 exclamation_is_read bytes ahead defs p h = λ t e before. (t.resume, omega arith, rw (e, h) refl)
 
--- a backslash with neither punctuation nor a line feed behind it
+-- a backslash with neither punctuation nor a line feed after it
 pub backslash_is_read : (bytes : List ℕ) (ahead : s.Known) (defs : List ℕ → Option Entry) (p : ℕ) → is_escape bytes p ≡ false → starts_at bytes p (codes "\\\n") ≡ false → IsReadAt bytes ahead defs p (Bare 92)
 unfolding s.looked s.looked_mark s.escaped
 backslash_is_read bytes ahead defs p h k = λ t e before. (t.resume, omega arith, rw (e, h, k) refl)

@@ -28,7 +28,7 @@ quiet_step syntax all ahead defs s b h = rw (no_mark syntax b h) refl
 here : (s : State) → s.place < 2 ^ 64 → with_place (plus s.place 0) s ≡ s
 here s fits = ap (λ p. with_place p s) (let q : plus s.place 0 ≡ s.place = omega (arith, fits) in q)
 
--- the pass from behind such bytes is that from their front
+-- the pass from after such bytes is that from their front
 pub skipped : (syntax : Syntax) (all : List ℕ) (ahead : Known) (defs : List ℕ → Option Entry) (bytes : List ℕ) (s : State) → s.place < 2 ^ 64 → fold (scan_step_in syntax all ahead defs) (with_place (plus s.place (prefix_len is_quiet bytes)) s) (drop (prefix_len is_quiet bytes) bytes) ≡ fold (scan_step_in syntax all ahead defs) s bytes
 skipped syntax all ahead defs [] s fits = here s fits
 skipped syntax all ahead defs (b ∷ bs) s fits = by_test (skipped syntax all ahead defs bs) (is_quiet b) refl
@@ -48,7 +48,7 @@ skipped syntax all ahead defs (b ∷ bs) s fits = by_test (skipped syntax all ah
         ∙ later next (omega arith)
         ∙ ap (λ (u : State). fold step u bs) (sym (quiet_step syntax all ahead defs s b e)))
 
--- the same behind a byte that is read
+-- the same after a byte that is read
 pub jumped : (syntax : Syntax) (all : List ℕ) (ahead : Known) (defs : List ℕ → Option Entry) (s t : State) (left behind later : List ℕ) (b place next further : ℕ) → left ≡ b ∷ behind → with_place next t ≡ scan_step_in syntax all ahead defs (with_place place s) b → further ≡ plus next (prefix_len is_quiet behind) → later ≡ drop (prefix_len is_quiet behind) behind → next < 2 ^ 64 → fold (scan_step_in syntax all ahead defs) (with_place further t) later ≡ fold (scan_step_in syntax all ahead defs) (with_place place s) left
 jumped syntax all ahead defs s t left behind later b place next further e h at on fits =
     ap (λ p. fold (scan_step_in syntax all ahead defs) (with_place p t) later) at

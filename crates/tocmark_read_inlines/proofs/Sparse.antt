@@ -98,14 +98,14 @@ plain_more s end h fits = by_resume (nat_le s.resume s.place) refl
         let same : max s.resume (plus s.place 1) ≡ max s.resume s.place = omega (arith, next) in
         ap (λ p. (record s { text = if nat_lt p end then begun_at p s.text else s.text; place = end })) same
 
--- a pass to the place where it stands changes nothing
+-- a pass to the place where it is changes nothing
 pub passed_here : (s : State) (end : ℕ) → s.place ≡ end → s ≡ passed end s
 unfolding passed
 passed_here s end at =
     let none : nat_lt (max s.resume s.place) end ≡ false = no_lt (max s.resume s.place) end (omega (arith, at)) in
     ap (λ i. record s { place = i }) at ∙ rw none refl
 
--- the text that is open behind plain bytes from one place to another
+-- the text that is open after plain bytes from one place to another
 abbrev text_from : ℕ → ℕ → Option ℕ → Option ℕ
 text_from from end o = if nat_lt from end then begun_at from o else o
 

@@ -40,7 +40,7 @@ scan_start length targets texts missed = record {
   missed = missed;
 }
 
--- the nodes of one more leaf behind the others
+-- the nodes of one more leaf after the others
 abbrev pub inlines_from : content.State → ℕ → scan.State → State → State
 inlines_from leaf depth after s = record {
   nodes = s.nodes ++ map (moved leaf.places) (written after.roles depth);

@@ -92,7 +92,7 @@ ends_of bytes =
 unfoldable pub ticks_of : List ℕ → List ℕ
 ticks_of bytes = if list_any (λ b. b == 96) bytes then last_ticks bytes else []
 
--- the partners of dollar signs, where mathematics is read and one stands
+-- the partners of dollar signs, where mathematics is read and one is
 unfoldable pub partners_in : Syntax → List ℕ → List (Option ℕ)
 partners_in syntax bytes = if syntax.math && list_any (λ b. b == 36) bytes then partners bytes else []
 
@@ -104,11 +104,11 @@ ahead_in syntax bytes = record { ends = ends_of bytes; ticks = ticks_of bytes; p
 abbrev pub stretch : ℕ → ℕ → Stretch
 stretch start end = record { start = start; end = end }
 
--- the place before, if a space stands there
+-- the place before, if a space is there
 unfoldable pub before_space : List ℕ → ℕ → Option ℕ
 before_space bytes place = if nat_lt 0 place && (byte_at bytes (place - 1) == 32) then Some (place - 1) else None
 
--- the texts are now these, and the last of them is what was written behind the others
+-- the texts are now these, and the last of them is what was written after the others
 abbrev pub with_texts : List ℕ → State → State × Stretch
 with_texts texts s = (record s { texts = texts }, stretch (length s.texts) (length texts))
 
@@ -181,7 +181,7 @@ coded bytes ticks s =
 abbrev pub with_run : Run → State → State
 with_run r s = if r.opens || r.closes then record s { runs = s.runs ++ r ∷ [] } else s
 
--- a run that opens or closes is kept, and the pass goes on behind it
+-- a run that opens or closes is kept, and the pass goes on after it
 unfoldable pub run_kept : Run → State → State
 run_kept r s = with_run r (record s { resume = plus s.place r.count })
 
@@ -279,7 +279,7 @@ angled_to bytes ends s (Some end) = addressed bytes Autolink end s
 unfoldable pub angled : List ℕ → LastEnds → State → State
 angled bytes ends s = angled_to bytes ends s (uri_end bytes s.place)
 
--- a line feed: a hard break behind two spaces, else a soft one (CommonMark 6.7 and 6.8)
+-- a line feed: a hard break after two spaces, else a soft one (CommonMark 6.7 and 6.8)
 unfoldable pub line_ended : List ℕ → State → State
 line_ended bytes s =
     let first = iterated (before_space bytes) (length bytes) s.place in
@@ -294,11 +294,11 @@ spanned b number end s = record s {
   resume = end;
 }
 
--- the delimiters behind so many runs are matched, and these runs forgotten
+-- the delimiters after so many runs are matched, and these runs forgotten
 unfoldable pub settled : ℕ → State → State
 settled count s = record s { roles = emphasized s.roles (drop count s.runs); runs = take count s.runs }
 
--- behind a link no open bracket can begin another
+-- after a link no open bracket can begin another
 abbrev pub deactivated : Bracket → State → State
 deactivated b s = if not b.image then record s { inactive = length s.brackets } else s
 
@@ -345,7 +345,7 @@ abbrev pub closed_asked : List ℕ → (List ℕ → Option Entry) → Bracket �
 closed_asked bytes definitions b s None = s
 closed_asked bytes definitions b s (Some asked) = looked_up bytes definitions b asked s
 
--- a bracket without parentheses behind it is closed
+-- a bracket without parentheses after it is closed
 unfoldable pub closed_by_label : List ℕ → (List ℕ → Option Entry) → Bracket → State → State
 closed_by_label bytes definitions b s = closed_asked bytes definitions b s (label_asked bytes b s.place)
 
@@ -375,11 +375,11 @@ closed_sought bytes definitions b s None = s
 closed_sought bytes definitions b s (Some (sought_as.Label asked)) = looked_up bytes definitions b asked s
 closed_sought bytes definitions b s (Some (sought_as.Note w)) = note_looked_up bytes definitions b w s
 
--- a bracket without parentheses behind it is closed, where footnotes are read
+-- a bracket without parentheses after it is closed, where footnotes are read
 unfoldable pub closed_by_sought : List ℕ → (List ℕ → Option Entry) → Bracket → State → State
 closed_by_sought bytes definitions b s = closed_sought bytes definitions b s (label_sought bytes b s.place)
 
--- a bracket without parentheses behind it is closed by a label, which may be one of a footnote where these are read
+-- a bracket without parentheses after it is closed by a label, which may be one of a footnote where these are read
 abbrev pub closed_by_name : Bool → List ℕ → (List ℕ → Option Entry) → Bracket → State → State
 closed_by_name notes bytes definitions b s = if notes then closed_by_sought bytes definitions b s else closed_by_label bytes definitions b s
 
@@ -436,7 +436,7 @@ looked bytes ahead definitions b s =
     else (if b == 60 then angled bytes ahead.ends s
     else looked_mark bytes ahead.ticks b s)))
 
--- the byte at the place where all names are known: an ampersand, and a bracket with a destination and a title behind it
+-- the byte at the place where all names are known: an ampersand, and a bracket with a destination and a title after it
 unfoldable pub looked_all : List ℕ → Known → (List ℕ → Option Entry) → ℕ → State → State
 looked_all bytes ahead definitions b s =
     if b == 38 then named_taken bytes s
@@ -505,7 +505,7 @@ text_put first last (s, text) = record s { roles = slice_set s.roles first (Sing
 unfoldable pub address_shown : List ℕ → ℕ → State → State
 address_shown bytes end s = text_put (plus s.place 1) (end - 1) (kept (bytes_between bytes (plus s.place 1) (end - 1)) s)
 
--- an address with a bar, in front of which a backslash may have stood
+-- an address with a bar, in front of which a backslash may have was
 abbrev pub shown_to : List ℕ → State → Option ℕ → State
 shown_to bytes s None = s
 shown_to bytes s (Some end) = address_shown bytes end s

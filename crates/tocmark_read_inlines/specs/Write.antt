@@ -105,11 +105,11 @@ passed end s =
 unfoldable pub mark_step : State → MarkedByte → State
 mark_step s m = role_step (passed m.place s) m.role
 
--- a mark stands from a place on and before another
+-- a mark is from a place on and before another
 unfoldable pub is_between : MarkedByte → ℕ → ℕ → Bool
 is_between m place end = nat_le place m.place && nat_lt m.place end
 
--- marks stand one behind the other, from a place on and before another
+-- marks are one after the other, from a place on and before another
 abbrev pub ascend : ℕ → ℕ → List MarkedByte → Bool
 ascend place end [] = true
 ascend place end (m ∷ ms) = is_between m place end && ascend (plus m.place 1) end ms

@@ -21,7 +21,7 @@ pub struct KnownAhead {
     pub partners: Vec<Option<usize>>,
 }
 
-/// What to know of a text before raw HTML is looked for in it: nothing is where no `<` stands.
+/// What to know of a text before raw HTML is looked for in it: nothing is where no `<` is.
 #[tactic(auto, unfolding(crate::specs::Scan::ends_of))]
 fn ends_of(bytes: &[u8]) -> LastEnds
     ensures { result ≡ ends_of bytes.now }
@@ -39,7 +39,7 @@ fn ends_of(bytes: &[u8]) -> LastEnds
 }
 
 /// For each number of backticks where the last run of so many begins: no entry where no backtick
-/// stands.
+/// is.
 #[tactic(auto, unfolding(crate::specs::Scan::ticks_of))]
 fn ticks_of(alloc: Global, bytes: &[u8]) -> Result<Vec<usize>, AllocError>
     ensures { IfOk result (λ v. v.items ≡ ticks_of bytes.now) }
@@ -51,7 +51,7 @@ fn ticks_of(alloc: Global, bytes: &[u8]) -> Result<Vec<usize>, AllocError>
     }
 }
 
-/// The partners of dollar signs, where mathematics is read and one stands.
+/// The partners of dollar signs, where mathematics is read and one is.
 #[tactic(auto, unfolding(crate::specs::Scan::partners_in))]
 fn partners_in(
     alloc: Global,

@@ -111,7 +111,7 @@ impl Scanner {
     }
 
     /// Reads an opening angle bracket where tables are read: the text of an address with a bar is one leaf,
-    /// since a backslash may have stood before the bar.
+    /// since a backslash may have was before the bar.
     #[tactic(auto, unfolding(crate::specs::Scan::angled_in))]
     pub(crate) fn angle_in(&mut self, bytes: &[u8], ends: LastEnds) -> Result<(), AllocError>
         ensures { OnOk result (scan self.new ≡ angled_in bytes.now ends (scan self.old)) }

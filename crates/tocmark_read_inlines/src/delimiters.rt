@@ -10,7 +10,7 @@ use tocmark_read_spans::emphasis::emphasize;
 use tocmark_read_spans::run::{Run, run_at, tildes_at};
 
 impl Scanner {
-    /// Keeps a run that opens or closes, and goes on behind it.
+    /// Keeps a run that opens or closes, and goes on after it.
     #[tactic(auto, unfolding(crate::specs::Scan::run_kept))]
     fn keep_run(&mut self, run: Run) -> Result<(), AllocError>
         ensures { OnOk result (scan self.new ≡ run_kept run (scan self.old)) }
@@ -38,7 +38,7 @@ impl Scanner {
         self.keep_run(tildes_at(syntax, bytes, self.place))
     }
 
-    /// Matches the delimiters behind so many runs, and forgets these runs.
+    /// Matches the delimiters after so many runs, and forgets these runs.
     #[tactic(auto, unfolding(crate::specs::Scan::settled), using(crate::proofs::Settled::front_kept))]
     pub(crate) fn settle(&mut self, count: usize) -> Result<(), AllocError>
         ensures { OnOk result (scan self.new ≡ settled count (scan self.old)) }

@@ -45,7 +45,7 @@ impl SpareLists {
 }
 
 /// The nodes of leaves in the order of the document, with ranges in bytes of its source; the targets of
-/// their links and images; the texts that stand nowhere in the source; and the labels that were looked
+/// their links and images; the texts that are nowhere in the source; and the labels that were looked
 /// up in vain, in order and with repetitions.
 #[derive(Drop)]
 pub struct Inlines {
@@ -87,7 +87,7 @@ fn scanner(
     }
 }
 
-/// The inlines with one more leaf, over which the pass has gone: its nodes stand at a depth behind
+/// The inlines with one more leaf, over which the pass has gone: its nodes are at a depth after
 /// those of the leaves before it.
 fn inlines_behind(
     alloc: Global,

@@ -15,7 +15,7 @@ use tocmark_read_spans::tick::tick_end;
 use tocmark_read_tokens::name::{NamedReference, named_in};
 use tocmark_read_tokens::reference::{is_escape, reference_at};
 
-/// The place before, if a space stands there.
+/// The place before, if a space is there.
 #[tactic(auto, unfolding(crate::specs::Scan::before_space))]
 fn before_space(bytes: &[u8], place: usize) -> Option<usize>
     ensures { result ≡ before_space bytes.now place }
@@ -103,7 +103,7 @@ impl Scanner {
         }
     }
 
-    /// Puts the code span whose text stands between two places, behind so many backticks.
+    /// Puts the code span whose text is between two places, after so many backticks.
     #[tactic(auto, unfolding(crate::specs::Scan::code_put))]
     fn put_code(
         &mut self,

@@ -18,7 +18,7 @@ pub(crate) fn is_mark(byte: u8) -> bool
     bracket || delimiter || byte == b'\\' || byte == b'&' || byte == b'\n'
 }
 
-// Each mark of some reading stands at its own place, and a comma at every other place.
+// Each mark of some reading is at its own place, and a comma at every other place.
 static MARKS: [u8; 256] = *b"\
     ,,,,,,,,,,\n,,,,,,,,,,,,,,,,,,,,,\
     ,!,,$,&,,,*,,,,,,,,,,,,,,,,,<,,,\
@@ -43,7 +43,7 @@ fn quiet_length(bytes: &[u8]) -> usize
     bytes.iter().take_while(|byte| !is_any_mark(**byte)).count()
 }
 
-/// The place behind such bytes, the first of which stands at a place, and the bytes from there on.
+/// The place after such bytes, the first of which is at a place, and the bytes from there on.
 pub(crate) fn skip_quiet(bytes: &[u8], place: usize) -> (usize, &[u8])
     ensures place { result.0 ≡ plus place (prefix_len is_quiet bytes.now) }
     ensures bytes { result.1.now ≡ drop (prefix_len is_quiet bytes.now) bytes.now }

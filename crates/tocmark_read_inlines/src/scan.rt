@@ -95,8 +95,8 @@ impl Scanner {
         }
     }
 
-    /// Reads the byte at the place where all names are known: an ampersand, and a closing bracket, behind
-    /// which a destination and a title stand.
+    /// Reads the byte at the place where all names are known: an ampersand, and a closing bracket, after
+    /// which a destination and a title are.
     #[tactic(auto, unfolding(crate::specs::Scan::looked_all))]
     fn look_all(
         &mut self,

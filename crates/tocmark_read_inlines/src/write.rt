@@ -10,12 +10,12 @@ use std::alloc::{AllocError, Global};
 use tocmark_read_scan::content::Content;
 use tocmark_read_spans::role::{Leaf, MarkedByte, Role, Roles, Span};
 
-/// What stands at a node.
+/// What is at a node.
 #[derive(Clone, Copy)]
 pub enum InlineKind {
     /// The bytes of the node's range.
     Text,
-    /// A container; what lies in it are the nodes behind it that are deeper.
+    /// A container; what lies in it are the nodes after it that are deeper.
     Span(Span),
     /// An inline without children, other than a text.
     Leaf(Leaf),
@@ -30,7 +30,7 @@ pub struct Node {
     pub item: InlineKind,
     /// The place of its first byte.
     pub start: usize,
-    /// The place behind its last byte.
+    /// The place after its last byte.
     pub end: usize,
 }
 
@@ -227,7 +227,7 @@ impl Writer {
     }
 }
 
-/// Whether a mark stands from a place on and before another.
+/// Whether a mark is from a place on and before another.
 #[tactic(auto, unfolding(crate::specs::Write::is_between))]
 fn is_between(mark: MarkedByte, place: usize, end: usize) -> bool
     ensures { result ≡ is_between mark place end }
@@ -235,7 +235,7 @@ fn is_between(mark: MarkedByte, place: usize, end: usize) -> bool
     place <= mark.place && mark.place < end
 }
 
-/// Whether each mark stands behind the one before it, and all of them before a place.
+/// Whether each mark is after the one before it, and all of them before a place.
 fn ascend(marks: &[MarkedByte], end: usize) -> bool
     ensures { result ≡ ascend 0 end marks.now }
 {
@@ -249,7 +249,7 @@ fn ascend(marks: &[MarkedByte], end: usize) -> bool
     true
 }
 
-/// Writes the nodes of the roles of a text's bytes behind others, at a depth. There is room for a text
+/// Writes the nodes of the roles of a text's bytes after others, at a depth. There is room for a text
 /// and a node for each mark from the start.
 #[tactic(auto, using(crate::proofs::Sparse::in_order, crate::proofs::Behind::written_behind))]
 fn write(
@@ -300,7 +300,7 @@ fn move_all(content: &Content, nodes: &mut [Node])
     }
 }
 
-/// Writes the nodes of the roles of a text's bytes behind others, at a depth and with their ranges in
+/// Writes the nodes of the roles of a text's bytes after others, at a depth and with their ranges in
 /// the source.
 pub fn write_behind(
     alloc: Global,

@@ -15,7 +15,7 @@ abbrev pub lines_with : Option Line → (Line → List Line) → List Line → L
 lines_with None behind others = others
 lines_with (Some l) behind others = l ∷ behind l
 
--- the lines that end at some of these places, with what stands behind the last of them
+-- the lines that end at some of these places, with what is after the last of them
 abbrev pub lines_at : List ℕ → ℕ → ℕ → List ℕ → List Line
 lines_at text before start [] = lines_with (line_left before start (length text)) (λ l. []) []
 lines_at text before start (at ∷ ats) =

@@ -32,11 +32,11 @@ abbrev pub cells_of : List Cell → ℕ → List ℕ → List Cell
 cells_of cells at [] = cells
 cells_of cells at (b ∷ bs) = cells_of (filled cells b at) (plus at 1) bs
 
--- the byte of a column; a line feed behind the last one
+-- the byte of a column; a line feed after the last one
 abbrev pub cell_byte : List Cell → ℕ → ℕ
 cell_byte cells column = option_map_or (λ (c : Cell). c.byte) (slice_get cells column) 10
 
--- the place of a column; the end of the line behind the last one
+-- the place of a column; the end of the line after the last one
 abbrev pub cell_place : List Cell → ℕ → ℕ → ℕ
 cell_place cells column end = option_map_or (λ (c : Cell). c.at) (slice_get cells column) end
 

@@ -29,7 +29,7 @@ raised o end line = record o { end = max o.end end; line = max o.line line }
 unfoldable pub raised_at : List Opened → ℕ → ℕ → ℕ → List Opened
 raised_at opened place end line = option_map_or (λ o. slice_set opened place (raised o end line)) (slice_get opened place) opened
 
--- behind the `>` and the space behind it
+-- after the `>` and the space after it
 unfoldable pub after_quote : List Cell → Cursor → Cursor
 after_quote cells cursor =
     let behind = plus cursor.ink 1 in
@@ -52,11 +52,11 @@ going_on_as container.Note cells cursor had = item_goes_on cells cursor 4 true
 going_on_as container.Definitions cells cursor had = Some cursor
 going_on_as (container.Definition width) cells cursor had = item_goes_on cells cursor width had
 
--- where a line goes on behind what it has of a container
+-- where a line goes on after what it has of a container
 unfoldable pub going_on : List Cell → Cursor → Opened → Option Cursor
 going_on cells cursor o = going_on_as o.container cells cursor o.had
 
--- an item in which no block stands
+-- an item in which no block is
 abbrev pub is_empty_item_as : Container → Bool → Bool
 is_empty_item_as container.Quote had = false
 is_empty_item_as (container.List sort) had = false
@@ -65,11 +65,11 @@ is_empty_item_as container.Note had = false
 is_empty_item_as container.Definitions had = false
 is_empty_item_as (container.Definition width) had = false
 
--- a container that is an item in which no block stands
+-- a container that is an item in which no block is
 unfoldable pub is_empty_item : Opened → Bool
 is_empty_item o = is_empty_item_as o.container o.had
 
--- an item or a definition in which no block stands
+-- an item or a definition in which no block is
 abbrev pub is_empty_as : Container → Bool → Bool
 is_empty_as container.Quote had = false
 is_empty_as (container.List sort) had = false
@@ -78,7 +78,7 @@ is_empty_as container.Note had = false
 is_empty_as container.Definitions had = false
 is_empty_as (container.Definition width) had = not had
 
--- a container that is an item or a definition in which no block stands
+-- a container that is an item or a definition in which no block is
 unfoldable pub is_empty : Opened → Bool
 is_empty o = is_empty_as o.container o.had
 
@@ -101,7 +101,7 @@ stopped cells opened quotes count cursor =
 unfoldable pub passed : List Cell → Cursor → Opened → Option Cursor
 passed cells cursor o = if nat_le (length cells) cursor.column then None else going_on cells cursor o
 
--- how many containers go on in a line, and the cursor behind what it has of them
+-- how many containers go on in a line, and the cursor after what it has of them
 abbrev pub matched_from : List Cell → List Opened → List ℕ → ℕ → Cursor → List Opened → ℕ × Cursor
 matched_from cells opened quotes count cursor [] = (count, cursor)
 matched_from cells opened quotes count cursor (o ∷ os) =
@@ -118,7 +118,7 @@ touched_from count end line [] opened = opened
 touched_from count end line (q ∷ qs) opened =
     if nat_le count q then opened else touched_from count end line qs (raised_at opened q end line)
 
--- one column lies behind the marker of an item that is empty or begins with code
+-- one column lies after the marker of an item that is empty or begins with code
 unfoldable pub item_gap : Bool → ℕ → ℕ
 item_gap empty spaces = if empty || nat_le 5 spaces then 1 else spaces
 

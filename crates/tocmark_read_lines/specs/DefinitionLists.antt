@@ -7,7 +7,7 @@ use Rattle.tocmark_read_lines.specs.declared.cell.Cell.{Cell}
 use Rattle.tocmark_read_lines.specs.declared.cell.Cursor.{Cursor}
 use Rattle.tocmark_read_lines.specs.declared.definition_list.DefinitionStart.{DefinitionStart}
 
--- its lines are indented past the spaces before its colon, the colon, and the spaces behind it, of which five or more count as one
+-- its lines are indented past the spaces before its colon, the colon, and the spaces after it, of which five or more count as one
 unfoldable pub definition_at : List Cell → Cursor → DefinitionStart
 definition_at cells cursor =
     let behind = plus cursor.ink 1 in
@@ -15,7 +15,7 @@ definition_at cells cursor =
     let gap = if nat_le 5 spaces then 1 else spaces in
     record { width = plus (plus (indent_of cursor) 1) gap; next = min (plus behind gap) (length cells) }
 
--- a colon behind at most three spaces
+-- a colon after at most three spaces
 unfoldable pub begins_definition : List Cell → Cursor → Bool
 begins_definition cells cursor =
     not (is_blank_at cells cursor) && nat_le (indent_of cursor) 3 && (cell_byte cells cursor.ink == 58)

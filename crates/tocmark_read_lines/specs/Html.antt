@@ -34,7 +34,7 @@ is_raw line =
     let end = run_end line 1 TagName in
     is_raw_name (bytes_between line 1 end) && ends_name line end
 
--- a tag of the sixth kind whose name stands at a place
+-- a tag of the sixth kind whose name is at a place
 unfoldable pub block_tag : List ℕ → ℕ → Bool
 block_tag line place =
     let end = run_end line place TagName in
@@ -44,13 +44,13 @@ block_tag line place =
 unfoldable pub is_block_tag : List ℕ → Bool
 is_block_tag line = if byte_at line 1 == 47 then block_tag line 2 else block_tag line 1
 
--- the place behind the first tag, if it may stand alone
+-- the place after the first tag, if it may be alone
 unfoldable pub tag_end : List ℕ → Option ℕ
 tag_end line =
     if byte_at line 1 == 47 then closing_tag line 0
     else (if is_raw_name (bytes_between line 1 (run_end line 1 TagName)) then None else open_tag line 0)
 
--- nothing but spaces and tabs stands behind the tag
+-- nothing but spaces and tabs is after the tag
 abbrev pub ends_blank : List ℕ → Option ℕ → Bool
 ends_blank line None = false
 ends_blank line (Some end) = nat_le (length line) (run_end line end Blank)
@@ -71,17 +71,17 @@ html_kind line =
     else (if is_block_tag line then Some Named
     else (if is_tag_line line then Some Alone else None)))))))
 
--- a word stands in the rest of the line
+-- a word is in the rest of the line
 abbrev pub holds_from : List ℕ → List ℕ → ℕ → List ℕ → Bool
 holds_from line word place [] = false
 holds_from line word place (b ∷ bs) =
     if same_word (bytes_between line place (plus place (length word))) word then true else holds_from line word (place + 1) bs
 
--- a word stands in the line
+-- a word is in the line
 abbrev pub holds : List ℕ → List ℕ → Bool
 holds line word = holds_from line word 0 line
 
--- an end of the first kind stands in the line
+-- an end of the first kind is in the line
 unfoldable pub holds_raw_end : List ℕ → Bool
 holds_raw_end line = list_any (λ w. holds line w.now) RAW_ENDS
 

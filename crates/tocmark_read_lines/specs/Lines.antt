@@ -3,7 +3,7 @@ use Rattle.std.specs.Prelude.{ℕ, ◌+◌, ◌-◌, Bool, not, ◌==◌, ◌&&�
 use Rattle.tocmark_read_scan.specs.Basic.{plus, byte_at}
 use Rattle.tocmark_read_lines.specs.declared.line.Line.{Line}
 
--- a line ends with a line feed, and with a carriage return that has none behind it
+-- a line ends with a line feed, and with a carriage return that has none after it
 unfoldable pub ends_here : List ℕ → ℕ → ℕ → Bool
 ends_here text b at =
     (b == 10) || ((b == 13) && not (byte_at text (plus at 1) == 10)) || ((b == 13) && nat_le (length text) (plus at 1))
@@ -21,7 +21,7 @@ unfoldable pub line_ended : List ℕ → ℕ → ℕ → ℕ → Option Line
 line_ended text before start at =
     if ends_here text (byte_at text at) at then Some (line before start (line_stop text start (byte_at text at) at) (plus at 1)) else None
 
--- what stands behind the last line ending is a line if it is not empty
+-- what is after the last line ending is a line if it is not empty
 abbrev pub last_line : ℕ → ℕ → ℕ → List Line
 last_line before start end = if nat_lt start end then line before start end end ∷ [] else []
 

@@ -50,7 +50,7 @@ heading_at cells column =
 unfoldable pub is_fence_byte : ℕ → Bool
 is_fence_byte b = (b == 96) || (b == 126)
 
--- at least three backticks or tildes, and behind backticks none (CommonMark 4.5)
+-- at least three backticks or tildes, and after backticks none (CommonMark 4.5)
 unfoldable pub fence_at : List Cell → Cursor → Option Fence
 fence_at cells cursor =
     let b = cell_byte cells cursor.ink in

@@ -9,7 +9,7 @@ use Rattle.tocmark_read_lines.specs.declared.cell.Cell.{Cell}
 use Rattle.tocmark_read_lines.specs.declared.cell.Cursor.{Cursor}
 use Rattle.tocmark_read_lines.specs.declared.note.NoteStart.{NoteStart}
 
--- a name is defined where a colon stands just behind its label
+-- a name is defined where a colon is just after its label
 abbrev pub defined_as : List Cell → Option Word → Option NoteStart
 defined_as cells None = None
 defined_as cells (Some w) =
@@ -20,7 +20,7 @@ defined_as cells (Some w) =
 unfoldable pub note_at : List Cell → ℕ → Option NoteStart
 note_at cells column = defined_as cells (note_label (bytes_of cells) column)
 
--- the definition of a footnote that begins at a cursor, behind at most three spaces
+-- the definition of a footnote that begins at a cursor, after at most three spaces
 unfoldable pub note_start : Syntax → List Cell → Cursor → Option NoteStart
 note_start syntax cells cursor =
     if syntax.footnotes && (not (is_blank_at cells cursor) && nat_le (indent_of cursor) 3)

@@ -17,7 +17,7 @@ pub struct Heading {
     pub level: HeadingLevel,
     /// The first column of its text.
     pub from: usize,
-    /// The column behind its text.
+    /// The column after its text.
     pub to: usize,
 }
 
@@ -26,13 +26,13 @@ pub struct Heading {
 pub struct Fence {
     /// Its byte.
     pub byte: u8,
-    /// How often the byte stands there.
+    /// How often the byte is there.
     pub count: usize,
     /// The columns of spaces before it.
     pub indent: usize,
 }
 
-/// The columns at the end of a line in which nothing but one byte and spaces stand.
+/// The columns at the end of a line in which nothing but one byte and spaces are.
 #[derive(Clone, Copy)]
 pub struct Tail {
     /// The last byte of the line that is no space.
@@ -67,7 +67,7 @@ fn level_of(marks: usize) -> Option<HeadingLevel>
     }
 }
 
-/// Whether a space or the end of the line stands at a column.
+/// Whether a space or the end of the line is at a column.
 #[tactic(auto, unfolding(crate::specs::Marks::is_behind))]
 fn is_behind(cells: &Cells, column: usize) -> bool
     ensures { result ≡ is_behind cells.now column }
@@ -91,7 +91,7 @@ pub fn heading_end_before(cells: &Cells, from: usize, limit: usize) -> usize
     }
 }
 
-/// The heading whose `#` stand at a column.
+/// The heading whose `#` are at a column.
 #[tactic(auto, unfolding(crate::specs::Marks::heading_at))]
 pub fn heading_at(cells: &Cells, column: usize) -> Option<Heading>
     ensures { result ≡ heading_at cells.now column }
@@ -116,7 +116,7 @@ fn is_fence_byte(byte: u8) -> bool
     byte == b'`' || byte == b'~'
 }
 
-/// The fence at a cursor that opens a code block. Behind backticks stands none on its line.
+/// The fence at a cursor that opens a code block. After backticks is none on its line.
 #[tactic(auto, unfolding(crate::specs::Marks::fence_at))]
 pub fn fence_at(cells: &Cells, cursor: Cursor) -> Option<Fence>
     ensures { result ≡ fence_at cells.now cursor }
@@ -203,7 +203,7 @@ fn is_underline_byte(byte: u8) -> bool
     byte == b'=' || byte == b'-'
 }
 
-/// The level of the heading whose underline stands at a column.
+/// The level of the heading whose underline is at a column.
 #[tactic(auto, unfolding(crate::specs::Marks::underline_at))]
 pub fn underline_at(cells: &Cells, column: usize) -> Option<HeadingLevel>
     ensures { result ≡ underline_at cells.now column }

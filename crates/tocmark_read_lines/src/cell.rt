@@ -18,12 +18,12 @@ use tocmark_read_scan::class::has_byte;
 pub struct Cell {
     /// The byte; a space in each column of a tab.
     pub byte: u8,
-    /// Where the byte stands in the text, in bytes; in each column of a tab where the tab stands.
+    /// Where the byte is in the text, in bytes; in each column of a tab where the tab is.
     pub at: usize,
 }
 
 /// The columns of a line: their bytes and, if the line has tabs, the columns with their places. Without
-/// tabs its bytes stand one behind the other from `start` on. A line is written over the one before.
+/// tabs its bytes are one after the other from `start` on. A line is written over the one before.
 #[derive(Drop)]
 pub struct Cells {
     bytes: Vec<u8>,
@@ -36,7 +36,7 @@ pub struct Cells {
 pub struct Cursor {
     /// The column, counted from 0 on.
     pub column: usize,
-    /// The first column from there on that is no space, or the one behind the last.
+    /// The first column from there on that is no space, or the one after the last.
     pub ink: usize,
 }
 
@@ -50,7 +50,7 @@ fn push_spaces(cells: &mut Vec<Cell>, count: usize, at: usize) -> Result<(), All
     Ok(())
 }
 
-/// Puts a byte's columns behind those so far.
+/// Puts a byte's columns after those so far.
 #[tactic(auto, unfolding(crate::specs::Cells::filled))]
 fn fill(cells: &mut Vec<Cell>, byte: u8, at: usize) -> Result<(), AllocError>
     ensures { OnOk result (cells.new.items ≡ filled cells.old.items byte at) }
@@ -63,7 +63,7 @@ fn fill(cells: &mut Vec<Cell>, byte: u8, at: usize) -> Result<(), AllocError>
     Ok(())
 }
 
-/// Writes the columns of bytes that stand from a place on over those of another line.
+/// Writes the columns of bytes that are from a place on over those of another line.
 fn fill_all(cells: &mut Vec<Cell>, bytes: &[u8], start: usize) -> Result<(), AllocError>
     ensures { OnOk result (cells.new.items ≡ cells_of [] start bytes.now) }
 {
@@ -156,7 +156,7 @@ impl Cells {
         }
     }
 
-    /// Takes the columns of a line as `read` does. `has_tabs` tells whether a tab stands in the text, so
+    /// Takes the columns of a line as `read` does. `has_tabs` tells whether a tab is in the text, so
     /// that a line of a text without tabs isn't searched for them.
     #[tactic(auto, using(crate::proofs::Columns::no_cells, crate::proofs::Columns::plain_part))]
     pub fn read_in(&mut self, text: &[u8], line: Line, has_tabs: bool) -> Result<(), AllocError>
@@ -189,7 +189,7 @@ impl Cells {
         self.bytes.len()
     }
 
-    /// The place of a column in the text, in bytes; `end` behind the last one.
+    /// The place of a column in the text, in bytes; `end` after the last one.
     fn place(&self, column: usize, end: usize) -> usize
         ensures { result ≡ cell_place self.now column end }
     {
@@ -216,7 +216,7 @@ fn place_of(bytes: &[u8], tabbed: &[Cell], start: usize, column: usize, end: usi
     }
 }
 
-/// The byte of a column; a line feed behind the last one.
+/// The byte of a column; a line feed after the last one.
 #[tactic(auto, using(crate::proofs::Columns::byte_asked))]
 pub fn cell_byte(cells: &Cells, column: usize) -> u8
     ensures { result ≡ cell_byte cells.now column }
@@ -224,7 +224,7 @@ pub fn cell_byte(cells: &Cells, column: usize) -> u8
     byte_at(cells.bytes(), column)
 }
 
-/// The place of a column in the text, in bytes; `end` behind the last one.
+/// The place of a column in the text, in bytes; `end` after the last one.
 pub fn cell_place(cells: &Cells, column: usize, end: usize) -> usize
     ensures { result ≡ cell_place cells.now column end }
 {
@@ -322,7 +322,7 @@ pub fn indent_of(cursor: Cursor) -> usize
     cursor.ink.saturating_sub(cursor.column)
 }
 
-/// Whether nothing but spaces stands at a cursor and behind it.
+/// Whether nothing but spaces is at a cursor and after it.
 pub fn is_blank_at(cells: &Cells, cursor: Cursor) -> bool
     ensures { result ≡ is_blank_at cells.now cursor }
 {

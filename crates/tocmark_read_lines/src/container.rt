@@ -11,7 +11,7 @@ use crate::definition_list::{DefinitionStart, definition_start};
 use crate::note::{NoteStart, note_start};
 use tocmark_read_scan::syntax::Syntax;
 
-/// What other blocks stand in.
+/// What other blocks are in.
 #[derive(Clone, Copy)]
 pub enum Container {
     /// A block quote.
@@ -39,7 +39,7 @@ pub struct Opened {
     pub end: usize,
     /// The number of that line.
     pub line: usize,
-    /// Whether a block stands in it.
+    /// Whether a block is in it.
     pub had: bool,
 }
 
@@ -65,7 +65,7 @@ pub enum ContainerStart {
     Item(ItemStart),
     /// The definition of a footnote.
     Note(NoteStart),
-    /// A definition, if a title or a definition stands before it.
+    /// A definition, if a title or a definition is before it.
     Definition(DefinitionStart),
 }
 
@@ -81,7 +81,7 @@ pub fn raise_at(opened: &mut Vec<Opened>, place: usize, end: usize, line: usize)
     }
 }
 
-/// The cursor behind the `>` of a quote and the space behind it.
+/// The cursor after the `>` of a quote and the space after it.
 #[tactic(auto, unfolding(crate::specs::Containers::after_quote))]
 pub fn after_quote(cells: &Cells, cursor: Cursor) -> Cursor
     ensures { result ≡ after_quote cells.now cursor }
@@ -110,7 +110,7 @@ fn item_goes_on(cells: &Cells, cursor: Cursor, width: usize, had: bool) -> Optio
     }
 }
 
-/// The cursor behind what a line has of a container that goes on in it.
+/// The cursor after what a line has of a container that goes on in it.
 #[tactic(auto, unfolding(crate::specs::Containers::going_on))]
 fn going_on(cells: &Cells, cursor: Cursor, one: Opened) -> Option<Cursor>
     ensures { result ≡ going_on cells.now cursor one }
@@ -132,7 +132,7 @@ fn going_on(cells: &Cells, cursor: Cursor, one: Opened) -> Option<Cursor>
     }
 }
 
-/// Whether a container is an item in which no block stands.
+/// Whether a container is an item in which no block is.
 #[tactic(auto, unfolding(crate::specs::Containers::is_empty_item))]
 pub fn is_empty_item(one: Opened) -> bool
     ensures { result ≡ is_empty_item one }
@@ -147,7 +147,7 @@ pub fn is_empty_item(one: Opened) -> bool
     }
 }
 
-/// Whether a container is an item or a definition in which no block stands.
+/// Whether a container is an item or a definition in which no block is.
 #[tactic(auto, unfolding(crate::specs::Containers::is_empty))]
 fn is_empty(one: Opened) -> bool
     ensures { result ≡ is_empty one }
@@ -202,7 +202,7 @@ fn stopped(
     }
 }
 
-/// The cursor behind what a line has of a container, if something is left of the line.
+/// The cursor after what a line has of a container, if something is left of the line.
 #[tactic(auto, unfolding(crate::specs::Containers::passed))]
 fn passed(cells: &Cells, cursor: Cursor, one: Opened) -> Option<Cursor>
     ensures { result ≡ passed cells.now cursor one }
@@ -214,7 +214,7 @@ fn passed(cells: &Cells, cursor: Cursor, one: Opened) -> Option<Cursor>
     }
 }
 
-/// How many of the open containers go on in a line, and the cursor behind what it has of them.
+/// How many of the open containers go on in a line, and the cursor after what it has of them.
 /// `quotes` are the places of the quotes among them.
 pub fn matched(cells: &Cells, opened: &[Opened], quotes: &[usize]) -> (usize, Cursor)
     ensures { result ≡ matched cells.now opened.now quotes.now }

@@ -15,7 +15,7 @@ pub struct DefinitionStart {
     pub next: usize,
 }
 
-/// The definition whose colon stands at a cursor. The spaces behind it belong to it: five or more count as
+/// The definition whose colon is at a cursor. The spaces after it belong to it: five or more count as
 /// one.
 #[tactic(auto, unfolding(crate::specs::DefinitionLists::definition_at))]
 fn definition_at(cells: &Cells, cursor: Cursor) -> DefinitionStart
@@ -30,7 +30,7 @@ fn definition_at(cells: &Cells, cursor: Cursor) -> DefinitionStart
     }
 }
 
-/// Whether a colon stands at a cursor, behind at most three spaces.
+/// Whether a colon is at a cursor, after at most three spaces.
 #[tactic(auto, unfolding(crate::specs::DefinitionLists::begins_definition))]
 fn begins_definition(cells: &Cells, cursor: Cursor) -> bool
     ensures { result ≡ begins_definition cells.now cursor }

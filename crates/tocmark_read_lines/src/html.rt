@@ -21,7 +21,7 @@ pub enum HtmlKind {
     Declaration,
     /// `<![CDATA[`, up to `]]>`
     CharacterData,
-    /// a tag that stands in a list of names, up to a blank line
+    /// a tag that is in a list of names, up to a blank line
     Named,
     /// any other tag alone on its line, up to a blank line
     Alone,
@@ -123,7 +123,7 @@ fn is_block_name(name: &[u8]) -> bool
     is_among(&BLOCK_NAMES, name)
 }
 
-/// Whether white space, `>` or the end of the line stands at a place.
+/// Whether white space, `>` or the end of the line is at a place.
 #[tactic(auto, unfolding(crate::specs::Html::ends_name))]
 fn ends_name(line: &[u8], place: usize) -> bool
     ensures { result ≡ ends_name line.now place }
@@ -140,7 +140,7 @@ fn is_raw(line: &[u8]) -> bool
     is_raw_name(bytes_between(line, 1, end)) && ends_name(line, end)
 }
 
-/// Whether a line begins with a tag of a block whose name stands at a place.
+/// Whether a line begins with a tag of a block whose name is at a place.
 #[tactic(auto, unfolding(crate::specs::Html::block_tag))]
 fn block_tag(line: &[u8], place: usize) -> bool
     ensures { result ≡ block_tag line.now place }
@@ -161,7 +161,7 @@ fn is_block_tag(line: &[u8]) -> bool
     }
 }
 
-/// The place behind the tag that a line begins with, if it may stand alone.
+/// The place after the tag that a line begins with, if it may be alone.
 #[tactic(auto, unfolding(crate::specs::Html::tag_end))]
 fn tag_end(line: &[u8]) -> Option<usize>
     ensures { result ≡ tag_end line.now }
@@ -213,7 +213,7 @@ pub fn html_kind(line: &[u8]) -> Option<HtmlKind>
     }
 }
 
-/// Whether a word stands in a line.
+/// Whether a word is in a line.
 #[tactic(auto, using(crate::proofs::Steps::holds_more))]
 fn holds(line: &[u8], word: &[u8]) -> bool
     ensures { result ≡ holds_from line.now word.now 0 line.now }

@@ -14,11 +14,11 @@ pub struct Line {
     pub start: usize,
     /// The place of its line ending; the end of the text where it has none.
     pub end: usize,
-    /// The place behind its line ending.
+    /// The place after its line ending.
     pub next: usize,
 }
 
-/// Whether a line ends with the byte at a place: a line feed, or a carriage return with none behind it.
+/// Whether a line ends with the byte at a place: a line feed, or a carriage return with none after it.
 #[tactic(auto, unfolding(crate::specs::Lines::ends_here))]
 fn ends_here(text: &[u8], byte: u8, at: usize) -> bool
     ensures { result ≡ ends_here text.now byte at }
@@ -36,7 +36,7 @@ fn line_stop(text: &[u8], start: usize, byte: u8, at: usize) -> usize
     if pair { at.saturating_sub(1) } else { at }
 }
 
-/// The line that ends with the byte at a place, if one does. It began at `start`, behind `before` lines.
+/// The line that ends with the byte at a place, if one does. It began at `start`, after `before` lines.
 #[tactic(auto, unfolding(crate::specs::Lines::line_ended))]
 pub fn line_ended(text: &[u8], before: usize, start: usize, at: usize) -> Option<Line>
     ensures { result ≡ line_ended text.now before start at }
@@ -54,7 +54,7 @@ pub fn line_ended(text: &[u8], before: usize, start: usize, at: usize) -> Option
     }
 }
 
-/// The line that is left at the end of a text, unless it is empty. It begins at `start`, behind `before` lines.
+/// The line that is left at the end of a text, unless it is empty. It begins at `start`, after `before` lines.
 #[tactic(auto, unfolding(crate::specs::Lines::line_left))]
 pub fn line_left(before: usize, start: usize, end: usize) -> Option<Line>
     ensures { result ≡ line_left before start end }

@@ -12,13 +12,13 @@ use tocmark_read_tokens::note::note_label;
 pub struct NoteStart {
     /// The first column of its name.
     pub from: usize,
-    /// The column behind its name.
+    /// The column after its name.
     pub to: usize,
-    /// The first column behind its colon that is no space.
+    /// The first column after its colon that is no space.
     pub next: usize,
 }
 
-/// The definition of a footnote at a column: a label, and a colon just behind it.
+/// The definition of a footnote at a column: a label, and a colon just after it.
 #[tactic(auto, unfolding(crate::specs::Notes::note_at))]
 pub fn note_at(cells: &Cells, column: usize) -> Option<NoteStart>
     ensures { result ≡ note_at cells.now column }
@@ -35,7 +35,7 @@ pub fn note_at(cells: &Cells, column: usize) -> Option<NoteStart>
     }
 }
 
-/// The definition of a footnote that begins at a cursor, behind at most three spaces, where footnotes are
+/// The definition of a footnote that begins at a cursor, after at most three spaces, where footnotes are
 /// read.
 #[tactic(auto, unfolding(crate::specs::Notes::note_start))]
 pub fn note_start(syntax: Syntax, cells: &Cells, cursor: Cursor) -> Option<NoteStart>

@@ -19,7 +19,7 @@ pub record DefinitionView : Type 0 where
 abbrev pub definition_view : LinkDefinition → DefinitionView
 definition_view d = record { label = d.label.items; destination = d.destination.items; title = d.title.items }
 
--- the texts of a definition that stands in this content
+-- the texts of a definition that is in this content
 abbrev pub found_view : List ℕ → Definition → DefinitionView
 found_view content d = record {
   label = bytes_between content d.label.start d.label.end;
@@ -40,11 +40,11 @@ replaced b = if b == 0 then 0xef ∷ 0xbf ∷ 0xbd ∷ [] else b ∷ []
 abbrev pub joined_line : List ℕ → Piece → List ℕ
 joined_line text l = flat_map replaced (bytes_between text l.start l.end) ++ 10 ∷ []
 
--- the lines, each with a line feed behind it
+-- the lines, each with a line feed after it
 abbrev pub joined : List ℕ → List Piece → List ℕ
 joined text lines = flat_map (joined_line text) lines
 
--- one more definition, and the place behind it
+-- one more definition, and the place after it
 unfoldable pub define_once : List ℕ → ℕ → List DefinitionView → List DefinitionView × Option ℕ
 define_once content place definitions =
     option_map_or (λ (d : Definition). (definitions ++ found_view content d ∷ [], Some d.next)) (definition_at content place) (definitions, None)

@@ -77,7 +77,7 @@ finished blocks index end last =
 abbrev pub raised_last : ℕ → ℕ → State → State
 raised_last end line s = record s { opened = raised_at s.opened (length s.opened - 1) end line }
 
--- the open leaf ends: pieces behind those that it keeps go
+-- the open leaf ends: pieces after those that it keeps go
 unfoldable pub leaf_finished : State → State
 leaf_finished s =
     let kept = take s.kept s.pieces in
@@ -99,7 +99,7 @@ defined_as text s b =
     let found = definitions_from text (drop b.first s.pieces) s.definitions in
     record s { definitions = found.0; blocks = slice_set s.blocks (length s.blocks - 1) (shortened b s.pieces (found.1)) }
 
--- no definition stands behind a box
+-- no definition is after a box
 abbrev pub settled_as : List ℕ → State → Block → State
 settled_as text s b = if is_some b.task then s else defined_as text s b
 
@@ -161,7 +161,7 @@ is_definitions (container.Definition width) = false
 abbrev pub quote_left : Container → State → State
 quote_left c s = if is_quote c then record s { quotes = take (length s.quotes - 1) s.quotes } else s
 
--- the innermost container ends, and what it stands in reaches at least as far
+-- the innermost container ends, and what it is in reaches at least as far
 unfoldable pub one_closed : State → State
 one_closed s =
     let last = length s.opened - 1 in
@@ -180,7 +180,7 @@ closed_to text depth s =
     let t = leaf_closed text s in
     times one_closed (length t.opened - depth) t
 
--- a definition of a footnote doesn't stand directly in another one
+-- a definition of a footnote isn't directly in another one
 unfoldable pub note_left : State → State
 note_left s = option_map_or (λ (o : Opened). if is_note o.container then one_closed s else s) (innermost s.opened) s
 
@@ -208,11 +208,11 @@ left_noted o s =
     then record s { left = Some (record { list = o.block; behind = length s.blocks; loose = is_loose s.blocks (list_of s.opened) }) }
     else s
 
--- nothing but items stands in a list, and nothing but titles and definitions in one of definitions
+-- nothing but items is in a list, and nothing but titles and definitions in one of definitions
 unfoldable pub list_left : State → State
 list_left s = option_map_or (λ (o : Opened). if is_list o.container then left_noted o (one_closed s) else s) (innermost s.opened) s
 
--- a block that begins in this line comes more than one line behind its neighbour (CommonMark 5.3)
+-- a block that begins in this line comes more than one line after its neighbour (CommonMark 5.3)
 unfoldable pub is_apart : List Opened → ℕ → Bool
 is_apart opened number = option_map_or (λ (o : Opened). o.had && nat_lt (plus o.line 1) number) (innermost opened) false
 
@@ -220,11 +220,11 @@ is_apart opened number = option_map_or (λ (o : Opened). o.had && nat_lt (plus o
 abbrev pub made_loose : List Block → ℕ → List Block
 made_loose blocks index = option_map_or (λ (b : Block). slice_set blocks index (record b { loose = true })) (slice_get blocks index) blocks
 
--- a list is loose if a block in it stands apart (CommonMark 5.3)
+-- a list is loose if a block in it is apart (CommonMark 5.3)
 unfoldable pub loosened : Option ℕ → Bool → List Block → List Block
 loosened list apart blocks = if apart then option_map_or (made_loose blocks) list blocks else blocks
 
--- a block stands in the innermost container
+-- a block is in the innermost container
 unfoldable pub had_marked : List Opened → List Opened
 had_marked opened = option_map_or (λ (o : Opened). slice_set opened (length opened - 1) (record o { had = true })) (innermost opened) opened
 
@@ -267,7 +267,7 @@ leaf_opened l kind start line s =
 abbrev pub piece_pushed : Piece → State → State
 piece_pushed p s = if nat_lt 0 p.spaces || nat_lt p.start p.next then record s { pieces = s.pieces ++ p ∷ [] } else s
 
--- the open paragraph has a line behind its definitions
+-- the open paragraph has a line after its definitions
 unfoldable pub has_text : State → Bool
 has_text s = option_map_or (λ (b : Block). nat_lt b.first (length s.pieces)) (slice_get s.blocks (length s.blocks - 1)) false
 

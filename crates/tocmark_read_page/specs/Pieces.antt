@@ -14,7 +14,7 @@ use Rattle.tocmark_read_page.specs.declared.piece.Piece.{Piece}
 abbrev pub same_place : List Cell → ℕ → ℕ → ℕ
 same_place cells column at = length (take_while (λ (c : Cell). c.at == at) (drop column cells))
 
--- a column behind the first one of its tab
+-- a column after the first one of its tab
 unfoldable pub is_split : List Cell → ℕ → Bool
 is_split cells column =
     nat_lt 0 column && nat_lt column (length cells) && (cell_place cells (column - 1) 0 == cell_place cells column 0)
@@ -30,7 +30,7 @@ code_piece cells column line =
     if is_split cells column then piece_of (same_place cells column at) (plus at 1) line.end line.next
     else piece_of 0 at line.end line.next
 
--- the place of a column, or the place behind its tab if the tab begins before it
+-- the place of a column, or the place after its tab if the tab begins before it
 unfoldable pub whole_place : List Cell → ℕ → Line → ℕ
 whole_place cells column line =
     let at = cell_place cells column line.end in

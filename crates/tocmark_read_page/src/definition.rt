@@ -19,7 +19,7 @@ pub struct LinkDefinition {
     pub label: Vec<u8>,
     /// The bytes of its destination, without `<` and `>`.
     pub destination: Vec<u8>,
-    /// The bytes of its title, without what stands round it; empty where there is none.
+    /// The bytes of its title, without what is round it; empty where there is none.
     pub title: Vec<u8>,
 }
 
@@ -76,7 +76,7 @@ fn push_line(content: &mut Vec<u8>, text: &[u8], line: Piece) -> Result<(), Allo
     Ok(())
 }
 
-/// The number of bytes from the front of the first line to behind the last one, and one more.
+/// The number of bytes from the front of the first line to after the last one, and one more.
 fn room_of(lines: &[Piece]) -> usize {
     match (lines.first(), lines.last()) {
         (Some(first), Some(last)) => last.next.saturating_sub(first.start).saturating_add(1),
@@ -84,7 +84,7 @@ fn room_of(lines: &[Piece]) -> usize {
     }
 }
 
-/// The lines, each with a line feed behind it; U+FFFD stands for U+0000.
+/// The lines, each with a line feed after it; U+FFFD stands for U+0000.
 fn joined(alloc: Global, text: &[u8], lines: &[Piece]) -> Result<Vec<u8>, AllocError>
     ensures { IfOk result (λ v. v.items ≡ joined text.now lines.now) }
 {
@@ -122,7 +122,7 @@ fn taken(alloc: Global, content: &[u8], found: Definition) -> Result<LinkDefinit
     })
 }
 
-/// Takes the definition at a place, and gives the place behind it.
+/// Takes the definition at a place, and gives the place after it.
 #[tactic(auto, unfolding(crate::specs::Definitions::define_once))]
 fn define_once(
     alloc: Global,
@@ -143,7 +143,7 @@ fn define_once(
     }
 }
 
-/// Takes the definitions at the front of a text, and gives the place behind them.
+/// Takes the definitions at the front of a text, and gives the place after them.
 #[tactic(auto, using(tocmark_read_scan::proofs::Repeats::repeated_zero, tocmark_read_scan::proofs::Repeats::repeated_stop, tocmark_read_scan::proofs::Repeats::repeated_more))]
 fn define_all(
     alloc: Global,
@@ -194,8 +194,8 @@ fn define_lines(
     Ok(line_count(&content, place))
 }
 
-/// Puts the definitions at the front of a paragraph's lines behind those so far, and gives the number
-/// of their lines. At an `Err` some of them may stand there.
+/// Puts the definitions at the front of a paragraph's lines after those so far, and gives the number
+/// of their lines. At an `Err` some of them may be there.
 #[tactic(auto, unfolding(crate::specs::Definitions::definitions_from))]
 pub(crate) fn take_definitions(
     alloc: Global,

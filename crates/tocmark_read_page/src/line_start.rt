@@ -1,4 +1,4 @@
-//! Where a line stands: in which text, and behind which of the open containers.
+//! Where a line is: in which text, and after which of the open containers.
 
 use tocmark_read_lines::cell::{Cells, Cursor};
 use tocmark_read_lines::line::Line;
@@ -22,7 +22,7 @@ pub struct LineStart {
     pub depth: usize,
 }
 
-/// A line with its columns, the text that it stands in, and what is known of that.
+/// A line with its columns, the text that it is in, and what is known of that.
 #[derive(Clone, Copy)]
 pub struct Row<'t, 'c> {
     pub known: Known,

@@ -25,11 +25,11 @@ enum SmallKind {
     Paragraph,
     Heading(HeadingLevel),
     Indented,
-    /// How many bytes behind the start of a fenced code block its info string begins, and how many it has.
+    /// How many bytes after the start of a fenced code block its info string begins, and how many it has.
     Fenced(u8, u8),
     Html,
     Rule,
-    /// How many bytes behind the start of a table its delimiter row begins, and how many it has.
+    /// How many bytes after the start of a table its delimiter row begins, and how many it has.
     Table(u8, u8),
     TableHead,
     TableRow,
@@ -59,7 +59,7 @@ enum Form {
     Whole(Box<Block>),
 }
 
-/// A block in 24 bytes. A block that doesn't fit stands on the heap.
+/// A block in 24 bytes. A block that doesn't fit is on the heap.
 #[derive(Drop)]
 pub struct PackedBlock {
     form: Form,
@@ -125,7 +125,7 @@ fn list_of(list: u32) -> Option<usize>
     }
 }
 
-/// How many bytes behind a block's start a range begins, and how many it has, if both are small.
+/// How many bytes after a block's start a range begins, and how many it has, if both are small.
 fn near(start: usize, from: usize, to: usize) -> Option<(u8, u8)>
     ensures from { IfSome result (λ near. start + near.0 ≡ from) }
     ensures to { IfSome result (λ near. start + near.0 + near.1 ≡ to) }
@@ -137,7 +137,7 @@ fn near(start: usize, from: usize, to: usize) -> Option<(u8, u8)>
     }
 }
 
-/// The kind of a fenced code block whose info string is short and stands near its start.
+/// The kind of a fenced code block whose info string is short and is near its start.
 #[tactic(auto, unfolding(crate::specs::Packed::kind_in, crate::specs::Packed::is_loose_in))]
 fn fenced(start: usize, from: usize, to: usize) -> Option<SmallKind>
     ensures kind { IfSome result (λ small. kind_in start small ≡ kind.Fenced from to) }
@@ -147,7 +147,7 @@ fn fenced(start: usize, from: usize, to: usize) -> Option<SmallKind>
     Some(SmallKind::Fenced(behind, length))
 }
 
-/// The kind of a table whose delimiter row is short and stands near its start.
+/// The kind of a table whose delimiter row is short and is near its start.
 #[tactic(auto, unfolding(crate::specs::Packed::kind_in, crate::specs::Packed::is_loose_in))]
 fn table(start: usize, from: usize, to: usize) -> Option<SmallKind>
     ensures kind { IfSome result (λ small. kind_in start small ≡ kind.Table from to) }
@@ -363,7 +363,7 @@ impl PackedBlock {
         }
     }
 
-    /// The list of an item, or of a block that stands directly in an item.
+    /// The list of an item, or of a block that is directly in an item.
     #[tactic(auto, unfolding(crate::specs::Packed::block_in))]
     pub fn list(&self) -> Option<usize>
         ensures { result ≡ self.now.list }
@@ -418,7 +418,7 @@ impl PackedBlock {
         }
     }
 
-    /// The place behind the last piece of a leaf.
+    /// The place after the last piece of a leaf.
     #[tactic(auto, unfolding(crate::specs::Packed::block_in))]
     pub fn last(&self) -> usize
         ensures { result ≡ self.now.last }
@@ -460,7 +460,7 @@ impl PackedBlock {
         self.block()
     }
 
-    /// Ends the block, behind its last piece.
+    /// Ends the block, after its last piece.
     pub fn finish(&mut self, alloc: Global, end: usize, last: usize) -> Result<(), AllocError>
         ensures { OnOk result (self.new ≡ record self.old { end = end; last = last }) }
     {
@@ -551,7 +551,7 @@ pub fn block_at(blocks: &[PackedBlock], place: usize) -> Option<Block>
     }
 }
 
-/// Puts a block behind the others.
+/// Puts a block after the others.
 #[inline(always)]
 pub fn push_block(blocks: &mut Vec<PackedBlock>, block: Block) -> Result<(), AllocError>
     ensures { OnOk result (blocks.new.items ≡ blocks.old.items ++ block ∷ []) }

@@ -27,7 +27,7 @@ pub struct Braces {
 pub enum HeaderLine {
     /// Nowhere: it went on with the paragraph lazily.
     Never,
-    /// Where it is the paragraph's only line behind its definitions.
+    /// Where it is the paragraph's only line after its definitions.
     Alone,
     /// Everywhere: it begins with a bar.
     Always,
@@ -72,7 +72,7 @@ pub struct Task {
 
 /// A block with its depth and its range in bytes, line ending left out. A leaf has the pieces from
 /// `first` to before `last`; a paragraph that has none holds definitions alone. `loose` says of a list
-/// that its paragraphs aren't unwrapped; `list` is the list of an item, and of a block that stands
+/// that its paragraphs aren't unwrapped; `list` is the list of an item, and of a block that is
 /// directly in an item. `task` is the box of a paragraph, a heading, or an item.
 #[derive(Clone, Copy)]
 pub struct Block {
@@ -87,12 +87,12 @@ pub struct Block {
     pub task: Option<Task>,
 }
 
-/// A list of definitions that a block behind it ended. It goes on if that block is a title.
+/// A list of definitions that a block after it ended. It goes on if that block is a title.
 #[derive(Clone, Copy)]
 pub struct LeftList {
     /// The number of the list's block.
     pub list: usize,
-    /// The number of the block behind it.
+    /// The number of the block after it.
     pub behind: usize,
     /// Whether the list round both was loose before that block.
     pub loose: bool,
@@ -170,7 +170,7 @@ pub fn list_of(opened: &[Opened]) -> Option<usize>
     }
 }
 
-/// Whether a block that begins in a line comes after a blank line behind its neighbour.
+/// Whether a block that begins in a line comes after a blank line after its neighbour.
 #[tactic(auto, unfolding(crate::specs::Pages::is_apart))]
 fn is_apart(opened: &[Opened], number: usize) -> bool
     ensures { result ≡ is_apart opened.now number }
@@ -210,7 +210,7 @@ fn loosen(blocks: &mut Vec<PackedBlock>, list: Option<usize>, apart: bool) -> Re
     }
 }
 
-/// Notes that a block stands in the innermost container.
+/// Notes that a block is in the innermost container.
 #[tactic(auto, unfolding(crate::specs::Pages::had_marked))]
 fn mark_had(opened: &mut Vec<Opened>)
     ensures { opened.new.items ≡ had_marked opened.old.items }
@@ -362,7 +362,7 @@ impl BlocksSoFar {
         raise_at(&mut self.opened, last, end, line);
     }
 
-    /// Ends the open leaf. Its pieces behind those that it keeps go.
+    /// Ends the open leaf. Its pieces after those that it keeps go.
     #[tactic(auto, unfolding(crate::specs::Pages::leaf_finished))]
     pub fn finish_leaf(&mut self) -> Result<(), AllocError>
         ensures { OnOk result (page self.new ≡ leaf_finished (page self.old)) }
@@ -611,7 +611,7 @@ impl BlocksSoFar {
         Ok(())
     }
 
-    /// Whether the open paragraph has a line behind its definitions.
+    /// Whether the open paragraph has a line after its definitions.
     #[tactic(auto, unfolding(crate::specs::Pages::has_text))]
     pub fn has_text(&self) -> bool
         ensures { result ≡ has_text (page self.now) }

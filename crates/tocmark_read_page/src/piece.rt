@@ -13,13 +13,13 @@ use tocmark_read_lines::line::Line;
 pub struct Piece {
     /// How many columns of spaces are left of a partly used tab just before it.
     pub spaces: usize,
-    /// The place behind the prefixes of its containers: before the blanks that a paragraph leaves out.
+    /// The place after the prefixes of its containers: before the blanks that a paragraph leaves out.
     pub from: usize,
     /// The place of its first byte.
     pub start: usize,
     /// The place of its line ending.
     pub end: usize,
-    /// The place behind its line ending.
+    /// The place after its line ending.
     pub next: usize,
 }
 
@@ -73,7 +73,7 @@ pub fn code_piece(cells: &Cells, column: usize, line: Line) -> Piece
     }
 }
 
-/// The place of a column; of one that isn't the first of its tab the place behind that tab.
+/// The place of a column; of one that isn't the first of its tab the place after that tab.
 #[tactic(auto, unfolding(crate::specs::Pieces::whole_place))]
 fn whole_place(cells: &Cells, column: usize, line: Line) -> usize
     ensures { result ≡ whole_place cells.now column line }

@@ -1,4 +1,4 @@
--- The first place at which a byte stands: how many bytes stand before it, and whether there is one.
+-- The first place at which a byte is: how many bytes are before it, and whether there is one.
 use Rattle.std.proofs.Common.{◌≡◌, ℕ, zero, suc, ◌+◌, Bool, true, false, ◌==◌, List, [], ◌∷◌, length, Option, None, Some, unwrap_or, refl, ap, sym, ◌∙◌, arith, true≢false}
 use Rattle.std.specs.List.{list_any, prefix_len}
 use Rattle.std.specs.Option.{is_some}
@@ -6,7 +6,7 @@ use Rattle.memchr.specs.Find.{IsFirstByte, is_byte}
 use Rattle.tocmark_read_scan.specs.Class.{is_in, run_length}
 use Rattle.tocmark_read_scan.specs.declared.class.Class.TheVariants.{Except}
 
--- the same behind a byte that is another one
+-- the same after a byte that is another one
 none_later : (one b : ℕ) (bs : List ℕ) → IsFirstByte (is_byte one) (b ∷ bs) None → IsFirstByte (is_byte one) bs None
 none_later one b bs h = λ k low high p. h (suc k) (omega arith) (omega (arith, high)) p
 

@@ -72,7 +72,7 @@ feed_end body y h =
     ∙ iterated_stop (before_white bytes) (length bytes - 1) (length bytes - 1) longer (ink_before bytes (length bytes - 1) (ap (is_in White) ink ∙ h))
     ∙ shorter
 
--- without the line feed at the end, if no white space stands before it
+-- without the line feed at the end, if no white space is before it
 pub trimmed_feed : (body : List ℕ) (y : ℕ) (ps : List (ℕ × ℕ)) (q : ℕ × ℕ) → length ps ≡ length (body ++ y ∷ []) → is_in White y ≡ false → trimmed (record { bytes = (body ++ y ∷ []) ++ 10 ∷ []; places = ps ++ q ∷ [] }) ≡ record { bytes = body ++ y ∷ []; places = ps }
 trimmed_feed body y ps q e h =
     let bytes : List ℕ = (body ++ y ∷ []) ++ 10 ∷ [] in

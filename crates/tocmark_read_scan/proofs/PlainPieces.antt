@@ -18,7 +18,7 @@ pub drop_behind : {A : Type 0} (xs ys : List A) → drop (length xs) (xs ++ ys) 
 drop_behind [] ys = refl
 drop_behind (x ∷ xs) ys = drop_behind xs ys
 
--- the piece of a text that stands between two others
+-- the piece of a text that is between two others
 pub piece_between : (text pre l rest : List ℕ) (start end : ℕ) → text ≡ pre ++ (l ++ rest) → start ≡ length pre → end ≡ length pre + length l → bytes_between text start end ≡ l
 piece_between text pre l rest start end e s t =
     let all : length text ≡ length pre + (length l + length rest) = ap length e ∙ length-append pre (l ++ rest) ∙ ap (λ n. length pre + n) (length-append l rest) in
@@ -28,7 +28,7 @@ piece_between text pre l rest start end e s t =
     let behind : drop start text ≡ l ++ rest = ap (λ n. drop n text) s ∙ ap (drop (length pre)) e ∙ drop_behind pre (l ++ rest) in
     rw (order, fits, width, behind) (take_front l rest)
 
--- where each line stands, and where the next begins
+-- where each line is, and where the next begins
 abbrev pub line_places : ℕ → List ℕ → List (List ℕ) → List ContentLine
 line_places start l [] = record { start = start; end = start + length l; next = start + length l } ∷ []
 line_places start l (m ∷ ms) = record { start = start; end = start + length l; next = start + length l + 1 } ∷ line_places (start + length l + 1) m ms
@@ -43,7 +43,7 @@ places_append start (x ∷ xs) ys =
     let same : start + 1 + length xs ≡ start + suc (length xs) = omega arith in
     ap (λ ps. (start, start + 1) ∷ ps) (places_append (start + 1) xs ys ∙ ap (λ n. places_of (start + 1) xs ++ places_of n ys) same)
 
--- a line that stands there is put as it is, and a line feed behind it
+-- a line that is there is put as it is, and a line feed after it
 line_put : (text l : List ℕ) (start next : ℕ) (s : State) → bytes_between text start (start + length l) ≡ l → AreNoZeros l → start + length l < 2 ^ 64 → put_line text s (record { start = start; end = start + length l; next = next }) ≡ record { bytes = s.bytes ++ (l ++ 10 ∷ []); places = s.places ++ (places_of start l ++ (start + length l, next) ∷ []) }
 unfolding put_line put
 line_put text l start next s e h fits =
@@ -51,7 +51,7 @@ line_put text l start next s e h fits =
     ∙ ap (λ (t : State). put 10 (start + length l) next t) (put_bytes_plain start s l h fits)
     ∙ rw (append_assoc s.bytes l (10 ∷ []), append_assoc s.places (places_of start l) ((start + length l, next) ∷ [])) refl
 
--- lines that stand in a text one after the other are put as they are
+-- lines that are in a text one after the other are put as they are
 pub lines_put : (text pre : List ℕ) (start : ℕ) (l : List ℕ) (ms : List (List ℕ)) (s : State) → text ≡ pre ++ feed_joined l ms → start ≡ length pre → AllByRecursion AreNoZeros (l ∷ ms) → length text < 2 ^ 64 → fold (put_line text) s (line_places start l ms) ≡ record { bytes = s.bytes ++ (feed_joined l ms ++ 10 ∷ []); places = s.places ++ (places_of start (feed_joined l ms) ++ (length text, length text) ∷ []) }
 lines_put text pre start l [] s e at h fits =
     let here : text ≡ pre ++ (l ++ []) = e ∙ ap (λ (xs : List ℕ). pre ++ xs) (sym (append-nil l)) in

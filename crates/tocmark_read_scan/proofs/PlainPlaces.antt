@@ -1,9 +1,9 @@
--- Bytes at places of which what stands behind is known.
+-- Bytes at places of which what is after is known.
 use Rattle.std.proofs.Common.{◌≡◌, ℕ, zero, suc, List, [], ◌∷◌, ◌++◌, length, drop, ap, ◌∙◌}
 use Rattle.tocmark_read_scan.specs.Basic.{byte_at}
 use Rattle.tocmark_read_scan.proofs.PlainPieces.{drop_behind}
 
--- what stands at a place
+-- what is at a place
 pub drop_at : (bytes pre rest : List ℕ) (p : ℕ) → bytes ≡ pre ++ rest → p ≡ length pre → drop p bytes ≡ rest
 drop_at bytes pre rest p e at = ap (λ n. drop n bytes) at ∙ ap (drop (length pre)) e ∙ drop_behind pre rest
 

@@ -1,4 +1,4 @@
--- The text of lines that stand in the source one just behind the other is a piece of it.
+-- The text of lines that are in the source one just after the other is a piece of it.
 use Rattle.std.proofs.Common.{◌≡◌, ℕ, zero, suc, ◌+◌, ◌-◌, ◌^◌, ◌<◌, ◌≤◌, Bool, true, false, ◌==◌, ◌&&◌, ◌||◌, if◌then◌else◌, nat_lt, nat_le, List, [], ◌∷◌, ◌++◌, length, take, drop, slice_get, unwrap_or, refl, ap, sym, ◌∙◌, arith, append_assoc, append-nil, length-append, Option, Some, None}
 use native.Mathlib.Numerals.{unary_clauses}
 use Rattle.std.proofs.lemmas.Bool.Decides.{nat_tests}
@@ -82,7 +82,7 @@ bytes_put start s (x ∷ xs) h =
     ∙ bytes_put (plus start 1) one xs (z.1)
     ∙ rw (append_assoc s.bytes (x ∷ []) xs, append_assoc s.places ((start, plus start 1) ∷ []) (ranges_of (plus start 1) xs)) refl
 
--- what is known of a line with another behind it
+-- what is known of a line with another after it
 record IsFed (source : List ℕ) (line next : ContentLine) : Type 0 where
   feed : byte_at source line.end ≡ 10
   forth : line.start ≤ line.end
@@ -189,7 +189,7 @@ piece_cut source start at end h k w =
 length_piece : (source : List ℕ) (start end : ℕ) → start ≤ end → end ≤ length source → length (bytes_between source start end) ≡ end - start
 length_piece source start end h w = ap length (piece_slice source start end h w) ∙ (let q : length (take (end - start) (drop start source)) ≡ end - start = grind (arith, length-take, length-drop) in q)
 
--- bytes, a line feed behind them, and the range that it stands for
+-- bytes, a line feed after them, and the range that it stands for
 abbrev with_feed : State → ℕ → List ℕ → ℕ × ℕ → State
 with_feed s start xs range = record { bytes = s.bytes ++ (xs ++ 10 ∷ []); places = s.places ++ (ranges_of start xs ++ range ∷ []) }
 
@@ -225,7 +225,7 @@ with_two s start end next xs ys range e n fits =
       append_assoc (ranges_of start xs) ((end, next) ∷ ranges_of next ys) (range ∷ []),
     ) refl
 
--- lines one just behind the other are put as the piece that they are
+-- lines one just after the other are put as the piece that they are
 lines_put : (source : List ℕ) (line : ContentLine) (others : List ContentLine) (end : ℕ) (s : State) → end_behind source line others ≡ Some end → HasNoZero (bytes_between source line.start end) → fold (put_line source) s (line ∷ others) ≡ with_feed s line.start (bytes_between source line.start end) (last_feed line others)
 unfolding end_within
 lines_put source line [] end s h z = by_test (nat_le line.start line.end && nat_le line.end (length source)) refl h
@@ -265,7 +265,7 @@ lines_put source line (next ∷ others) end s h z = by_test (is_behind source li
         ∙ with_two s line.start line.end line.next xs ys (last_feed next others) wide after (omega arith)
         ∙ ap (λ (l : List ℕ). with_feed s line.start l (last_feed next others)) (sym all)
 
--- where the white space at the end of a text begins doesn't depend on what stands behind the text
+-- where the white space at the end of a text begins doesn't depend on what is after the text
 got_before : (xs ys : List ℕ) (n : ℕ) → n < length xs → slice_get (xs ++ ys) n ≡ slice_get xs n
 got_before [] ys n h = absurd (omega arith)
 got_before (x ∷ xs) ys zero h = refl
@@ -327,7 +327,7 @@ trimmed_whole text start range =
     ∙ rw (take-append-le end text (10 ∷ []) within, take-append-le end (ranges_of start text) (range ∷ []) long, take_ranges start end text) refl
     ∙ ap (λ (l : List ℕ). (let s : State = record { bytes = l; places = ranges_of start l } in s)) (sym front)
 
--- the content of lines that stand in the source one just behind the other
+-- the content of lines that are in the source one just after the other
 pub whole_content : (source : List ℕ) (line : ContentLine) (others : List ContentLine) (end : ℕ) → end_behind source line others ≡ Some end → HasNoZero (bytes_between source line.start end) → content_of source (line ∷ others) ≡ record { bytes = inked (bytes_between source line.start end); places = ranges_of line.start (inked (bytes_between source line.start end)) }
 unfolding content_of
 whole_content source line others end h z =

@@ -14,7 +14,7 @@ byte_at bytes place = unwrap_or (slice_get bytes place) 10
 abbrev pub bytes_between : List ℕ → ℕ → ℕ → List ℕ
 bytes_between bytes start end = if nat_le start end && nat_le end (length bytes) then slice_range bytes start end else []
 
--- whether a word stands at a place
+-- whether a word is at a place
 unfoldable pub starts_at : List ℕ → ℕ → List ℕ → Bool
 starts_at bytes place word = starts_with nat_eq (drop place bytes) word
 

@@ -38,10 +38,10 @@ is_in class.Domain b = is_ascii_alphanumeric b || (b == 46) || (b == 45)
 is_in (class.Only one) b = b == one
 is_in (class.Except one) b = not (b == one)
 
--- how many members of the set stand at the front
+-- how many members of the set are at the front
 abbrev pub run_length : Class → List ℕ → ℕ
 run_length c bytes = length (take_while (is_in c) bytes)
 
--- the place behind the members of the set at a place
+-- the place after the members of the set at a place
 unfoldable pub run_end : List ℕ → ℕ → Class → ℕ
 run_end bytes place c = plus place (run_length c (drop place bytes))

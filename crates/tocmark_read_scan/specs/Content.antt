@@ -18,7 +18,7 @@ pub record State : Type 0 where
 abbrev pub pasted_view : Pasted → State
 pasted_view j = record { bytes = j.bytes.items; places = j.places.items }
 
--- the ranges of bytes that stand in the source from a place on
+-- the ranges of bytes that are in the source from a place on
 abbrev pub ranges_of : ℕ → List ℕ → List (ℕ × ℕ)
 ranges_of start [] = []
 ranges_of start (b ∷ bs) = (start, plus start 1) ∷ ranges_of (plus start 1) bs
@@ -55,7 +55,7 @@ room_of lines = fold (λ room (l : ContentLine). plus room (plus (l.end - l.star
 abbrev pub joined : List ℕ → List ContentLine → State
 joined source lines = fold (put_line source) (record { bytes = []; places = [] }) lines
 
--- the place before, if white space stands there
+-- the place before, if white space is there
 unfoldable pub before_white : List ℕ → ℕ → Option ℕ
 before_white bytes place = if nat_lt 0 place && is_in White (byte_at bytes (place - 1)) then Some (place - 1) else None
 
@@ -63,7 +63,7 @@ before_white bytes place = if nat_lt 0 place && is_in White (byte_at bytes (plac
 abbrev pub inked : List ℕ → List ℕ
 inked bytes = bytes_between bytes 0 (iterated (before_white bytes) (length bytes) (length bytes))
 
--- a line begins just behind another, which ends with one line feed
+-- a line begins just after another, which ends with one line feed
 unfoldable pub is_behind : List ℕ → ContentLine → ContentLine → Bool
 is_behind source line next =
     (nat_lt line.end line.next && (line.next == plus line.end 1))
@@ -73,7 +73,7 @@ is_behind source line next =
 unfoldable pub end_within : List ℕ → ContentLine → Option ℕ
 end_within source line = if nat_le line.start line.end && nat_le line.end (length source) then Some line.end else None
 
--- where lines end that begin one just behind the other
+-- where lines end that begin one just after the other
 abbrev pub end_behind : List ℕ → ContentLine → List ContentLine → Option ℕ
 end_behind source line [] = end_within source line
 end_behind source line (next ∷ others) = if is_behind source line next then end_behind source next others else None

@@ -1,9 +1,9 @@
--- Plain texts: what may stand in a line, and in front of it, so that each character is read as itself.
+-- Plain texts: what may be in a line, and in front of it, so that each character is read as itself.
 use Rattle.std.specs.Prelude.{ℕ, ◌+◌, Bool, true, false, not, ◌==◌, ◌&&◌, ◌||◌, if◌then◌else◌, List, [], ◌∷◌, ◌++◌, bytes_eq, codes, encode_utf8}
 use Rattle.std.specs.Char.{char_set_contains, is_ascii_alphanumeric, is_ascii_digit, is_ascii_punctuation}
 use Rattle.tocmark_read_scan.specs.Basic.{byte_at}
 
--- a part of a text: a byte, a byte behind a backslash, a character by a reference (with the bytes behind its `&`), or a line feed
+-- a part of a text: a byte, a byte after a backslash, a character by a reference (with the bytes after its `&`), or a line feed
 pub data Part : Type 0 where
   Bare : ℕ → Part
   Escaped : ℕ → Part
@@ -30,12 +30,12 @@ meant (Escaped b ∷ parts) = b ∷ meant parts
 meant (Referred c bs ∷ parts) = encode_utf8 c ++ meant parts
 meant (Feed ∷ parts) = meant parts
 
--- a byte that means itself wherever it stands in a line
+-- a byte that means itself wherever it is in a line
 abbrev pub is_inert : ℕ → Bool
 is_inert b = not (char_set_contains (codes "*_[]<`!\\&\n") b)
 
--- a byte that means itself between these two: an inert one, `!` with no `[` behind it, `\` with neither punctuation nor a line
--- feed behind it, and `_` between letters or digits
+-- a byte that means itself between these two: an inert one, `!` with no `[` after it, `\` with neither punctuation nor a line
+-- feed after it, and `_` between letters or digits
 abbrev pub is_plain_byte : ℕ → ℕ → ℕ → Bool
 is_plain_byte before b behind =
     is_inert b
@@ -59,7 +59,7 @@ abbrev pub last_byte : ℕ → List ℕ → ℕ
 last_byte before [] = before
 last_byte before (b ∷ bs) = last_byte b bs
 
--- parts each of which means what it is for, by the byte before it and the byte behind it; past the end stands a line feed
+-- parts each of which means what it is for, by the byte before it and the byte after it; past the end is a line feed
 abbrev pub are_plain_parts : ℕ → List Part → Bool
 are_plain_parts before [] = true
 are_plain_parts before (a ∷ parts) =
@@ -69,12 +69,12 @@ are_plain_parts before (a ∷ parts) =
 abbrev pub is_quiet : ℕ → Bool
 is_quiet b = not (char_set_contains (codes " ><*-+=_#`~") b) && not (is_ascii_digit b)
 
--- whether `.` or `)` stands behind the digits in front
+-- whether `.` or `)` is after the digits in front
 abbrev pub ends_number : List ℕ → Bool
 ends_number [] = false
 ends_number (c ∷ cs) = if is_ascii_digit c then ends_number cs else (c == 46) || (c == 41)
 
--- whether something other than a space, `-` and `=` stands in front
+-- whether something other than a space, `-` and `=` is in front
 abbrev pub goes_on : List ℕ → Bool
 goes_on [] = false
 goes_on (c ∷ cs) = not (char_set_contains (codes " -=") c)

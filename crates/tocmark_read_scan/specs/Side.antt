@@ -1,4 +1,4 @@
--- What stands beside a run of delimiters (CommonMark 2.1 and 6.2).
+-- What is beside a run of delimiters (CommonMark 2.1 and 6.2).
 use Rattle.std.specs.Prelude.{ℕ, Bool, true, false, not, ◌+◌, ◌-◌, ◌*◌, ◌%◌, ◌==◌, ◌&&◌, ◌||◌, nat_lt, nat_le, if◌then◌else◌, List}
 use Rattle.unicode.specs.GeneralCategory.{general_category}
 use Rattle.unicode.specs.GeneralCategoryGroup.{in_group}
@@ -41,7 +41,7 @@ code_at bytes place =
     else (if nat_lt first 240 then first % 16 * 4096 + second * 64 + third
     else first % 8 * 262144 + second * 4096 + third * 64 + fourth))
 
--- a byte of a UTF-8 character behind its first
+-- a byte of a UTF-8 character after its first
 unfoldable pub is_continuation : ℕ → Bool
 is_continuation b = nat_le 128 b && nat_lt b 192
 

@@ -32,7 +32,7 @@ pub fn bytes_between(bytes: &[u8], start: usize, end: usize) -> &[u8]
     }
 }
 
-/// Whether a word stands at a place.
+/// Whether a word is at a place.
 #[tactic(auto, unfolding(crate::specs::Basic::starts_at))]
 pub fn starts_at(bytes: &[u8], place: usize, word: &[u8]) -> bool
     ensures { result ≡ starts_at bytes.now place word.now }

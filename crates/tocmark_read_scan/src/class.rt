@@ -19,21 +19,21 @@ pub enum Class {
     Digit,
     /// A hexadecimal digit.
     HexDigit,
-    /// A byte of the name of a tag, behind the first.
+    /// A byte of the name of a tag, after the first.
     TagName,
     /// The first byte of the name of an attribute.
     AttributeStart,
-    /// A byte of the name of an attribute, behind the first.
+    /// A byte of the name of an attribute, after the first.
     AttributeName,
     /// A byte of a value of an attribute that has no quotes.
     Unquoted,
-    /// A byte of the scheme of an address, behind the first.
+    /// A byte of the scheme of an address, after the first.
     Scheme,
-    /// A byte of an address behind its scheme.
+    /// A byte of an address after its scheme.
     Address,
     /// A byte of a mail address before the `@`.
     Mailbox,
-    /// A byte of a mail address behind the `@`.
+    /// A byte of a mail address after the `@`.
     Domain,
     /// This byte alone.
     Only(u8),
@@ -127,7 +127,7 @@ fn run_length(bytes: &[u8], class: Class) -> usize
     }
 }
 
-/// The place behind the members of a set that stand at a place, one after the other.
+/// The place after the members of a set that are at a place, one after the other.
 #[tactic(auto, unfolding(crate::specs::Class::run_end))]
 pub fn run_end(bytes: &[u8], place: usize, class: Class) -> usize
     ensures { result ≡ run_end bytes.now place class }
@@ -135,7 +135,7 @@ pub fn run_end(bytes: &[u8], place: usize, class: Class) -> usize
     place.saturating_add(run_length(rest(bytes, place), class))
 }
 
-/// Whether a byte stands in a text.
+/// Whether a byte is in a text.
 #[tactic(auto, using(crate::proofs::FirstBytes::is_there))]
 pub fn has_byte(bytes: &[u8], byte: u8) -> bool
     ensures { result ≡ list_any (λ b. b == byte) bytes.now }

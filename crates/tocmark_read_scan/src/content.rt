@@ -9,7 +9,7 @@ use crate::class::{Class, has_byte, is_in};
 use std::alloc::{AllocError, Global};
 
 /// A line of a paragraph or a heading: where its text begins and ends in the source, and the place
-/// behind its line ending.
+/// after its line ending.
 #[derive(Clone, Copy)]
 pub struct ContentLine {
     pub start: usize,
@@ -28,12 +28,12 @@ pub struct Pasted {
 /// it stands for.
 #[derive(Drop)]
 pub enum Content<'a> {
-    /// Bytes that stand so in the source, from a place on.
+    /// Bytes that are so in the source, from a place on.
     Whole(&'a [u8], usize),
     Pasted(Pasted),
 }
 
-/// The range of the byte at a place of a text that stands in the source from a place on.
+/// The range of the byte at a place of a text that is in the source from a place on.
 #[tactic(auto, using(crate::proofs::Whole::range_at, crate::proofs::Whole::range_past))]
 fn range_in(text: &[u8], start: usize, place: usize) -> (usize, usize)
     ensures { result ≡ unwrap_or (slice_get (ranges_of start text.now) place) (0, 0) }
@@ -104,7 +104,7 @@ impl Pasted {
         self.put(b'\n', line.end, line.next)
     }
 
-    /// Writes bytes that stand in the source from a place on, U+FFFD for each zero.
+    /// Writes bytes that are in the source from a place on, U+FFFD for each zero.
     fn put_each(&mut self, bytes: &[u8], start: usize) -> Result<(), AllocError>
         ensures { OnOk result (pasted_view self.new
             ≡ put_bytes start (pasted_view self.old) bytes.now) }
@@ -117,7 +117,7 @@ impl Pasted {
         Ok(())
     }
 
-    /// Writes bytes that stand in the source from a place on, zeros as they are.
+    /// Writes bytes that are in the source from a place on, zeros as they are.
     fn put_whole(&mut self, bytes: &[u8], start: usize) -> Result<(), AllocError>
         ensures { OnOk result (pasted_view self.new
             ≡ record {
@@ -135,7 +135,7 @@ impl Pasted {
         Ok(())
     }
 
-    /// Writes bytes that stand in the source from a place on.
+    /// Writes bytes that are in the source from a place on.
     #[tactic(auto, using(crate::proofs::Whole::bytes_put))]
     fn put_bytes(&mut self, bytes: &[u8], start: usize) -> Result<(), AllocError>
         ensures { OnOk result (pasted_view self.new
@@ -149,7 +149,7 @@ impl Pasted {
     }
 }
 
-/// The place before, if white space stands there.
+/// The place before, if white space is there.
 #[tactic(auto, unfolding(crate::specs::Content::before_white))]
 fn before_white(bytes: &[u8], place: usize) -> Option<usize>
     ensures { result ≡ before_white bytes.now place }
@@ -162,7 +162,7 @@ fn before_white(bytes: &[u8], place: usize) -> Option<usize>
     }
 }
 
-/// The place behind the last byte that isn't white space.
+/// The place after the last byte that isn't white space.
 #[tactic(auto, using(crate::proofs::Repeats::iterated_zero, crate::proofs::Repeats::iterated_stop, crate::proofs::Repeats::iterated_more))]
 fn ink_end(bytes: &[u8]) -> usize
     ensures { result ≡ iterated (before_white bytes.now) (length bytes.now) (length bytes.now) }
@@ -215,7 +215,7 @@ fn trimmed(alloc: Global, source: &[u8], lines: &[ContentLine]) -> Result<Pasted
     Ok(content)
 }
 
-/// Whether a line begins just behind another, which ends with one line feed.
+/// Whether a line begins just after another, which ends with one line feed.
 #[tactic(auto, unfolding(crate::specs::Content::is_behind))]
 fn is_behind(source: &[u8], line: ContentLine, next: ContentLine) -> bool
     ensures { result ≡ is_behind source.now line next }
@@ -237,7 +237,7 @@ fn end_within(source: &[u8], line: ContentLine) -> Option<usize>
     }
 }
 
-/// The place where lines end that begin one just behind the other.
+/// The place where lines end that begin one just after the other.
 fn end_behind(source: &[u8], line: ContentLine, others: &[ContentLine]) -> Option<usize>
     ensures { result ≡ end_behind source.now line others.now }
 {
@@ -265,7 +265,7 @@ fn inked(text: &[u8]) -> &[u8]
     bytes_between(text, 0, ink_end(text))
 }
 
-/// The text of lines, if it stands so in the source.
+/// The text of lines, if it is so in the source.
 fn whole<'a>(source: &'a [u8], lines: &[ContentLine]) -> Option<Content<'a>>
     ensures { IfSome result (λ c. content_view c ≡ content_of source.now lines.now) }
 {

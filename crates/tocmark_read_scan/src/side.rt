@@ -1,4 +1,4 @@
-//! What stands beside a run of delimiters.
+//! What is beside a run of delimiters.
 
 ghost use Rattle.std.specs.Prelude.{◌≡◌};
 ghost use Rattle.tocmark_read_scan.specs.Side.{is_space, side_of, continuation_bits, code_at, is_continuation, start_before, side_at, side_before};

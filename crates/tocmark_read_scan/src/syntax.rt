@@ -1,6 +1,6 @@
 //! Which extensions of CommonMark a reading takes, and which names of character references it knows.
 //!
-//! Below it stands nothing, above it the crates of the reader that know an extension. Enter at `Syntax`.
+//! Below it is nothing, above it the crates of the reader that know an extension. Enter at `Syntax`.
 
 /// Which names of character references are known.
 #[derive(Clone, Copy, Debug)]
@@ -34,7 +34,7 @@ pub struct Syntax {
     pub pluses_metadata: bool,
     /// Kinds of block quotes: a word such as `[!NOTE]` on a quote's first line.
     pub quote_kinds: bool,
-    /// Attributes of headings: words between braces behind a heading's text.
+    /// Attributes of headings: words between braces after a heading's text.
     pub heading_attributes: bool,
     /// Definition lists: lines that begin with a colon, below a title.
     pub definition_lists: bool,

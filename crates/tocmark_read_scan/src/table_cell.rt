@@ -68,7 +68,7 @@ fn pasted_cell(alloc: Global, source: &[u8], from: usize, to: usize) -> Result<P
     Ok(content)
 }
 
-/// The same, if the bytes stand so in the source: with no backslash and no U+0000.
+/// The same, if the bytes are so in the source: with no backslash and no U+0000.
 #[tactic(auto, using(crate::proofs::Cells::whole_bytes))]
 fn whole_cell<'a>(source: &'a [u8], from: usize, to: usize) -> Option<Content<'a>>
     ensures { IfSome result (λ c. content_view c ≡ cell_bytes source.now from to) }

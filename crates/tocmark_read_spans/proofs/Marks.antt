@@ -32,7 +32,7 @@ set_apart (x ∷ l) zero j a b h = absurd (omega (arith, h))
 set_apart (x ∷ l) (suc i) zero a b h = refl
 set_apart (x ∷ l) (suc i) (suc j) a b h = ap (λ r. x ∷ r) (set_apart l i j a b (let k : j < i = omega (arith, h) in k))
 
--- a mark behind all
+-- a mark after all
 insert_last : (marks : List MarkedByte) (m : MarkedByte) (roles : List Role) → fold with_mark roles (insert marks (length marks) m) ≡ with_mark (fold with_mark roles marks) m
 insert_last [] m roles = refl
 insert_last (x ∷ marks) m roles = insert_last marks m (with_mark roles x)
@@ -40,7 +40,7 @@ insert_last (x ∷ marks) m roles = insert_last marks m (with_mark roles x)
 pub slot_last : (marks : List MarkedByte) (place k : ℕ) → k ≡ length marks → IsSlot marks place k
 slot_last marks place k e = subst (IsSlot marks place) (sym e) (λ roles r. insert_last marks (record { place = place; role = r }) roles)
 
--- a mark in front of one that stands at a later place
+-- a mark in front of one that is at a later place
 insert_step : (marks : List MarkedByte) (k : ℕ) (d m : MarkedByte) (roles : List Role) → k < length marks → m.place < (get_or marks k d).place → fold with_mark roles (insert marks k m) ≡ fold with_mark roles (insert marks (suc k) m)
 insert_step [] k d m roles within later = absurd (omega (arith, within))
 insert_step (x ∷ marks) zero d m roles within later = ap (λ rs. fold with_mark rs marks) (set_apart roles x.place m.place x.role m.role later)

@@ -50,7 +50,7 @@ found-turn s signs levels found more v i k q at is h add before =
     ∙ ap (λ l. partner_behind s (k + 1) (drop (k + 1) signs) ∷ l) behind
     ∙ ap (partners_from k) (sym at)
 
--- behind the last sign
+-- after the last sign
 pub levels-none : (signs : List Sign) (levels : List (Option ℕ)) (len : ℕ) → levels ≡ [] → drop len signs ≡ [] → HoldFrom signs (reverse levels) len
 levels-none signs levels len e f n = ap (λ l. level (reverse l) n) e ∙ no n ∙ ap (partner n len) (sym f)
   where
@@ -73,7 +73,7 @@ pub popped-first : (old new : List (Option ℕ)) (r : Option (Option ℕ)) (n m 
 popped-first old new (Some x) n m e len h = sym (ap (λ l. level (reverse l) 0) e ∙ ap (λ l. level l 0) (reverse-append new (x ∷ [])))
 popped-first old new None n m e len h = ap (λ l. level (reverse l) 0) (sym (nil_from_length old (sym len ∙ h.0)))
 
--- a sign and those behind it
+-- a sign and those after it
 pub at-sign : (signs : List Sign) (k : ℕ) (s : Sign) → k < length signs → s ≡ sign_at signs k → drop k signs ≡ s ∷ drop (k + 1) signs
 unfolding sign_at
 at-sign signs k s h e =

@@ -34,15 +34,15 @@ agree_later a b xs ys le same =
 pub keeps_all : (top : ℕ) (runs : List Run) → Keeps top runs top runs
 keeps_all top runs = (omega arith, refl)
 
--- one change behind another
+-- one change after another
 pub keeps_on : (top height last : ℕ) (old new newer : List Run) → Keeps top old height new → Keeps height new last newer → Keeps top old last newer
 keeps_on top height last old new newer h k = (omega (arith, h.0, k.0), agree_later height top newer new (h.0) (k.1) ∙ h.1)
 
--- one more run may stand on the stack
+-- one more run may be on the stack
 pub keeps_below : (top height : ℕ) (old new : List Run) → Keeps top old height new → Keeps (top + 1) old height new
 keeps_below top height old new h = (omega (arith, h.0), agree_later top (top + 1) new old (omega arith) (h.1))
 
--- a run is put on the stack behind another change
+-- a run is put on the stack after another change
 pub keeps_pushed : (top height last : ℕ) (old new newer : List Run) → Keeps top old height new → Keeps (height + 1) new last newer → Keeps (top + 1) old last newer
 keeps_pushed top height last old new newer h k =
     keeps_on (top + 1) (height + 1) last old new newer

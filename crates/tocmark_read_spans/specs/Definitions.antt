@@ -22,7 +22,7 @@ entry_at entries (Some place) = slice_get entries place
 abbrev pub no_entry : Entry
 no_entry = record { destination = record { start = 0; end = 0 }; title = record { start = 0; end = 0 } }
 
--- a key is that of a footnote's name: a bracket stands first
+-- a key is that of a footnote's name: a bracket is first
 abbrev pub is_note_key : List ℕ → Bool
 is_note_key key = byte_at key 0 == 91
 

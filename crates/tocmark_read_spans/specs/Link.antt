@@ -1,4 +1,4 @@
--- What stands behind the text of a link or an image (CommonMark 6.3 and 6.4).
+-- What is after the text of a link or an image (CommonMark 6.3 and 6.4).
 use Rattle.std.specs.Prelude.{ℕ, Bool, not, ◌==◌, ◌&&◌, ◌||◌, if◌then◌else◌, List, codes, Option, Some, None}
 use Rattle.tocmark_read_scan.specs.Basic.{plus, byte_at, starts_at}
 use Rattle.tocmark_read_scan.specs.Class.{run_end}
@@ -14,13 +14,13 @@ use Rattle.tocmark_read_spans.specs.declared.link.Asked.{Asked}
 unfoldable pub begins_title : ℕ → Bool
 begins_title b = (b == 34) || (b == 39) || (b == 40)
 
--- the title behind white space, or an empty one where none begins
+-- the title after white space, or an empty one where none begins
 unfoldable pub inline_title : List ℕ → ℕ → Option Word
 inline_title bytes place =
     let start = run_end bytes place White in
     if not (start == place) && begins_title (byte_at bytes start) then title bytes start else Some (word place place place)
 
--- the place behind the closing parenthesis
+-- the place after the closing parenthesis
 unfoldable pub inline_end : List ℕ → ℕ → Option ℕ
 inline_end bytes place =
     let end = run_end bytes place White in
@@ -71,11 +71,11 @@ own_from bytes place (Some l) =
 unfoldable pub own_asked : List ℕ → Bracket → ℕ → Option Asked
 own_asked bytes bracket place = own_from bytes place (own_label bytes bracket place)
 
--- the label behind the bracket is to be looked up, else the bracket's own text
+-- the label after the bracket is to be looked up, else the bracket's own text
 abbrev pub asked_or : List ℕ → Bracket → ℕ → Option Word → Option Asked
 asked_or bytes bracket place None = own_asked bytes bracket place
 asked_or bytes bracket place (Some l) = Some (record { link_type = Reference; label = l; end = l.next })
 
--- the label behind the bracket that closes, else the bracket's own text
+-- the label after the bracket that closes, else the bracket's own text
 unfoldable pub label_asked : List ℕ → Bracket → ℕ → Option Asked
 label_asked bytes bracket place = asked_or bytes bracket place (label bytes (plus place 1))

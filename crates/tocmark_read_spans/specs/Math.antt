@@ -10,7 +10,7 @@ use Rattle.tocmark_read_spans.specs.declared.math.Math.{Math}
 unfoldable pub sign_of : ℕ → Sign
 sign_of b = if b == 36 then Dollar else (if b == 123 then OpeningBrace else (if b == 125 then ClosingBrace else Other))
 
--- a byte behind an escaping backslash is no sign
+-- a byte after an escaping backslash is no sign
 unfoldable pub sign_in : Bool → ℕ → Sign
 sign_in escaped b = if escaped then Other else sign_of b
 
@@ -54,7 +54,7 @@ abbrev pub but_first : List (Option ℕ) → List (Option ℕ)
 but_first [] = []
 but_first (l ∷ levels) = levels
 
--- the next `$` at each number of open braces, from a sign on and behind it
+-- the next `$` at each number of open braces, from a sign on and after it
 abbrev pub levels_before : Sign → ℕ → List (Option ℕ) → List (Option ℕ)
 levels_before Dollar place levels = Some place ∷ but_first levels
 levels_before OpeningBrace place levels = but_first levels
@@ -65,7 +65,7 @@ levels_before Other place levels = levels
 abbrev pub level : List (Option ℕ) → ℕ → Option ℕ
 level levels braces = option_flatten (slice_get levels braces)
 
--- the partner of a sign by the levels behind it
+-- the partner of a sign by the levels after it
 abbrev pub partner_of : Sign → List (Option ℕ) → Option ℕ
 partner_of Dollar levels = level levels 0
 partner_of OpeningBrace levels = None
@@ -86,7 +86,7 @@ inline_to bytes place end =
     if is_white (byte_at bytes (plus place 1)) || is_white (byte_at bytes (end - 1)) then None
     else Some (record { display = false; start = plus place 1; end = end; next = plus end 1 })
 
--- between `$$` and the partner of its second byte, behind which another one stands
+-- between `$$` and the partner of its second byte, after which another one is
 unfoldable pub display_to : List ℕ → ℕ → ℕ → Option Math
 display_to bytes place end =
     if starts_at bytes end (codes "$$") then Some (record { display = true; start = plus place 2; end = end; next = plus end 2 })

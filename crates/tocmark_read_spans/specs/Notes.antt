@@ -44,11 +44,11 @@ note_or_label (Some name) other = Some (Note name)
 unfoldable pub own_sought : List ℕ → Bracket → ℕ → Option Sought
 own_sought bytes bracket place = note_or_label (own_note bytes bracket place) (own_asked bytes bracket place)
 
--- the label behind the bracket is to be looked up, else the bracket's own text
+-- the label after the bracket is to be looked up, else the bracket's own text
 abbrev pub sought_or : List ℕ → Bracket → ℕ → Option Word → Option Sought
 sought_or bytes bracket place None = own_sought bytes bracket place
 sought_or bytes bracket place (Some l) = Some (Label (record { link_type = Reference; label = l; end = l.next }))
 
--- what is looked up for a bracket that closes: a footnote's label behind it is none of a link
+-- what is looked up for a bracket that closes: a footnote's label after it is none of a link
 unfoldable pub label_sought : List ℕ → Bracket → ℕ → Option Sought
 label_sought bytes bracket place = sought_or bytes bracket place (label_but_note bytes (plus place 1))

@@ -15,7 +15,7 @@ with_mark roles m = slice_set roles m.place m.role
 abbrev pub roles_of : Roles → List Role
 roles_of r = fold with_mark (replicate r.length Plain) r.marks.items
 
--- one more mark behind so many gives a byte the same role as one behind all
+-- one more mark after so many gives a byte the same role as one after all
 abbrev pub IsSlot : List MarkedByte → ℕ → ℕ → Type 0
 IsSlot marks place k = (roles : List Role) (role : Role) → fold with_mark roles (insert marks k (record { place = place; role = role })) ≡ slice_set (fold with_mark roles marks) place role
 

@@ -50,7 +50,7 @@ unfoldable pub tildes_open : ℕ → Side → Side → Bool
 tildes_open count before after =
     not (is_space after) && ((count == 2) || ((count == 1) && (is_space before || is_punctuation before)))
 
--- they close behind what is no white space: before white space or punctuation, two behind no punctuation, or behind a tilde
+-- they close after what is no white space: before white space or punctuation, two after no punctuation, or after a tilde
 unfoldable pub tildes_close : ℕ → Bool → Side → Side → Bool
 tildes_close count behind_tilde before after =
     ((count == 1) || (count == 2)) && not (is_space before)

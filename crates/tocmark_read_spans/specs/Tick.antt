@@ -7,7 +7,7 @@ use Rattle.tocmark_read_scan.specs.Repeat.{iterated}
 use Rattle.tocmark_read_scan.specs.declared.class.Class.TheVariants.{Only, Except}
 use Rattle.tocmark_read_spans.specs.declared.tick.Ticks.{Ticks}
 
--- for each number of backticks behind where the last such run before a place begins
+-- for each number of backticks after where the last such run before a place begins
 pub record State : Type 0 where
   pub last : List ℕ
   pub place : ℕ
@@ -47,7 +47,7 @@ run_noted bytes s = noted_run s (run_from bytes s.place)
 abbrev pub ticks_start : State
 ticks_start = record { last = []; place = 0 }
 
--- for each number of backticks behind where the last run of so many begins; 0 or no entry where there is none
+-- for each number of backticks after where the last run of so many begins; 0 or no entry where there is none
 unfoldable pub last_ticks : List ℕ → List ℕ
 last_ticks bytes = (iterated (run_noted bytes) (length bytes) ticks_start).last
 
@@ -57,7 +57,7 @@ next_run bytes count place =
     let end = run_end bytes place (Only 96) in
     if (end - place == count) || (end == place) then None else Some (run_end bytes end (Except 96))
 
--- where the backticks stand that close a code span
+-- where the backticks are that close a code span
 unfoldable pub tick_end : List ℕ → ℕ → ℕ → List ℕ → Option ℕ
 tick_end bytes from count last =
     if nat_lt from (unwrap_or (slice_get last count) 0)
@@ -77,7 +77,7 @@ stripped text =
     let end = length text - 1 in
     if (shown (byte_at text 0) == 32) && (shown (byte_at text end) == 32) && has_ink text then bytes_between text 1 end else text
 
--- bytes written behind others, as they are shown
+-- bytes written after others, as they are shown
 abbrev pub push_shown : List ℕ → List ℕ → List ℕ
 push_shown out [] = out
 push_shown out (b ∷ bs) = push_shown (out ++ shown b ∷ []) bs

@@ -75,7 +75,7 @@ fn is_note_key(key: &str) -> bool
     byte_at(key.as_bytes(), 0) == b'['
 }
 
-/// Writes a text behind others, and gives its stretch.
+/// Writes a text after others, and gives its stretch.
 fn keep(texts: &mut Vec<u8>, text: &[u8]) -> Result<Stretch, AllocError>
     ensures { IfOk result (λ s. (texts.new.items, s) ≡ kept text.now texts.old.items) }
 {
@@ -87,8 +87,8 @@ fn keep(texts: &mut Vec<u8>, text: &[u8]) -> Result<Stretch, AllocError>
     })
 }
 
-/// Writes a text without its escapes and references behind others, by the names that are known, and gives
-/// its stretch. One in which neither a backslash nor an ampersand stands is written as it is.
+/// Writes a text without its escapes and references after others, by the names that are known, and gives
+/// its stretch. One in which neither a backslash nor an ampersand is, is written as it is.
 #[tactic(auto, using(tocmark_read_tokens::proofs::Unmarked::left_alone))]
 fn keep_unescaped(
     alloc: Global,

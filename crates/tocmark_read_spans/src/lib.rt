@@ -1,9 +1,9 @@
 //! What the inlines of a paragraph or a heading are made of (CommonMark 0.31.2, section 6). Places are byte offsets
 //! in its text, and each function answers at every argument.
 //!
-//! Below it stand `tocmark_read_scan` and `tocmark_read_tokens`, above it `tocmark_read_inlines`. Enter at `role`: the role
+//! Below it are `tocmark_read_scan` and `tocmark_read_tokens`, above it `tocmark_read_inlines`. Enter at `role`: the role
 //! that each byte of the text gets. It comes from runs of `*` and `_`, and of `~` and `^` where extensions have these
-//! (`run`), and how they match (`emphasis`), code spans (`tick`), mathematics (`math`), what stands behind the text of a
+//! (`run`), and how they match (`emphasis`), code spans (`tick`), mathematics (`math`), what is after the text of a
 //! link or an image (`link`), and what labels are defined as (`definitions`).
 #![tactic(auto)]
 

@@ -1,4 +1,4 @@
-//! What stands behind the text of a link or an image.
+//! What is after the text of a link or an image.
 
 ghost use Rattle.std.specs.Prelude.{◌≡◌};
 ghost use Rattle.tocmark_read_spans.specs.Link.{begins_title, inline_title, inline_end, target_from, inline_target, own_label, own_asked, label_asked};
@@ -13,7 +13,7 @@ use tocmark_read_tokens::word::{Word, destination, label, label_from, title};
 pub struct Bracket {
     /// The place of its first byte.
     pub start: usize,
-    /// The place behind it.
+    /// The place after it.
     pub inner: usize,
     /// The number of runs of delimiters before it.
     pub runs: usize,
@@ -30,7 +30,7 @@ pub struct InlineTarget {
     pub destination: Word,
     /// The title, as it is written.
     pub title: Word,
-    /// The place behind the closing parenthesis.
+    /// The place after the closing parenthesis.
     pub end: usize,
 }
 
@@ -41,7 +41,7 @@ pub struct Asked {
     pub link_type: LinkType,
     /// The label, as it is written.
     pub label: Word,
-    /// The place behind the link or image.
+    /// The place after the link or image.
     pub end: usize,
 }
 
@@ -52,7 +52,7 @@ fn begins_title(byte: u8) -> bool
     byte == b'"' || byte == b'\'' || byte == b'('
 }
 
-/// The title behind white space at a place; an empty one where none begins there.
+/// The title after white space at a place; an empty one where none begins there.
 #[tactic(auto, unfolding(crate::specs::Link::inline_title))]
 fn inline_title(bytes: &[u8], place: usize) -> Option<Word>
     ensures { result ≡ inline_title bytes.now place }
@@ -70,7 +70,7 @@ fn inline_title(bytes: &[u8], place: usize) -> Option<Word>
     }
 }
 
-/// The place behind the parenthesis behind white space at a place.
+/// The place after the parenthesis after white space at a place.
 #[tactic(auto, unfolding(crate::specs::Link::inline_end))]
 fn inline_end(bytes: &[u8], place: usize) -> Option<usize>
     ensures { result ≡ inline_end bytes.now place }
@@ -97,7 +97,7 @@ fn target_from(bytes: &[u8], place: usize) -> Option<InlineTarget>
     })
 }
 
-/// The destination and the title in parentheses at a place; `None` where none stand there.
+/// The destination and the title in parentheses at a place; `None` where none are there.
 #[tactic(auto, unfolding(crate::specs::Link::inline_target))]
 pub fn inline_target(bytes: &[u8], place: usize) -> Option<InlineTarget>
     ensures { result ≡ inline_target bytes.now place }
@@ -142,7 +142,7 @@ pub(crate) fn own_asked(bytes: &[u8], bracket: Bracket, place: usize) -> Option<
     }
 }
 
-/// The label to be looked up for the bracket that is closed at a place: the one behind it, if there is
+/// The label to be looked up for the bracket that is closed at a place: the one after it, if there is
 /// one, else the bracket's own text. `None` where neither can be a label.
 #[tactic(auto, unfolding(crate::specs::Link::label_asked))]
 pub fn label_asked(bytes: &[u8], bracket: Bracket, place: usize) -> Option<Asked>

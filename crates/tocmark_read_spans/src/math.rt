@@ -15,20 +15,20 @@ enum Sign {
     OpeningBrace,
     /// A closing brace.
     ClosingBrace,
-    /// Any other byte, and one behind an escaping backslash.
+    /// Any other byte, and one after an escaping backslash.
     Other,
 }
 
 /// Mathematics with the places of its text.
 #[derive(Clone, Copy)]
 pub struct Math {
-    /// Whether it stands between two dollar signs on either side.
+    /// Whether it is between two dollar signs on either side.
     pub display: bool,
     /// The place of the text's first byte.
     pub start: usize,
-    /// The place behind the text's last byte.
+    /// The place after the text's last byte.
     pub end: usize,
-    /// The place behind the closing dollar signs.
+    /// The place after the closing dollar signs.
     pub next: usize,
 }
 
@@ -47,7 +47,7 @@ fn sign_of(byte: u8) -> Sign
     }
 }
 
-/// A byte as a sign: none behind an escaping backslash.
+/// A byte as a sign: none after an escaping backslash.
 #[tactic(auto, unfolding(crate::specs::Math::sign_in))]
 fn sign_in(escaped: bool, byte: u8) -> Sign
     ensures { result ≡ sign_in escaped byte }
@@ -68,7 +68,7 @@ fn signs_of(alloc: Global, bytes: &[u8]) -> Result<Vec<Sign>, AllocError>
     Ok(found)
 }
 
-/// From the next dollar sign at each number of open braces behind a sign to those from it on; gives the
+/// From the next dollar sign at each number of open braces after a sign to those from it on; gives the
 /// partner of a dollar sign.
 fn go_back(
     levels: &mut Vec<Option<usize>>,
@@ -145,7 +145,7 @@ fn partner_at(partners: &[Option<usize>], place: usize) -> Option<usize>
     partners.get(place).copied().flatten()
 }
 
-/// Mathematics between the dollar sign at a place and its partner: no white space stands at either end.
+/// Mathematics between the dollar sign at a place and its partner: no white space is at either end.
 #[tactic(auto, unfolding(crate::specs::Math::inline_to))]
 fn inline_to(bytes: &[u8], place: usize, partner: usize) -> Option<Math>
     ensures { result ≡ inline_to bytes.now place partner }
@@ -163,7 +163,7 @@ fn inline_to(bytes: &[u8], place: usize, partner: usize) -> Option<Math>
 }
 
 /// Mathematics between the two dollar signs at a place and the partner of the second of them: another one
-/// stands behind that.
+/// is after that.
 #[tactic(auto, unfolding(crate::specs::Math::display_to))]
 fn display_to(bytes: &[u8], place: usize, partner: usize) -> Option<Math>
     ensures { result ≡ display_to bytes.now place partner }

@@ -19,7 +19,7 @@ pub enum Sought {
     Note(Word),
 }
 
-/// What names of footnotes that match have in common: the key of a label behind a bracket, with which
+/// What names of footnotes that match have in common: the key of a label after a bracket, with which
 /// no label's own key begins.
 #[tactic(auto, unfolding(crate::specs::Notes::note_key))]
 pub fn note_key(alloc: Global, name: &[u8]) -> Result<String, AllocError>
@@ -63,7 +63,7 @@ fn own_sought(bytes: &[u8], bracket: Bracket, place: usize) -> Option<Sought>
     }
 }
 
-/// What is to be looked up for the bracket that is closed at a place: the label behind it, if there is
+/// What is to be looked up for the bracket that is closed at a place: the label after it, if there is
 /// one that isn't a footnote's, else the bracket's own text. `None` where neither can be a label.
 #[tactic(auto, unfolding(crate::specs::Notes::label_sought))]
 pub fn label_sought(bytes: &[u8], bracket: Bracket, place: usize) -> Option<Sought>

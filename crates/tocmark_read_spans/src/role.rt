@@ -14,7 +14,7 @@ use tocmark_read_scan::basic::set;
 pub struct Stretch {
     /// The place of its first byte in these texts.
     pub start: usize,
-    /// The place behind its last byte.
+    /// The place after its last byte.
     pub end: usize,
 }
 
@@ -62,7 +62,7 @@ pub enum Leaf {
     Html(Stretch),
     /// A line ending.
     SoftBreak,
-    /// A line ending behind a backslash or spaces.
+    /// A line ending after a backslash or spaces.
     HardBreak,
     /// A text that isn't as the source has it.
     Text(Stretch),
@@ -79,7 +79,7 @@ pub enum Leaf {
 pub enum Role {
     /// A byte of a text.
     Plain,
-    /// The first byte of a text, even behind another.
+    /// The first byte of a text, even after another.
     Fresh,
     /// A byte that isn't shown: an escaping backslash, a delimiter, a space at the end of a line.
     Hidden,
@@ -107,14 +107,14 @@ pub struct Roles {
     pub length: usize,
     /// The marks, those of one byte in the order in which they were made.
     pub marks: Vec<MarkedByte>,
-    /// Whether some mark stands behind many at later places: further ones aren't put in order, either.
+    /// Whether some mark is after many at later places: further ones aren't put in order, either.
     pub scattered: bool,
 }
 
 /// In front of so many marks at most another one is put.
 const FEW: usize = 8;
 
-/// The number of marks behind which one more goes: all but the last ones that stand at later places, if
+/// The number of marks after which one more goes: all but the last ones that are at later places, if
 /// these are few.
 #[tactic(auto, using(crate::proofs::Marks::slot_last, crate::proofs::Marks::slot_down))]
 fn slot(marks: &[MarkedByte], place: usize) -> Option<usize>
@@ -159,7 +159,7 @@ impl Roles {
         }
     }
 
-    /// Whether a mark at a place goes behind all: it stands at no earlier place than the last one, or
+    /// Whether a mark at a place goes after all: it is at no earlier place than the last one, or
     /// marks are in no order.
     fn goes_last(&self, place: usize) -> bool {
         self.scattered || self.marks.last().is_none_or(|mark| mark.place <= place)

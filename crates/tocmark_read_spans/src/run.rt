@@ -49,7 +49,7 @@ fn is_punctuation(side: Side) -> bool
     }
 }
 
-/// Whether a run flanks what is on the inner side: no white space, and punctuation only behind white
+/// Whether a run flanks what is on the inner side: no white space, and punctuation only after white
 /// space or punctuation on the outer side.
 #[tactic(auto, unfolding(crate::specs::Run::flanks))]
 fn flanks(inner: Side, outer: Side) -> bool
@@ -105,7 +105,7 @@ fn tildes_open(count: usize, before: Side, after: Side) -> bool
     !is_space(after) && (count == 2 || count == 1 && free)
 }
 
-/// Whether a run of so many tildes closes: one or two behind what is no white space.
+/// Whether a run of so many tildes closes: one or two after what is no white space.
 #[tactic(auto, unfolding(crate::specs::Run::tildes_close))]
 fn tildes_close(count: usize, behind_tilde: bool, before: Side, after: Side) -> bool
     ensures { result ≡ tildes_close count behind_tilde before after }

@@ -8,7 +8,7 @@ use std::alloc::{AllocError, Global};
 use tocmark_read_scan::basic::{byte_at, bytes_between, set};
 use tocmark_read_scan::class::{Class, run_end};
 
-/// For each number of backticks the place behind the first byte of the last run of so many before a
+/// For each number of backticks the place after the first byte of the last run of so many before a
 /// place; 0 where there is none, and no entry for more than the longest of these runs has.
 #[derive(Drop)]
 struct Ticks {
@@ -55,7 +55,7 @@ fn run_from(bytes: &[u8], place: usize) -> Option<(usize, usize)>
     }
 }
 
-/// For each number of backticks the place behind the first byte of the last run of so many in a text; 0
+/// For each number of backticks the place after the first byte of the last run of so many in a text; 0
 /// or no entry where there is none.
 #[tactic(auto, unfolding(crate::specs::Tick::last_ticks), using(tocmark_read_scan::proofs::Repeats::iterated_zero, crate::proofs::NotedRuns::runs_stop, crate::proofs::NotedRuns::runs_more))]
 pub fn last_ticks(alloc: Global, bytes: &[u8]) -> Result<Vec<usize>, AllocError>
@@ -74,7 +74,7 @@ pub fn last_ticks(alloc: Global, bytes: &[u8]) -> Result<Vec<usize>, AllocError>
     Ok(ticks.last)
 }
 
-/// The place of the run of backticks behind the one at a place, unless this one has so many or the
+/// The place of the run of backticks after the one at a place, unless this one has so many or the
 /// text ends.
 #[tactic(auto, unfolding(crate::specs::Tick::next_run))]
 fn next_run(bytes: &[u8], count: usize, place: usize) -> Option<usize>
@@ -104,7 +104,7 @@ fn first_run(bytes: &[u8], count: usize, from: usize) -> usize
     place
 }
 
-/// The place of the backticks that close a code span whose text begins at a place, behind so many
+/// The place of the backticks that close a code span whose text begins at a place, after so many
 /// backticks; `None` where none do. `last` is `last_ticks` of the text.
 #[tactic(auto, unfolding(crate::specs::Tick::tick_end))]
 pub fn tick_end(bytes: &[u8], from: usize, count: usize, last: &[usize]) -> Option<usize>
@@ -147,7 +147,7 @@ fn stripped(text: &[u8]) -> &[u8]
     }
 }
 
-/// Writes bytes behind others, as they are shown.
+/// Writes bytes after others, as they are shown.
 fn push_shown(out: &mut Vec<u8>, text: &[u8]) -> Result<(), AllocError>
     ensures { OnOk result (out.new.items ≡ push_shown out.old.items text.now) }
 {
@@ -157,7 +157,7 @@ fn push_shown(out: &mut Vec<u8>, text: &[u8]) -> Result<(), AllocError>
     Ok(())
 }
 
-/// Writes the text of the code span whose bytes stand between its backticks behind others.
+/// Writes the text of the code span whose bytes are between its backticks after others.
 pub fn push_code(out: &mut Vec<u8>, text: &[u8]) -> Result<(), AllocError>
     ensures { OnOk result (out.new.items ≡ push_shown out.old.items (stripped text.now)) }
 {

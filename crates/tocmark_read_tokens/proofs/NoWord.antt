@@ -1,4 +1,4 @@
--- Where a byte doesn't stand in a text, no word that begins with it does.
+-- Where a byte isn't in a text, no word that begins with it is.
 use Rattle.std.proofs.Common.{◌≡◌, ℕ, zero, suc, false, ◌==◌, List, [], ◌∷◌, length, refl, arith}
 use Rattle.std.proofs.lemmas.Bool.Decides.{nat_tests}
 use Rattle.std.specs.List.{list_any}
@@ -8,7 +8,7 @@ use Rattle.tocmark_read_scan.specs.Repeat.{iterated}
 use Rattle.tocmark_read_scan.proofs.PlainTests.{both_false}
 use Rattle.tocmark_read_tokens.specs.Html.{last_of, nearer}
 
--- no such word stands at a place
+-- no such word is at a place
 none_at : (bytes word : List ℕ) (place b : ℕ) → list_any (λ x. x == b) bytes ≡ false → starts_at bytes place (b ∷ word) ≡ false
 unfolding starts_at
 none_at [] word zero b h = refl

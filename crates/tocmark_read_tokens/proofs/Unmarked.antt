@@ -10,7 +10,7 @@ use Rattle.tocmark_read_scan.specs.declared.syntax.Names.TheVariants.{Four, All}
 use Rattle.tocmark_read_tokens.specs.Name as name
 use Rattle.tocmark_read_tokens.specs.Reference.{State, is_escape, reference_at, named, unescape_at, unescape_at_in, unescape_step_in, unescaped_in}
 
--- no name is referred to where no ampersand stands
+-- no name is referred to where no ampersand is
 nothing_named : (names : Names) (all : List ℕ) (p : ℕ) → (byte_at all p == 38) ≡ false → name.named_in names all p ≡ None
 unfolding name.named name.name_at
 nothing_named Four all p h = refl
@@ -35,7 +35,7 @@ taken names all rest s b e back amp h =
     let reference : reference_at all s.place ≡ None = nothing_referred all rest s.place b e amp in
     rw (on, name, escape, reference) refl
 
--- the bytes behind those that are taken
+-- the bytes after those that are taken
 all_taken : (names : Names) (all pre rest : List ℕ) → all ≡ pre ++ rest → list_any (λ b. b == 92) rest ≡ false → list_any (λ b. b == 38) rest ≡ false → length all < 2 ^ 64 → (fold (unescape_step_in names all) (record { out = pre; place = length pre; resume = 0 }) rest).out ≡ all
 all_taken names all pre [] e backs amps fits = sym (e ∙ append-nil pre)
 all_taken names all pre (b ∷ bs) e backs amps fits =

@@ -6,23 +6,23 @@ use Rattle.tocmark_read_scan.specs.Class.{run_end}
 use Rattle.tocmark_read_scan.specs.declared.class.Class.TheVariants as class
 use Rattle.tocmark_read_tokens.specs.declared.autolink.Domain.{Domain}
 
--- the place behind the bracket that closes an address
+-- the place after the bracket that closes an address
 unfoldable pub closed_at : List ℕ → ℕ → Option ℕ
 closed_at bytes place = if byte_at bytes place == 62 then Some (plus place 1) else None
 
--- a scheme of 2 to 32 bytes, with a colon behind it
+-- a scheme of 2 to 32 bytes, with a colon after it
 unfoldable pub is_scheme : List ℕ → ℕ → ℕ → Bool
 is_scheme bytes start end =
     nat_le 2 (end - start) && nat_le (end - start) 32 && is_ascii_alphabetic (byte_at bytes start) && (byte_at bytes end == 58)
 
--- the place behind an address with a scheme
+-- the place after an address with a scheme
 unfoldable pub uri_end : List ℕ → ℕ → Option ℕ
 uri_end bytes place =
     let start = plus place 1 in
     let end = run_end bytes start class.Scheme in
     if is_scheme bytes start end then closed_at bytes (run_end bytes end class.Address) else None
 
--- a label of 1 to 63 bytes may end here, behind no hyphen
+-- a label of 1 to 63 bytes may end here, after no hyphen
 unfoldable pub is_label_end : Domain → Bool
 is_label_end d = d.fine && nat_le 1 d.length && nat_le d.length 63 && not d.hyphen
 
@@ -40,13 +40,13 @@ domain_start = record { length = 0; hyphen = false; fine = true }
 unfoldable pub is_domain : List ℕ → Bool
 is_domain text = is_label_end (fold domain_step domain_start text)
 
--- the place behind a domain and its bracket
+-- the place after a domain and its bracket
 unfoldable pub domain_end : List ℕ → ℕ → Option ℕ
 domain_end bytes start =
     let end = run_end bytes start class.Domain in
     if is_domain (bytes_between bytes start end) then closed_at bytes end else None
 
--- the place behind a mail address
+-- the place after a mail address
 unfoldable pub mail_end : List ℕ → ℕ → Option ℕ
 mail_end bytes place =
     let start = plus place 1 in

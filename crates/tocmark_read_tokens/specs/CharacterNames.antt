@@ -8,7 +8,7 @@ use Rattle.tocmark_read_scan.specs.Class.{run_end}
 use Rattle.tocmark_read_scan.specs.declared.class.Class.TheVariants.{Except, TagName}
 use Rattle.tocmark_read_tokens.specs.Entries.{entries_of}
 
--- the entry of a name begins at a place: the name, and a semicolon behind it
+-- the entry of a name begins at a place: the name, and a semicolon after it
 unfoldable pub is_entry : List ℕ → List ℕ → ℕ → Bool
 is_entry entries name place = starts_at entries place name && (byte_at entries (plus place (length name)) == 59)
 
@@ -18,7 +18,7 @@ next_line entries name place =
     if nat_lt place (length entries) && not (is_entry entries name place) then Some (plus (run_end entries place (Except 10)) 1)
     else None
 
--- the characters of an entry: one byte behind its semicolon, which may be a line feed, and what stands before the next one
+-- the characters of an entry: one byte after its semicolon, which may be a line feed, and what is before the next one
 unfoldable pub entry_characters : List ℕ → ℕ → List ℕ
 entry_characters entries start = bytes_between entries start (run_end entries (plus start 1) (Except 10))
 

@@ -8,7 +8,7 @@ use Rattle.tocmark_read_scan.specs.declared.syntax.Names.TheVariants.{Four, All}
 use Rattle.tocmark_read_tokens.specs.CharacterNames.{characters_of}
 use Rattle.tocmark_read_tokens.specs.declared.name.NamedReference.{NamedReference}
 
--- the characters of a named reference, and the place behind it
+-- the characters of a named reference, and the place after it
 pub record Named : Type 0 where
   pub characters : List ℕ
   pub next : ℕ
@@ -18,7 +18,7 @@ abbrev pub named_view : Option NamedReference → Option Named
 named_view None = None
 named_view (Some r) = Some (record { characters = r.characters.now; next = r.next })
 
--- the place behind the letters and digits behind an ampersand
+-- the place after the letters and digits after an ampersand
 unfoldable pub name_end : List ℕ → ℕ → ℕ
 name_end bytes place = run_end bytes (plus place 1) TagName
 
@@ -29,7 +29,7 @@ name_at bytes place =
     then characters_of (bytes_between bytes (plus place 1) (name_end bytes place))
     else None
 
--- these characters with the place behind their reference, if there are some
+-- these characters with the place after their reference, if there are some
 abbrev pub named_to : ℕ → Option (List ℕ) → Option Named
 named_to next None = None
 named_to next (Some characters) = Some (record { characters = characters; next = next })

@@ -5,7 +5,7 @@ use Rattle.tocmark_read_scan.specs.Basic.{plus, bytes_between, starts_at}
 use Rattle.tocmark_read_tokens.specs.Word.{label_from}
 use Rattle.tocmark_read_tokens.specs.declared.word.Word.{Word}
 
--- a word, if it stands on one line
+-- a word, if it is on one line
 unfoldable pub on_one_line : List ℕ → Word → Option Word
 on_one_line bytes w = if list_any (λ b. b == 10) (bytes_between bytes w.start w.end) then None else Some w
 

@@ -28,7 +28,7 @@ number base digits = fold (number_step base) 0 digits
 unfoldable pub character : ℕ → ℕ
 character code = if code == 0 then 0xFFFD else character_of code
 
--- the reference to a number of 1 to so many digits, with a semicolon behind it
+-- the reference to a number of 1 to so many digits, with a semicolon after it
 unfoldable pub closed_number : List ℕ → ℕ → ℕ → ℕ → ℕ → Option Reference
 closed_number bytes start end base most =
     if nat_lt start end && nat_le end (plus start most) && (byte_at bytes end == 59)
@@ -44,7 +44,7 @@ numeric bytes place =
     then closed_number bytes (plus start 1) (run_end bytes (plus start 1) HexDigit) 16 6
     else closed_number bytes start (run_end bytes start Digit) 10 7
 
--- a character and the place behind its reference
+-- a character and the place after its reference
 unfoldable pub referred : ℕ → ℕ → Option Reference
 referred c next = Some (record { character = c; next = next })
 
@@ -60,7 +60,7 @@ named bytes place =
 unfoldable pub reference_at : List ℕ → ℕ → Option Reference
 reference_at bytes place = if starts_at bytes place (codes "&#") then numeric bytes place else named bytes place
 
--- a backslash with ASCII punctuation behind it
+-- a backslash with ASCII punctuation after it
 unfoldable pub is_escape : List ℕ → ℕ → Bool
 is_escape bytes place = (byte_at bytes place == 92) && is_ascii_punctuation (byte_at bytes (plus place 1))
 
@@ -83,7 +83,7 @@ abbrev pub resolved_or : ℕ → State → Option Reference → State
 resolved_or b s None = record s { out = s.out ++ b ∷ [] }
 resolved_or b s (Some r) = resolved r s
 
--- what stands at the place: an escape, a reference or a byte
+-- what is at the place: an escape, a reference or a byte
 unfoldable pub unescape_at : List ℕ → ℕ → State → State
 unescape_at bytes b s =
     if is_escape bytes s.place then record s { out = s.out ++ byte_at bytes (plus s.place 1) ∷ []; resume = plus s.place 2 }
@@ -93,12 +93,12 @@ unescape_at bytes b s =
 abbrev pub stepped : State → State
 stepped s = record s { place = plus s.place 1 }
 
--- the characters of a name are written, or else what stands at the place otherwise
+-- the characters of a name are written, or else what is at the place otherwise
 abbrev pub named_or : List ℕ → ℕ → State → Option Named → State
 named_or bytes b s None = unescape_at bytes b s
 named_or bytes b s (Some n) = record s { out = s.out ++ n.characters; resume = n.next }
 
--- what stands at the place, by the names that are known
+-- what is at the place, by the names that are known
 unfoldable pub unescape_at_in : Names → List ℕ → ℕ → State → State
 unescape_at_in names bytes b s = named_or bytes b s (named_in names bytes s.place)
 

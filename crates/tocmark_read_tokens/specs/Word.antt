@@ -26,7 +26,7 @@ closing_of SingleQuoted = 39
 closing_of Parenthesized = 41
 closing_of Bracketed = 93
 
--- a byte that ends what is enclosed so, behind an escaping backslash or not
+-- a byte that ends what is enclosed so, after an escaping backslash or not
 unfoldable pub ends_enclosed : Enclosure → Bool → ℕ → Bool
 ends_enclosed kind escaped b = stops kind b && not (escaped && is_ascii_punctuation b)
 
@@ -34,7 +34,7 @@ ends_enclosed kind escaped b = stops kind b && not (escaped && is_ascii_punctuat
 unfoldable pub escapes : Bool → ℕ → Bool
 escapes escaped b = not escaped && (b == 92)
 
--- where the first such byte of the rest stands, or the end
+-- where the first such byte of the rest is, or the end
 abbrev pub enclosed_end : Enclosure → Bool → ℕ → List ℕ → ℕ
 enclosed_end kind escaped place [] = place
 enclosed_end kind escaped place (b ∷ bs) =
@@ -53,7 +53,7 @@ ends_bare depth escaped b =
     let paren = ((b == 41) && (depth == 0)) || ((b == 40) && nat_le 32 depth) in
     blank || (paren && not escaped)
 
--- the open parentheses behind a byte
+-- the open parentheses after a byte
 unfoldable pub depth_after : ℕ → Bool → ℕ → ℕ
 depth_after depth escaped b = if escaped then depth else (if b == 40 then plus depth 1 else (if b == 41 then depth - 1 else depth))
 
@@ -79,7 +79,7 @@ abbrev pub word_to : ℕ → Option ℕ → Option Word
 word_to start None = None
 word_to start (Some end) = Some (word start end (plus end 1))
 
--- what is enclosed so behind the byte at a place
+-- what is enclosed so after the byte at a place
 unfoldable pub enclosed_word : List ℕ → ℕ → Enclosure → Option Word
 enclosed_word bytes place kind = word_to (plus place 1) (enclosed bytes (plus place 1) kind)
 
@@ -101,7 +101,7 @@ title_in bytes place (Some kind) = enclosed_word bytes place kind
 unfoldable pub title : List ℕ → ℕ → Option Word
 title bytes place = title_in bytes place (enclosure_of (byte_at bytes place))
 
--- the bytes but those behind the first of a character
+-- the bytes but those after the first of a character
 abbrev pub character_count : List ℕ → ℕ
 character_count text = length (filter (λ b. not (nat_le 128 b && nat_lt b 192)) text)
 
@@ -119,7 +119,7 @@ label_to bytes start None = None
 label_to bytes start (Some end) =
     if is_label_text (bytes_between bytes start end) then Some (word start end (plus end 1)) else None
 
--- the label from a place behind its bracket to before the bracket that closes it
+-- the label from a place after its bracket to before the bracket that closes it
 unfoldable pub label_from : List ℕ → ℕ → Option Word
 label_from bytes start = label_to bytes start (enclosed bytes start Bracketed)
 
@@ -127,13 +127,13 @@ label_from bytes start = label_to bytes start (enclosed bytes start Bracketed)
 unfoldable pub label : List ℕ → ℕ → Option Word
 label bytes place = if byte_at bytes place == 91 then label_from bytes (plus place 1) else None
 
--- the place behind the line ending at a place, with the spaces and tabs before it
+-- the place after the line ending at a place, with the spaces and tabs before it
 unfoldable pub line_end : List ℕ → ℕ → Option ℕ
 line_end bytes place =
     let end = run_end bytes place Blank in
     if byte_at bytes end == 10 then Some (min (plus end 1) (length bytes)) else None
 
--- a word with the place behind its line
+-- a word with the place after its line
 abbrev pub with_next : Word → Option ℕ → Option (Word × ℕ)
 with_next w None = None
 with_next w (Some next) = Some (w, next)
@@ -143,7 +143,7 @@ abbrev pub title_ended : List ℕ → Option Word → Option (Word × ℕ)
 title_ended bytes None = None
 title_ended bytes (Some w) = with_next w (line_end bytes w.next)
 
--- a title behind white space, with nothing else on its line
+-- a title after white space, with nothing else on its line
 unfoldable pub title_on_line : List ℕ → ℕ → Option (Word × ℕ)
 title_on_line bytes place =
     let start = run_end bytes place White in
@@ -158,7 +158,7 @@ abbrev pub or_untitled : List ℕ → ℕ → Option (Word × ℕ) → Option (W
 or_untitled bytes place None = untitled bytes place
 or_untitled bytes place (Some found) = Some found
 
--- a definition's title, and the place behind the definition
+-- a definition's title, and the place after the definition
 unfoldable pub titled : List ℕ → ℕ → Option (Word × ℕ)
 titled bytes place = or_untitled bytes place (title_on_line bytes place)
 
@@ -167,16 +167,16 @@ abbrev pub not_empty : ℕ → Option Word → Option Word
 not_empty start None = None
 not_empty start (Some w) = if w.next == start then None else Some w
 
--- the destination behind a definition's colon
+-- the destination after a definition's colon
 unfoldable pub defined_destination : List ℕ → ℕ → Option Word
 defined_destination bytes place = let start = run_end bytes place White in not_empty start (destination bytes start)
 
--- a label with a colon behind it
+-- a label with a colon after it
 abbrev pub before_colon : List ℕ → Option Word → Option Word
 before_colon bytes None = None
 before_colon bytes (Some w) = if byte_at bytes w.next == 58 then Some w else None
 
--- a label with a colon behind it
+-- a label with a colon after it
 unfoldable pub defined_label : List ℕ → ℕ → Option Word
 defined_label bytes place = before_colon bytes (label bytes place)
 

@@ -17,7 +17,7 @@ pub struct Domain {
     pub fine: bool,
 }
 
-/// The place behind the bracket that closes an address whose bytes end at a place.
+/// The place after the bracket that closes an address whose bytes end at a place.
 #[tactic(auto, unfolding(crate::specs::Autolink::closed_at))]
 fn closed_at(bytes: &[u8], place: usize) -> Option<usize>
     ensures { result ≡ closed_at bytes.now place }
@@ -29,7 +29,7 @@ fn closed_at(bytes: &[u8], place: usize) -> Option<usize>
     }
 }
 
-/// Whether a scheme and its colon stand between two places; a scheme has 2 to 32 bytes.
+/// Whether a scheme and its colon are between two places; a scheme has 2 to 32 bytes.
 #[tactic(auto, unfolding(crate::specs::Autolink::is_scheme))]
 fn is_scheme(bytes: &[u8], start: usize, end: usize) -> bool
     ensures { result ≡ is_scheme bytes.now start end }
@@ -39,7 +39,7 @@ fn is_scheme(bytes: &[u8], start: usize, end: usize) -> bool
     fits && byte_at(bytes, start).is_ascii_alphabetic() && byte_at(bytes, end) == b':'
 }
 
-/// The place behind the address with a scheme whose `<` stands at a place.
+/// The place after the address with a scheme whose `<` is at a place.
 #[tactic(auto, unfolding(crate::specs::Autolink::uri_end))]
 pub fn uri_end(bytes: &[u8], place: usize) -> Option<usize>
     ensures { result ≡ uri_end bytes.now place }
@@ -97,7 +97,7 @@ fn is_domain(text: &[u8]) -> bool
     is_label_end(domain)
 }
 
-/// The place behind the domain at a place.
+/// The place after the domain at a place.
 #[tactic(auto, unfolding(crate::specs::Autolink::domain_end))]
 fn domain_end(bytes: &[u8], start: usize) -> Option<usize>
     ensures { result ≡ domain_end bytes.now start }
@@ -110,7 +110,7 @@ fn domain_end(bytes: &[u8], start: usize) -> Option<usize>
     }
 }
 
-/// The place behind the mail address whose `<` stands at a place.
+/// The place after the mail address whose `<` is at a place.
 #[tactic(auto, unfolding(crate::specs::Autolink::mail_end))]
 pub fn mail_end(bytes: &[u8], place: usize) -> Option<usize>
     ensures { result ≡ mail_end bytes.now place }

@@ -46,7 +46,7 @@ fn entry_place(entries: &[u8], name: &[u8]) -> usize
     place
 }
 
-/// The characters of the entry whose semicolon stands just before a place.
+/// The characters of the entry whose semicolon is just before a place.
 #[tactic(auto, unfolding(crate::specs::CharacterNames::entry_characters))]
 fn entry_characters(entries: &[u8], start: usize) -> &[u8]
     ensures { result.now ≡ entry_characters entries.now start }

@@ -7,7 +7,7 @@ ghost use Rattle.tocmark_read_tokens.specs.Html.{name_end, closing_tag, quoted_e
 use tocmark_read_scan::basic::{byte_at, starts_at};
 use tocmark_read_scan::class::{Class, has_byte, is_in, run_end};
 
-/// For each kind of raw HTML that ends by a word of its own, the place behind the first byte of the
+/// For each kind of raw HTML that ends by a word of its own, the place after the first byte of the
 /// last such word of a text; 0 where there is none. So a search that would find nothing isn't begun.
 #[derive(Clone, Copy)]
 pub struct LastEnds {
@@ -21,7 +21,7 @@ pub struct LastEnds {
     pub declaration: usize,
 }
 
-/// The place behind the name of a tag at a place.
+/// The place after the name of a tag at a place.
 #[tactic(auto, unfolding(crate::specs::Html::name_end))]
 fn name_end(bytes: &[u8], place: usize) -> Option<usize>
     ensures { result ≡ name_end bytes.now place }
@@ -33,7 +33,7 @@ fn name_end(bytes: &[u8], place: usize) -> Option<usize>
     }
 }
 
-/// The place behind the closing tag whose `</` stands at a place.
+/// The place after the closing tag whose `</` is at a place.
 #[tactic(auto, unfolding(crate::specs::Html::closing_tag))]
 pub fn closing_tag(bytes: &[u8], place: usize) -> Option<usize>
     ensures { result ≡ closing_tag bytes.now place }
@@ -47,7 +47,7 @@ pub fn closing_tag(bytes: &[u8], place: usize) -> Option<usize>
     }
 }
 
-/// The place behind a value between quotes, whose first byte stands at a place.
+/// The place after a value between quotes, whose first byte is at a place.
 #[tactic(auto, unfolding(crate::specs::Html::quoted_end))]
 fn quoted_end(bytes: &[u8], place: usize, quote: u8) -> Option<usize>
     ensures { result ≡ quoted_end bytes.now place quote }
@@ -60,7 +60,7 @@ fn quoted_end(bytes: &[u8], place: usize, quote: u8) -> Option<usize>
     }
 }
 
-/// The place behind the value of an attribute at a place.
+/// The place after the value of an attribute at a place.
 #[tactic(auto, unfolding(crate::specs::Html::value))]
 fn value(bytes: &[u8], place: usize) -> Option<usize>
     ensures { result ≡ value bytes.now place }
@@ -76,7 +76,7 @@ fn value(bytes: &[u8], place: usize) -> Option<usize>
     if end == place { None } else { Some(end) }
 }
 
-/// The place behind the value behind an attribute's name; the same place where it has none.
+/// The place after the value after an attribute's name; the same place where it has none.
 #[tactic(auto, unfolding(crate::specs::Html::value_end))]
 fn value_end(bytes: &[u8], place: usize) -> Option<usize>
     ensures { result ≡ value_end bytes.now place }
@@ -89,7 +89,7 @@ fn value_end(bytes: &[u8], place: usize) -> Option<usize>
     }
 }
 
-/// The place behind the attribute behind white space at a place.
+/// The place after the attribute after white space at a place.
 #[tactic(auto, unfolding(crate::specs::Html::attribute))]
 fn attribute(bytes: &[u8], place: usize) -> Option<usize>
     ensures { result ≡ attribute bytes.now place }
@@ -103,7 +103,7 @@ fn attribute(bytes: &[u8], place: usize) -> Option<usize>
     }
 }
 
-/// The place behind the attributes at a place.
+/// The place after the attributes at a place.
 #[tactic(auto, using(tocmark_read_scan::proofs::Repeats::iterated_zero, tocmark_read_scan::proofs::Repeats::iterated_stop, tocmark_read_scan::proofs::Repeats::iterated_more))]
 fn attributes_end(bytes: &[u8], place: usize) -> usize
     ensures { result ≡ iterated (attribute bytes.now) (length bytes.now) place }
@@ -118,7 +118,7 @@ fn attributes_end(bytes: &[u8], place: usize) -> usize
     end
 }
 
-/// The place behind the end of an open tag, `>` or `/>` behind white space.
+/// The place after the end of an open tag, `>` or `/>` after white space.
 #[tactic(auto, unfolding(crate::specs::Html::tag_close))]
 fn tag_close(bytes: &[u8], place: usize) -> Option<usize>
     ensures { result ≡ tag_close bytes.now place }
@@ -133,7 +133,7 @@ fn tag_close(bytes: &[u8], place: usize) -> Option<usize>
     }
 }
 
-/// The place behind the open tag whose `<` stands at a place.
+/// The place after the open tag whose `<` is at a place.
 #[tactic(auto, unfolding(crate::specs::Html::open_tag))]
 pub fn open_tag(bytes: &[u8], place: usize) -> Option<usize>
     ensures { result ≡ open_tag bytes.now place }
@@ -142,7 +142,7 @@ pub fn open_tag(bytes: &[u8], place: usize) -> Option<usize>
     tag_close(bytes, attributes_end(bytes, name))
 }
 
-/// The next place, unless the word stands here or the text ends.
+/// The next place, unless the word is here or the text ends.
 #[tactic(auto, unfolding(crate::specs::Html::further))]
 fn further(bytes: &[u8], word: &[u8], place: usize) -> Option<usize>
     ensures { result ≡ further bytes.now word.now place }
@@ -170,7 +170,7 @@ fn first_from(bytes: &[u8], word: &[u8], from: usize) -> usize
     place
 }
 
-/// The place before, unless the word stands here or the text begins.
+/// The place before, unless the word is here or the text begins.
 #[tactic(auto, unfolding(crate::specs::Html::nearer))]
 fn nearer(bytes: &[u8], word: &[u8], place: usize) -> Option<usize>
     ensures { result ≡ nearer bytes.now word.now place }
@@ -263,7 +263,7 @@ pub fn last_ends(bytes: &[u8]) -> LastEnds
     }
 }
 
-/// The place behind the first word like this one from a place on, where the last such word begins
+/// The place after the first word like this one from a place on, where the last such word begins
 /// before `last`.
 #[tactic(auto, unfolding(crate::specs::Html::found_within))]
 fn found_within(bytes: &[u8], from: usize, word: &[u8], last: usize) -> Option<usize>
@@ -276,7 +276,7 @@ fn found_within(bytes: &[u8], from: usize, word: &[u8], last: usize) -> Option<u
     }
 }
 
-/// The place behind the comment whose `<!--` stands at a place.
+/// The place after the comment whose `<!--` is at a place.
 #[tactic(auto, unfolding(crate::specs::Html::comment))]
 fn comment(bytes: &[u8], place: usize, last: usize) -> Option<usize>
     ensures { result ≡ comment bytes.now place last }
@@ -290,7 +290,7 @@ fn comment(bytes: &[u8], place: usize, last: usize) -> Option<usize>
     }
 }
 
-/// The place behind the declaration whose `<!` stands at a place.
+/// The place after the declaration whose `<!` is at a place.
 #[tactic(auto, unfolding(crate::specs::Html::declaration))]
 fn declaration(bytes: &[u8], place: usize, last: usize) -> Option<usize>
     ensures { result ≡ declaration bytes.now place last }
@@ -302,7 +302,7 @@ fn declaration(bytes: &[u8], place: usize, last: usize) -> Option<usize>
     }
 }
 
-/// The place behind the raw HTML that begins at a place. `last` is `last_ends` of the text.
+/// The place after the raw HTML that begins at a place. `last` is `last_ends` of the text.
 #[tactic(auto, unfolding(crate::specs::Html::raw_html))]
 pub fn raw_html(bytes: &[u8], place: usize, last: LastEnds) -> Option<usize>
     ensures { result ≡ raw_html bytes.now place last }

@@ -1,9 +1,9 @@
-//! What stands marked in a Markdown text: HTML, addresses between angle brackets, character references and escapes,
+//! What is marked in a Markdown text: HTML, addresses between angle brackets, character references and escapes,
 //! link labels, destinations, titles and definitions. Each function answers at every argument: past the end of a text
-//! stands a line feed.
+//! is a line feed.
 //!
-//! Below it stands `tocmark_read_scan`, above it the blocks (`tocmark_read_lines`) and the inlines
-//! (`tocmark_read_spans`). There is a module for each sort of token; destinations, titles and definitions stand in
+//! Below it is `tocmark_read_scan`, above it the blocks (`tocmark_read_lines`) and the inlines
+//! (`tocmark_read_spans`). There is a module for each sort of token; destinations, titles and definitions are in
 //! `word`.
 #![tactic(auto)]
 

@@ -9,16 +9,16 @@ use tocmark_read_scan::basic::{byte_at, bytes_between};
 use tocmark_read_scan::class::{Class, run_end};
 use tocmark_read_scan::syntax::Names;
 
-/// What a named reference stands for, and the place behind it.
+/// What a named reference stands for, and the place after it.
 #[derive(Clone, Copy)]
 pub struct NamedReference {
     /// The characters, in UTF-8: one or two.
     pub characters: &'static [u8],
-    /// The place behind the semicolon.
+    /// The place after the semicolon.
     pub next: usize,
 }
 
-/// The place behind the letters and digits behind an ampersand.
+/// The place after the letters and digits after an ampersand.
 #[tactic(auto, unfolding(crate::specs::Name::name_end))]
 fn name_end(bytes: &[u8], place: usize) -> usize
     ensures { result ≡ name_end bytes.now place }
@@ -26,7 +26,7 @@ fn name_end(bytes: &[u8], place: usize) -> usize
     run_end(bytes, place.saturating_add(1), Class::TagName)
 }
 
-/// What the name behind an ampersand stands for, if a semicolon stands behind it.
+/// What the name after an ampersand stands for, if a semicolon is after it.
 #[tactic(auto, unfolding(crate::specs::Name::name_at))]
 fn name_at(bytes: &[u8], place: usize) -> Option<&'static [u8]>
     ensures { found result ≡ name_at bytes.now place }

@@ -6,7 +6,7 @@ ghost use Rattle.tocmark_read_tokens.specs.Notes.{on_one_line, note_label};
 use crate::word::{Word, label_from};
 use tocmark_read_scan::basic::{bytes_between, starts_at};
 
-/// A word, if it stands on one line.
+/// A word, if it is on one line.
 #[tactic(auto, unfolding(crate::specs::Notes::on_one_line))]
 fn on_one_line(bytes: &[u8], word: Word) -> Option<Word>
     ensures { result ≡ on_one_line bytes.now word }

@@ -9,7 +9,7 @@ use tocmark_read_scan::basic::{byte_at, bytes_between, character_of, starts_at};
 use tocmark_read_scan::class::{Class, run_end};
 use tocmark_read_scan::syntax::Names;
 
-/// A character, and the place behind its reference.
+/// A character, and the place after its reference.
 #[derive(Clone, Copy)]
 pub struct Reference {
     pub character: char,
@@ -56,7 +56,7 @@ fn character(code: u32) -> char
     }
 }
 
-/// The reference to the number that stands between two places, with so many digits at most.
+/// The reference to the number that is between two places, with so many digits at most.
 #[tactic(auto, unfolding(crate::specs::Reference::closed_number))]
 fn closed_number(
     bytes: &[u8],
@@ -78,7 +78,7 @@ fn closed_number(
     }
 }
 
-/// The numeric reference whose `&#` stands at a place: 1 to 7 decimal or 1 to 6 hexadecimal digits.
+/// The numeric reference whose `&#` is at a place: 1 to 7 decimal or 1 to 6 hexadecimal digits.
 #[tactic(auto, unfolding(crate::specs::Reference::numeric))]
 fn numeric(bytes: &[u8], place: usize) -> Option<Reference>
     ensures { result ≡ numeric bytes.now place }
@@ -130,7 +130,7 @@ pub fn reference_at(bytes: &[u8], place: usize) -> Option<Reference>
     }
 }
 
-/// Whether an escaped character stands at a place: a backslash, and ASCII punctuation behind it.
+/// Whether an escaped character is at a place: a backslash, and ASCII punctuation after it.
 #[tactic(auto, unfolding(crate::specs::Reference::is_escape))]
 pub fn is_escape(bytes: &[u8], place: usize) -> bool
     ensures { result ≡ is_escape bytes.now place }
@@ -147,7 +147,7 @@ struct Unescaping {
 }
 
 impl Unescaping {
-    /// Writes a character, and goes on behind its reference.
+    /// Writes a character, and goes on after its reference.
     #[tactic(auto, unfolding(crate::specs::Reference::resolved))]
     fn resolve(&mut self, alloc: Global, reference: Reference) -> Result<(), AllocError>
         ensures { OnOk result (unescaping self.new ≡ resolved reference (unescaping self.old)) }
@@ -159,7 +159,7 @@ impl Unescaping {
         Ok(())
     }
 
-    /// Takes what stands at the place.
+    /// Takes what is at the place.
     #[tactic(auto, unfolding(crate::specs::Reference::unescape_at))]
     fn take(&mut self, alloc: Global, bytes: &[u8], byte: u8) -> Result<(), AllocError>
         ensures { OnOk result (unescaping self.new
@@ -179,7 +179,7 @@ impl Unescaping {
         }
     }
 
-    /// Takes what stands at the place, by the names that are known.
+    /// Takes what is at the place, by the names that are known.
     #[tactic(auto, unfolding(crate::specs::Reference::unescape_at_in))]
     fn take_in(
         &mut self,
@@ -237,7 +237,7 @@ fn unescaped_by_bytes(alloc: Global, names: Names, bytes: &[u8]) -> Result<Vec<u
 }
 
 /// The text with its escapes and references resolved, by the names that are known. Where neither a
-/// backslash nor an ampersand stands it is copied.
+/// backslash nor an ampersand is it is copied.
 #[tactic(auto, using(crate::proofs::Unmarked::left_alone))]
 pub fn unescaped(alloc: Global, names: Names, bytes: &[u8]) -> Result<Vec<u8>, AllocError>
     ensures { IfOk result (λ v. v.items ≡ unescaped_in names bytes.now) }

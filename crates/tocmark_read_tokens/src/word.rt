@@ -6,7 +6,7 @@ ghost use Rattle.tocmark_read_tokens.specs.Word.{stops, ends_enclosed, closing_o
 use tocmark_read_scan::basic::{byte_at, bytes_between, rest};
 use tocmark_read_scan::class::{Class, is_in, run_end};
 
-/// What stands round a word.
+/// What is round a word.
 #[derive(Clone, Copy)]
 pub enum Enclosure {
     /// `<` and `>`
@@ -21,7 +21,7 @@ pub enum Enclosure {
     Bracketed,
 }
 
-/// A word of a text: its bytes without what stands round it, and the place behind all of it.
+/// A word of a text: its bytes without what is round it, and the place after all of it.
 #[derive(Clone, Copy)]
 pub struct Word {
     pub start: usize,
@@ -29,7 +29,7 @@ pub struct Word {
     pub next: usize,
 }
 
-/// A link reference definition: the title is empty where there is none; `next` is the place behind
+/// A link reference definition: the title is empty where there is none; `next` is the place after
 /// its last line ending.
 #[derive(Clone, Copy)]
 pub struct Definition {
@@ -66,7 +66,7 @@ fn closing_of(kind: Enclosure) -> u8
     }
 }
 
-/// Whether a byte ends what is enclosed so, rightly or wrongly, behind an escaping backslash or not.
+/// Whether a byte ends what is enclosed so, rightly or wrongly, after an escaping backslash or not.
 #[tactic(auto, unfolding(crate::specs::Word::ends_enclosed))]
 fn ends_enclosed(kind: Enclosure, escaped: bool, byte: u8) -> bool
     ensures { result ≡ ends_enclosed kind escaped byte }
@@ -74,7 +74,7 @@ fn ends_enclosed(kind: Enclosure, escaped: bool, byte: u8) -> bool
     stops(kind, byte) && !(escaped && byte.is_ascii_punctuation())
 }
 
-/// Whether a byte is a backslash that escapes what is behind it.
+/// Whether a byte is a backslash that escapes what is after it.
 #[tactic(auto, unfolding(crate::specs::Word::escapes))]
 fn escapes(escaped: bool, byte: u8) -> bool
     ensures { result ≡ escapes escaped byte }
@@ -113,7 +113,7 @@ pub fn enclosed(bytes: &[u8], from: usize, kind: Enclosure) -> Option<usize>
 }
 
 /// Whether a byte ends a destination without brackets, at so many open parentheses: 32 is the most. Most
-/// bytes stand behind a parenthesis, and end none.
+/// bytes are after a parenthesis, and end none.
 #[tactic(auto, unfolding(crate::specs::Word::ends_bare))]
 fn ends_bare(depth: usize, escaped: bool, byte: u8) -> bool
     ensures { result ≡ ends_bare depth escaped byte }
@@ -174,7 +174,7 @@ fn bare_word(bytes: &[u8], from: usize) -> Option<Word>
     }
 }
 
-/// What is enclosed so behind the byte at a place.
+/// What is enclosed so after the byte at a place.
 #[tactic(auto, unfolding(crate::specs::Word::enclosed_word))]
 fn enclosed_word(bytes: &[u8], place: usize, kind: Enclosure) -> Option<Word>
     ensures { result ≡ enclosed_word bytes.now place kind }
@@ -226,7 +226,7 @@ pub fn title(bytes: &[u8], place: usize) -> Option<Word>
     enclosed_word(bytes, place, kind)
 }
 
-/// The number of characters of a text: its bytes but those behind the first of a character.
+/// The number of characters of a text: its bytes but those after the first of a character.
 fn character_count(text: &[u8]) -> usize
     ensures { result ≡ character_count text.now }
 {
@@ -249,7 +249,7 @@ fn is_label_text(text: &[u8]) -> bool
     character_count(text) <= 999 && has_ink(text)
 }
 
-/// The label that begins at a place, behind its bracket, and ends before the bracket that closes it.
+/// The label that begins at a place, after its bracket, and ends before the bracket that closes it.
 #[tactic(auto, unfolding(crate::specs::Word::label_from))]
 pub fn label_from(bytes: &[u8], start: usize) -> Option<Word>
     ensures { result ≡ label_from bytes.now start }
@@ -278,7 +278,7 @@ pub fn label(bytes: &[u8], place: usize) -> Option<Word>
     }
 }
 
-/// The place behind the line ending at a place, with the spaces and tabs before it. The end of the
+/// The place after the line ending at a place, with the spaces and tabs before it. The end of the
 /// text ends a line, too.
 #[tactic(auto, unfolding(crate::specs::Word::line_end))]
 fn line_end(bytes: &[u8], place: usize) -> Option<usize>
@@ -292,8 +292,8 @@ fn line_end(bytes: &[u8], place: usize) -> Option<usize>
     }
 }
 
-/// The title behind white space at a place, where nothing else follows on its line; with the place
-/// behind that line.
+/// The title after white space at a place, where nothing else follows on its line; with the place
+/// after that line.
 #[tactic(auto, unfolding(crate::specs::Word::title_on_line))]
 fn title_on_line(bytes: &[u8], place: usize) -> Option<(Word, usize)>
     ensures { result ≡ title_on_line bytes.now place }
@@ -323,7 +323,7 @@ fn untitled(bytes: &[u8], place: usize) -> Option<(Word, usize)>
     ))
 }
 
-/// The title of a definition and the place behind the definition.
+/// The title of a definition and the place after the definition.
 #[tactic(auto, unfolding(crate::specs::Word::titled))]
 fn titled(bytes: &[u8], place: usize) -> Option<(Word, usize)>
     ensures { result ≡ titled bytes.now place }
@@ -334,7 +334,7 @@ fn titled(bytes: &[u8], place: usize) -> Option<(Word, usize)>
     }
 }
 
-/// The destination of a definition behind its colon; it isn't empty unless it has brackets.
+/// The destination of a definition after its colon; it isn't empty unless it has brackets.
 #[tactic(auto, unfolding(crate::specs::Word::defined_destination))]
 fn defined_destination(bytes: &[u8], place: usize) -> Option<Word>
     ensures { result ≡ defined_destination bytes.now place }
@@ -344,7 +344,7 @@ fn defined_destination(bytes: &[u8], place: usize) -> Option<Word>
     if word.next == start { None } else { Some(word) }
 }
 
-/// The label of a definition, with a colon behind it.
+/// The label of a definition, with a colon after it.
 #[tactic(auto, unfolding(crate::specs::Word::defined_label))]
 fn defined_label(bytes: &[u8], place: usize) -> Option<Word>
     ensures { result ≡ defined_label bytes.now place }

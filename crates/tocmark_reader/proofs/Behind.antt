@@ -1,4 +1,4 @@
--- A block's nodes are the same behind all others: so they may be written block by block.
+-- A block's nodes are the same after all others: so they may be written block by block.
 use Rattle.std.proofs.Common.{◌≡◌, ℕ, Bool, true, false, ◌++◌, ◌∷◌, [], List, map, reverse, Option, refl, ap, sym, ◌∙◌}
 use mathlib.Core.Path.{fun_ext}
 use Rattle.std.specs.List.{fold}
@@ -25,7 +25,7 @@ use Rattle.tocmark_reader.specs.Pages.{State, Progress, written_behind, written_
 abbrev pub Find : Type 0
 Find = List ℕ → Option Entry
 
--- the nodes that a change adds are the same behind all others
+-- the nodes that a change adds are the same after all others
 abbrev Adds : List ℕ → (State → State) → Type 0
 Adds text change = (w : Writing) (s : State) → written_behind text w (change s) ≡ written_by text change (written_behind text w s)
 

@@ -37,7 +37,7 @@ use Rattle.tocmark_reader.proofs.Behind.{Find, some_taken, first_behind}
 abbrev Marked : Type 0
 Marked = EventView × (ℕ × ℕ)
 
--- the first node of a state stands at a depth
+-- the first node of a state is at a depth
 abbrev Begins : ℕ → State → Type 0
 Begins depth s = (n : NodeView) × (ns : List NodeView) × (s.nodes ≡ n ∷ ns) × (n.depth ≡ depth)
 
@@ -143,7 +143,7 @@ progress found w = record { writing = w; inlines = found }
 closed_twice : (w : Writing) → closed 0 (closed 0 w) ≡ closed 0 w
 closed_twice w = ap (writing []) (append-nil (w.events ++ closings 0 w.stack))
 
--- a node that stands in no container needs none ended before it
+-- a node that is in no container needs none ended before it
 step_closed : (text : List ℕ) (w : Writing) (n : NodeView) → n.depth ≡ 0 → step text (closed 0 w) n ≡ step text w n
 step_closed text w n h =
     let range : ℕ × ℕ = snapped text n.start n.end in
@@ -208,7 +208,7 @@ fold_front text es (n ∷ ns) w =
     let first : step text (in_front es w) n ≡ in_front es (step text w n) = ap (put text n.item range) (closed_front es n.depth w) ∙ put_front text es n.item range (closed n.depth w) in
     ap (λ x. fold (step text) x ns) first ∙ fold_front text es ns (step text w n)
 
--- events that are handed out stand in front of those that are made behind them
+-- events that are handed out are in front of those that are made after them
 handed_first : (text : List ℕ) (stack : List Open) (es : List Marked) (nodes : List NodeView) → (closed 0 (fold (step text) (writing stack es) nodes)).events ≡ es ++ (closed 0 (fold (step text) (writing stack []) nodes)).events
 handed_first text stack es nodes =
     ap (λ l. (closed 0 (fold (step text) (writing stack l) nodes)).events) (sym (append-nil es))
@@ -223,7 +223,7 @@ with_emission r e = record r { assembly = record r.assembly { emission = e } }
 abbrev pub nodes_left : BlockReading → State
 nodes_left r = some_taken r.syntax r.text (entry_of r.definitions) r.loose.items r.pieces.items (blocks_left r) (no_nodes (inlines.inlines_view r.assembly.inlines))
 
--- the events that are made are handed out: those that are left come behind them
+-- the events that are made are handed out: those that are left come after them
 pub handed : (r : BlockReading) (e : Emission) → emission_view e ≡ writing r.assembly.emission.stack.items [] → reading_left r ≡ behind (map shown r.assembly.emission.events.items) (reading_left (with_emission r e))
 handed r e empty =
     let es : List Marked = map shown r.assembly.emission.events.items in
@@ -260,7 +260,7 @@ none_before ys xs more h none =
     (sym (length-map ys shown) ∙ ap length h ∙ length-append (map shown xs) more ∙ ap (λ n. n + length more) (length-map xs shown))
     none
 
--- behind others this is the last one
+-- after others this is the last one
 last_behind : (xs : List Block) (b : Block) → slice_get (xs ++ b ∷ []) (length (xs ++ b ∷ []) - 1) ≡ Some b
 last_behind xs b =
     let all : List Block = xs ++ b ∷ [] in

@@ -69,7 +69,7 @@ pub leads_fold : (text : List ℕ) (nodes : List NodeView) (w : Writing) → Lea
 leads_fold text [] w h = h
 leads_fold text (n ∷ ns) w h = leads_fold text ns (step text w n) (leads_put text n.item _ (closed n.depth w) (leads_closed n.depth w h))
 
--- a forest, and behind it for each open container its End and a forest
+-- a forest, and after it for each open container its End and a forest
 abbrev Levels : List TagEnd → List EventView → Type 0
 Levels [] es = (f : Forest LeafView) × (flat f ≡ es)
 Levels (k ∷ s) es = (f : Forest LeafView) × (rest : List EventView) × (flat_onto f (End k ∷ rest) ≡ es) × Levels s rest

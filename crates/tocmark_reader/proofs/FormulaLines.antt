@@ -1,4 +1,4 @@
--- Where no line behind the first is indented, formulas have no blanks to keep.
+-- Where no line after the first is indented, formulas have no blanks to keep.
 use Rattle.std.proofs.Common.{◌≡◌, ℕ, Bool, true, false, ◌&&◌, List, [], ◌∷◌, refl, ap, ◌∙◌}
 use Rattle.std.specs.List.{list_any}
 use Rattle.tocmark_read_scan.specs.declared.syntax.Syntax.{Syntax}

@@ -1,4 +1,4 @@
--- The inlines of parts that stand at a place of a text.
+-- The inlines of parts that are at a place of a text.
 use Rattle.std.proofs.Common.{◌≡◌, ℕ, zero, suc, ◌+◌, ◌-◌, ◌^◌, ◌<◌, ◌≤◌, List, [], ◌∷◌, ◌++◌, length, map, slice_get, Option, Some, None, refl, ap, sym, ◌∙◌, arith, length-append}
 use Rattle.std.proofs.lemmas.List.{map-append}
 use Rattle.tocmark_read_scan.specs.Content as content
@@ -77,7 +77,7 @@ moved_leaf bytes at d i start end from to ns ms ef et h k e =
     ap (λ (n : Node). n ∷ map (w.moved (places_of at bytes)) ns) (moved_one bytes at d i start end from to ef et h k)
     ∙ ap (λ (xs : List Node). node d i from to ∷ xs) e
 
--- where the content stands so far behind the front of the source, the nodes stand so far behind it
+-- where the content is so far after the front of the source, the nodes are so far after it
 moved_nodes : (bytes : List ℕ) (at d p q : ℕ) (o u : Option ℕ) (parts : List Part) → IsShifted at o u → q ≡ at + p → BeganBefore o p → p + length (spelled parts) ≤ length bytes → map (w.moved (places_of at bytes)) (nodes_of d p o parts) ≡ nodes_of d q u parts
 moved_nodes bytes at d p q o u [] r e h k = moved_until bytes at d o u p q r e h (omega arith)
 moved_nodes bytes at d p q o u (Bare b ∷ parts) r e h k =
@@ -101,7 +101,7 @@ parts_inlines_placed parts places depth defs t h fits =
     ap (λ after. inlines.inlines_from leaf depth after t) (read.1)
     ∙ ap (λ (ns : List Node). (record t { nodes = t.nodes ++ map (w.moved places) ns })) (written_parts parts depth fits)
 
--- the inlines of such a leaf, whose content stands at a place of the source
+-- the inlines of such a leaf, whose content is at a place of the source
 pub parts_inlines_at : (parts : List Part) (at depth : ℕ) (defs : List ℕ → Option Entry) (t : inlines.State) → AreRead (spelled parts) (known (spelled parts)) defs 0 parts → length (spelled parts) < 2 ^ 64 → inlines.read_inlines (record { bytes = spelled parts; places = places_of at (spelled parts) }) depth defs t ≡ record t { nodes = t.nodes ++ nodes_of depth at None parts }
 parts_inlines_at parts at depth defs t h fits =
     parts_inlines_placed parts (places_of at (spelled parts)) depth defs t h fits

@@ -17,7 +17,7 @@ use Rattle.tocmark_reader.proofs.PlainTests.{line_from, parts_tested}
 whole_front : (bs word : List ℕ) → take 4 bs ≡ word → word ++ drop 4 bs ≡ bs
 whole_front bs word e = ap (λ (xs : List ℕ). xs ++ drop 4 bs) (sym e) ∙ take-append-drop 4 bs
 
--- the bytes of a part and what stands behind them
+-- the bytes of a part and what is after them
 abbrev rebuilt : Part → List ℕ → List ℕ
 rebuilt a bs = spelled_part a ++ drop (bytes_behind a) bs
 
@@ -31,7 +31,7 @@ reference_rebuilt b c bs word w e h =
     ∙ ap (λ (xs : List ℕ). 38 ∷ xs) (whole_front bs word ((bytes_eq-Decides (take 4 bs) word).0 h))
     ∙ ap (λ x. x ∷ bs) (sym (eq_of b 38 e))
 
--- the part that a byte begins is spelled by it and the bytes behind it
+-- the part that a byte begins is spelled by it and the bytes after it
 part_rebuilt : (b : ℕ) (bs : List ℕ) → rebuilt (part_at b bs) bs ≡ b ∷ bs
 part_rebuilt b bs =
     by_tests (b == 92) (is_ascii_punctuation (byte_at bs 0)) (b == 38) (bytes_eq (take 4 bs) (codes "amp;")) (bytes_eq (take 4 bs) (codes "#32;")) (b == 10) refl refl refl refl refl refl

@@ -108,7 +108,7 @@ merged_until : (text : List ℕ) (o : Option ℕ) (p : ℕ) (es : List Marked) �
 merged_until text None p es = refl
 merged_until text (Some start) p es = refl
 
--- merged, the events of parts are what the parts mean, behind the text that is open
+-- merged, the events of parts are what the parts mean, after the text that is open
 pub merged_parts : (text : List ℕ) (p : ℕ) (o : Option ℕ) (parts : List Part) → AreSourced (source_of text) p o parts → merged (unplaced (events_of text p o parts)) ≡ with_text (open_text (source_of text) o p) (merged (said parts))
 merged_parts text p None [] h = refl
 merged_parts text p (Some start) [] h = refl

@@ -72,7 +72,7 @@ snapped_clean text start end h order fits =
     let o : nat_le start end ≡ true = grind (arith, nat_tests) in
     rw (o, cut_clean text start h (omega arith), cut_clean text end h fits) refl
 
--- the text of a range is the piece that stands there
+-- the text of a range is the piece that is there
 pub source_between : (text pre l rest : List ℕ) (start end : ℕ) → text ≡ pre ++ (l ++ rest) → start ≡ length pre → end ≡ length pre + length l → AreClean text → source_of text start end ≡ l
 source_between text pre l rest start end e s t h =
     let all : length text ≡ length pre + (length l + length rest) = ap length e ∙ length-append pre (l ++ rest) ∙ ap (λ n. length pre + n) (length-append l rest) in
@@ -81,7 +81,7 @@ source_between text pre l rest start end e s t h =
     ∙ ap (λ (xs : List ℕ). cleaned xs false) (piece_between text pre l rest start end e s t)
     ∙ cleaned_clean l clean
 
--- where the open text begins: behind what stands before it
+-- where the open text begins: after what is before it
 abbrev pub IsOpen : Option ℕ → List ℕ → List ℕ → Type 0
 IsOpen None pre mid = mid ≡ []
 IsOpen (Some start) pre mid = start ≡ length pre

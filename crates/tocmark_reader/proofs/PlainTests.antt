@@ -163,7 +163,7 @@ mark_to b (inl e) = rw e refl
 mark_to b (inr (inl e)) = rw e refl
 mark_to b (inr (inr e)) = rw e refl
 
--- what stands in front of a line
+-- what is in front of a line
 front_from : (l : List ℕ) → begins_plainly l ≡ true → BeginsPlainly l
 front_from [] h = absurd (true≢false (sym h))
 front_from (b ∷ bs) h = by_case (one_of_three (is_quiet b) (is_ascii_digit b && not (ends_number (b ∷ bs))) (char_set_contains (codes "-+=") b && goes_on bs) h)

@@ -88,7 +88,7 @@ are_quiet text l (n ∷ ns) h =
     let both = both_true (is_quiet_line text l) (nat_lt l.end n.start) (all.0) in
     (quiet_line text l (both.0), below_from l.end n.start (both.1), are_quiet text n ns (all.1))
 
--- bytes that stand for themselves, and what is behind them
+-- bytes that stand for themselves, and what is after them
 abbrev pub bares : List ℕ → List Part → List Part
 bares [] rest = rest
 bares (x ∷ xs) rest = Bare x ∷ bares xs rest

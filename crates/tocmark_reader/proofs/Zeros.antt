@@ -1,4 +1,4 @@
--- A text in which no U+0000 stands is left as it is, and so is an empty info string.
+-- A text in which no U+0000 is, is left as it is, and so is an empty info string.
 use Rattle.std.proofs.Common.{◌≡◌, ◌<◌, ◌-◌, ℕ, zero, suc, true, false, ◌==◌, List, [], ◌∷◌, ◌++◌, length, drop, take, slice_range, refl, ap, ◌∙◌, append-nil, slice_index, arith}
 use Rattle.std.specs.List.{flat_map, list_any}
 use Rattle.std.specs.Str.{IsUtf8}

@@ -31,7 +31,7 @@ attributes_view a = record {
 unfoldable pub parts_words : ℕ → Bool
 parts_words b = (b == 32) || (b == 9) || (b == 12)
 
--- what stands behind the equals sign of an attribute, whose name has so many bytes
+-- what is after the equals sign of an attribute, whose name has so many bytes
 unfoldable pub value_of : List ℕ → ℕ → Option (List ℕ)
 value_of word name = if nat_lt name (length word) then Some (utf8_lossy (bytes_between word (plus name 1) (length word))) else None
 

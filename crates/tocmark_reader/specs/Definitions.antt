@@ -1,4 +1,4 @@
--- What link reference definitions say, and where they stand.
+-- What link reference definitions say, and where they are.
 use Rattle.std.specs.Prelude.{ℕ, ◌-◌, ◌==◌, nat_lt, if◌then◌else◌, List, [], ◌∷◌, ◌++◌, length, slice_get, string_bytes, Option, Some, None, unwrap_or}
 use Rattle.std.specs.List.{fold, flat_map}
 use Rattle.std.specs.Option.{option_map_or}
@@ -38,11 +38,11 @@ line_places text l = places_from l.start (bytes_between text l.start l.end) ++ l
 abbrev pub place_at : List ℕ → ℕ → ℕ
 place_at places at = unwrap_or (slice_get places at) 0
 
--- where a word begins, with what stands round it
+-- where a word begins, with what is round it
 abbrev pub opening : Word → ℕ
 opening w = if w.end == w.next then w.start else w.start - 1
 
--- where a definition stands that was found in joined lines
+-- where a definition is that was found in joined lines
 abbrev pub place_of : List ℕ → ℕ → Definition → DefinitionPlace
 place_of places at d = record {
   whole = (place_at places at, place_at places d.title.next);
@@ -50,7 +50,7 @@ place_of places at d = record {
   title = (place_at places (opening d.title), place_at places d.title.next);
 }
 
--- one more place, and the byte behind the definition
+-- one more place, and the byte after the definition
 unfoldable pub placed_once : List ℕ → List ℕ → ℕ → List DefinitionPlace → List DefinitionPlace × Option ℕ
 placed_once content places at all =
     option_map_or (λ (d : Definition). (all ++ place_of places at d ∷ [], Some d.next)) (definition_at content at) (all, None)
@@ -63,7 +63,7 @@ placed_all content places all = (repeated (placed_once content places) (length c
 abbrev pub placed_on : List ℕ → List Piece → List DefinitionPlace → List DefinitionPlace
 placed_on text lines all = placed_all (joined text lines) (flat_map (line_places text) lines) all
 
--- the definitions in front of a block stand on the lines that neither it nor a block before it has
+-- the definitions in front of a block are on the lines that neither it nor a block before it has
 abbrev pub place_step : List ℕ → List Piece → List DefinitionPlace × ℕ → Block → List DefinitionPlace × ℕ
 place_step text pieces s b =
     (placed_on text (pieces_of pieces s.1 b.first) s.0, (if nat_lt s.1 b.last then b.last else s.1))
@@ -95,7 +95,7 @@ snapped_place text p = record {
   title = snapped text (p.title.0) (p.title.1);
 }
 
--- what a definition says that stands at a place
+-- what a definition says that is at a place
 unfoldable pub said_at : Names → List ℕ → DefinitionView → DefinitionPlace → SaidDefinition
 said_at names text d place = record {
   label = utf8_lossy (collapsed d.label);
@@ -110,7 +110,7 @@ said_from names text places at [] = []
 said_from names text places at (d ∷ ds) =
     said_at names text d (unwrap_or (slice_get places at) no_place) ∷ said_from names text places (plus at 1) ds
 
--- the definitions that blocks give, each where it stands
+-- the definitions that blocks give, each where it is
 unfoldable pub definitions_among : Names → List ℕ → BlocksView → List SaidDefinition
 definitions_among names text found = said_from names text (places_in text found) 0 found.definitions
 

@@ -9,7 +9,7 @@ use Rattle.tocmark_reader.specs.Range.{snapped}
 use Rattle.tocmark_reader.specs.declared.emit.Emission.{Emission}
 use Rattle.tocmark_reader.specs.declared.emit.Open.{Open}
 
--- what stands at a node: a container, the text of the node's own range, or a leaf as it is given
+-- what is at a node: a container, the text of the node's own range, or a leaf as it is given
 pub data ItemView : Type 0 where
   Container : TagView → ItemView
   Source : ItemView
@@ -68,7 +68,7 @@ put text (Container tag) range w = record {
 put text Source range w = with_leaf (Text (source_text text range)) range w
 put text (Given leaf) range w = with_leaf leaf range w
 
--- a node ends the containers that it doesn't lie in, and is put behind them
+-- a node ends the containers that it doesn't lie in, and is put after them
 abbrev pub step : List ℕ → Writing → NodeView → Writing
 step text w node = put text node.item (snapped text node.start node.end) (closed node.depth w)
 

@@ -1,4 +1,4 @@
--- Formulas keep the blanks at the beginning of their lines, behind the prefixes of the containers.
+-- Formulas keep the blanks at the beginning of their lines, after the prefixes of the containers.
 use Rattle.std.specs.Prelude.{ℕ, Bool, ◌==◌, ◌&&◌, nat_lt, if◌then◌else◌, List, [], ◌∷◌, ◌++◌, drop, fold}
 use Rattle.std.specs.List.{list_any}
 use Rattle.std.specs.Str.Lossy.{utf8_lossy}
@@ -16,15 +16,15 @@ use Rattle.tocmark_read_inlines.specs.declared.write.Node.{Node}
 use Rattle.tocmark_reader.specs.Emitted.{ItemView, NodeView, Container, Source, Given}
 use Rattle.tocmark_reader.specs.Inlines.{leaf_of, span_tag}
 
--- blanks stand in front of a line
+-- blanks are in front of a line
 unfoldable pub is_indented : Piece → Bool
 is_indented line = nat_lt line.from line.start
 
--- mathematics is read, and a line behind the first is indented
+-- mathematics is read, and a line after the first is indented
 unfoldable pub keeps_blanks : Syntax → List Piece → Bool
 keeps_blanks syntax lines = syntax.math && list_any is_indented (drop 1 lines)
 
--- the lines that begin behind a place
+-- the lines that begin after a place
 abbrev pub lines_behind : ℕ → List Piece → List Piece
 lines_behind place [] = []
 lines_behind place (l ∷ ls) = if nat_lt place l.start then l ∷ ls else lines_behind place ls
@@ -34,7 +34,7 @@ abbrev pub blanks_of : List ℕ → List Piece → List ℕ
 blanks_of source [] = []
 blanks_of source (l ∷ ls) = bytes_between source l.from l.start
 
--- one more byte of a formula, with the lines that are still to come: behind a line feed the blanks of the next one
+-- one more byte of a formula, with the lines that are still to come: after a line feed the blanks of the next one
 unfoldable pub laid_byte : List ℕ → List Piece × List ℕ → ℕ → List Piece × List ℕ
 laid_byte source (lines, out) b =
     if b == 10 then (drop 1 lines, (out ++ b ∷ []) ++ blanks_of source lines) else (lines, out ++ b ∷ [])
@@ -65,7 +65,7 @@ laid_item source lines texts targets item.Text = Source
 laid_item source lines texts targets (item.Span s) = Container (span_tag texts targets s)
 laid_item source lines texts targets (item.Leaf l) = Given (laid_leaf source lines texts l)
 
--- the node of an inline, behind which these lines begin
+-- the node of an inline, after which these lines begin
 unfoldable pub laid_node : List ℕ → List Piece → List ℕ → List Target → Node → NodeView
 laid_node source lines texts targets n =
     record { depth = n.depth; item = laid_item source lines texts targets n.item; start = n.start; end = n.end }

@@ -17,7 +17,7 @@ abbrev pub has_events : BlockKind → Block → Bool
 has_events kind.Paragraph b = nat_lt b.first b.last
 has_events k b = true
 
--- the events of a block begin a tree: it stands in no container
+-- the events of a block begin a tree: it is in no container
 unfoldable pub begins_tree : Block → Bool
 begins_tree b = b.depth == 0 && is_none b.list && has_events b.kind b
 
@@ -37,7 +37,7 @@ is_at_tree r = option_map_or begins_tree (slice_get r.blocks.items (length r.blo
 abbrev pub goes_on : BlockReading → Bool
 goes_on r = not (length r.blocks.items == 0) && (is_empty r || not (is_at_tree r))
 
--- all blocks that are left, written behind what is made and not handed out
+-- all blocks that are left, written after what is made and not handed out
 abbrev pub all_made : BlockReading → Progress
 all_made r =
     written_by r.text

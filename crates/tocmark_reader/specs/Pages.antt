@@ -109,11 +109,11 @@ pub record Progress : Type 0 where
 abbrev pub assembly_view : Assembly → Progress
 assembly_view a = record { writing = emission_view a.emission; inlines = inlines.inlines_view a.inlines }
 
--- the nodes are written behind what is written
+-- the nodes are written after what is written
 abbrev pub written_behind : List ℕ → Writing → State → Progress
 written_behind text w s = record { writing = fold (step text) w s.nodes; inlines = s.inlines }
 
--- the nodes that a change puts behind none are written behind what is written
+-- the nodes that a change puts after none are written after what is written
 abbrev pub written_by : List ℕ → (State → State) → Progress → Progress
 written_by text change p = written_behind text p.writing (change (record { nodes = []; inlines = p.inlines }))
 
@@ -161,7 +161,7 @@ bare_in syntax text find pieces b s = leaf_inlines_in syntax text find pieces b.
 unfoldable pub with_lines : List ℕ → Bool → Block → List Piece → State → State
 with_lines text html b lines s = record s { nodes = (s.nodes ++ block_node text b ∷ []) ++ lines_nodes text html (plus b.depth 1) lines }
 
--- the node of a fenced code block, whose info string stands between two places
+-- the node of a fenced code block, whose info string is between two places
 unfoldable pub fence_node_in : Names → List ℕ → ℕ → ℕ → Block → NodeView
 fence_node_in names text from to b =
     node b.depth (Container (view.CodeBlock (view.Fenced (info_text_in names (bytes_between text from to))))) b.start b.end
@@ -219,7 +219,7 @@ taken_as_in syntax kind.DefinitionListDefinition text find pieces unwrapped b s 
 unfoldable pub block_taken_in : Syntax → List ℕ → (List ℕ → Option Entry) → List Piece → Bool → Block → State → State
 block_taken_in syntax text find all unwrapped b s = taken_as_in syntax b.kind text find (pieces_of all b.first b.last) unwrapped b s
 
--- one more block, which may stand in a tight list
+-- one more block, which may be in a tight list
 abbrev pub block_step_in : Syntax → List ℕ → (List ℕ → Option Entry) → List Block → List Piece → State → Block → State
 block_step_in syntax text find blocks pieces s b = block_taken_in syntax text find pieces (is_unwrapped blocks b) b s
 

@@ -47,7 +47,7 @@ pub record IsReadAs (r : ReadingView) (expected : List EventView) : Type 0 where
   pub defined : r.defined ≡ []
   pub unresolved : r.unresolved ≡ []
 
--- the part that a byte begins, with these bytes behind it: a backslash with punctuation behind it, `&amp;`, `&#32;`, a line feed,
+-- the part that a byte begins, with these bytes after it: a backslash with punctuation after it, `&amp;`, `&#32;`, a line feed,
 -- and any other byte alone
 abbrev pub part_at : ℕ → List ℕ → Part
 part_at b bs =
@@ -56,14 +56,14 @@ part_at b bs =
     else (if (b == 38) && bytes_eq (take 4 bs) (codes "#32;") then Referred 32 (codes "#32;")
     else (if b == 10 then Feed else Bare b)))
 
--- how many bytes of a part stand behind its first one
+-- how many bytes of a part are after its first one
 abbrev pub bytes_behind : Part → ℕ
 bytes_behind (Bare b) = 0
 bytes_behind (Escaped b) = 1
 bytes_behind (Referred c bs) = length bs
 bytes_behind Feed = 0
 
--- the last byte of the part that a byte begins, and how many bytes of it stand behind that one, if it means what it is for
+-- the last byte of the part that a byte begins, and how many bytes of it are after that one, if it means what it is for
 abbrev pub plain_front : ℕ → ℕ → List ℕ → Option (ℕ × ℕ)
 plain_front before b bs =
     let a = part_at b bs in
@@ -81,7 +81,7 @@ first_line [] = []
 first_line (Feed ∷ parts) = []
 first_line (a ∷ parts) = a ∷ first_line parts
 
--- the lines of parts behind each line feed
+-- the lines of parts after each line feed
 abbrev pub further_lines : List Part → List (List Part)
 further_lines [] = []
 further_lines (Feed ∷ parts) = first_line parts ∷ further_lines parts

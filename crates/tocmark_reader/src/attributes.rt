@@ -23,7 +23,7 @@ pub struct Attributes {
     pub attrs: Vec<(CowStr<'static>, Option<CowStr<'static>>)>,
 }
 
-/// Whether a byte stands between words: a space, tab or form feed.
+/// Whether a byte is between words: a space, tab or form feed.
 #[tactic(auto, unfolding(crate::specs::Attributes::parts_words))]
 fn parts_words(byte: u8) -> bool
     ensures { result ≡ parts_words byte }
@@ -37,7 +37,7 @@ fn text(alloc: Global, bytes: &[u8]) -> Result<CowStr<'static>, AllocError>
     Ok(CowStr::Owned(String::from_utf8_lossy(alloc, bytes)?))
 }
 
-/// What stands behind the equals sign of an attribute, whose name has so many bytes.
+/// What is after the equals sign of an attribute, whose name has so many bytes.
 #[tactic(auto, unfolding(crate::specs::Attributes::value_of))]
 fn value_of(alloc: Global, word: &[u8], name: usize) -> Result<Option<CowStr<'static>>, AllocError>
     ensures { IfOk result (λ v. option_map text_of v ≡ value_of word.now name) }

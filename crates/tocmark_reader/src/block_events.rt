@@ -36,7 +36,7 @@ pub(crate) fn loose_lists(alloc: Global, blocks: &[PackedBlock]) -> Result<Vec<b
     Ok(loose)
 }
 
-/// Whether a paragraph stands directly in an item of a tight list; `loose` says which blocks are loose lists.
+/// Whether a paragraph is directly in an item of a tight list; `loose` says which blocks are loose lists.
 #[tactic(auto, unfolding(crate::specs::Pages::is_unwrapped_by))]
 pub(crate) fn is_unwrapped(loose: &[bool], block: Block) -> bool
     ensures { result ≡ is_unwrapped_by loose.now block }
@@ -156,7 +156,7 @@ impl Assembly {
         }
     }
 
-    /// Reads the inlines of a leaf from its text, whatever stands in it.
+    /// Reads the inlines of a leaf from its text, whatever is in it.
     #[tactic(auto, unfolding(crate::specs::Pages::leaf_inlines_in, crate::specs::Pages::with_lines_of))]
     fn read_marked_leaf(
         &mut self,
@@ -287,7 +287,7 @@ impl Assembly {
         )
     }
 
-    /// A fenced code block with its lines; its info string stands in a range.
+    /// A fenced code block with its lines; its info string is in a range.
     #[tactic(auto, unfolding(crate::specs::Pages::with_fence_in))]
     fn take_fence(
         &mut self,

@@ -244,7 +244,7 @@ impl BlockReading<'_> {
         })
     }
 
-    /// The next part of the reading: the events of one block that stands in no other, with all that
+    /// The next part of the reading: the events of one block that is in no other, with all that
     /// lies in it, and no labels. `None` says that no events are left.
     ///
     /// If memory runs out, what was handed out before stays with the caller, and every later call answers

@@ -79,7 +79,7 @@ fn write_line(
     Ok(())
 }
 
-/// Writes lines of code or HTML behind what is written.
+/// Writes lines of code or HTML after what is written.
 pub(crate) fn write_lines(
     alloc: Global,
     out: &mut Emission,

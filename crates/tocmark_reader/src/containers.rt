@@ -21,7 +21,7 @@ use tocmark_read_page::page::{Block, BlockKind, Task};
 use tocmark_read_scan::basic::bytes_between;
 use tocmark_read_scan::syntax::Names;
 
-/// The tag of a fenced code block, by the names that are known; its info string stands in a range.
+/// The tag of a fenced code block, by the names that are known; its info string is in a range.
 fn fence_tag(
     alloc: Global,
     names: Names,
@@ -36,7 +36,7 @@ fn fence_tag(
     Ok(Tag::CodeBlock(CodeBlockKind::Fenced(CowStr::Owned(words))))
 }
 
-/// The tag of a footnote's definition, whose name stands between two places.
+/// The tag of a footnote's definition, whose name is between two places.
 fn note_tag(
     alloc: Global,
     text: &SearchedText<'_>,
@@ -50,7 +50,7 @@ fn note_tag(
     Ok(Tag::FootnoteDefinition(CowStr::Owned(name)))
 }
 
-/// The tag of a table, whose row of dashes stands between two places.
+/// The tag of a table, whose row of dashes is between two places.
 fn table_tag(
     alloc: Global,
     text: &SearchedText<'_>,
@@ -64,7 +64,7 @@ fn table_tag(
     Ok(Tag::Table(alignments(alloc, row)?))
 }
 
-/// The container that a block is. A thematic break is none, and stands as a paragraph here.
+/// The container that a block is. A thematic break is none, and is as a paragraph here.
 #[tactic(auto, unfolding(crate::specs::Pages::block_tag))]
 fn block_tag(
     alloc: Global,
@@ -130,7 +130,7 @@ pub(crate) fn write_block(
     }
 }
 
-/// Writes the node of a fenced code block, whose info string stands in a range.
+/// Writes the node of a fenced code block, whose info string is in a range.
 #[tactic(auto, unfolding(crate::specs::Pages::fence_node_in))]
 pub(crate) fn write_fence(
     alloc: Global,

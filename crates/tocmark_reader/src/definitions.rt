@@ -1,4 +1,4 @@
-//! The link reference definitions of a text: what they say, and where they stand.
+//! The link reference definitions of a text: what they say, and where they are.
 
 ghost use Rattle.std.specs.Prelude.{◌≡◌, ◌++◌, length, map, slice_get, unwrap_or, IfOk, OnOk};
 ghost use Rattle.std.specs.List.{All, flat_map};
@@ -22,15 +22,15 @@ use tocmark_read_tokens::label::collapsed;
 use tocmark_read_tokens::reference::unescaped;
 use tocmark_read_tokens::word::{Definition, Word, definition_at};
 
-/// Where a definition stands, in bytes of the text: the first one, and the one behind the last. A definition
-/// on several lines of a quote or an item has what stands before these lines within its range.
+/// Where a definition is, in bytes of the text: the first one, and the one after the last. A definition
+/// on several lines of a quote or an item has what is before these lines within its range.
 #[derive(Clone, Copy, Debug)]
 pub struct DefinitionPlace {
-    /// All of it, from its opening bracket on; no white space behind it.
+    /// All of it, from its opening bracket on; no white space after it.
     pub whole: (usize, usize),
     /// Its destination, with `<` and `>` where it has them.
     pub destination: (usize, usize),
-    /// Its title, with what stands round it; empty, behind the destination, where it has none.
+    /// Its title, with what is round it; empty, after the destination, where it has none.
     pub title: (usize, usize),
 }
 
@@ -44,7 +44,7 @@ pub struct ReferenceDefinition {
     pub destination: String,
     /// The title without escapes and references; empty where there is none.
     pub title: String,
-    /// Where it stands in the text.
+    /// Where it is in the text.
     pub place: DefinitionPlace,
 }
 
@@ -119,7 +119,7 @@ fn place_at(places: &[usize], at: usize) -> usize
     places.get(at).copied().unwrap_or(0)
 }
 
-/// Where a word begins, with what stands round it.
+/// Where a word begins, with what is round it.
 fn opening(word: Word) -> usize
     ensures { result ≡ opening word }
 {
@@ -144,7 +144,7 @@ fn place_of(places: &[usize], at: usize, found: Definition) -> DefinitionPlace
     }
 }
 
-/// Adds the place of the definition at a byte, and gives the byte behind it.
+/// Adds the place of the definition at a byte, and gives the byte after it.
 #[tactic(auto, unfolding(crate::specs::Definitions::placed_once))]
 fn place_once(
     lines: &JoinedLines,
@@ -163,7 +163,7 @@ fn place_once(
     }
 }
 
-/// Adds the places of the definitions at the front of lines, and gives the byte behind them.
+/// Adds the places of the definitions at the front of lines, and gives the byte after them.
 #[tactic(auto, using(tocmark_read_scan::proofs::Repeats::repeated_zero, tocmark_read_scan::proofs::Repeats::repeated_stop, tocmark_read_scan::proofs::Repeats::repeated_more))]
 fn place_all(lines: &JoinedLines, all: &mut Vec<DefinitionPlace>) -> Result<usize, AllocError>
     ensures { IfOk result (λ at. (all.new.items, at)
@@ -194,7 +194,7 @@ fn place_on(
 }
 
 /// Adds the places of the definitions in front of a block, where the pieces up to `next` are those of the
-/// blocks before it; gives the piece behind its own ones.
+/// blocks before it; gives the piece after its own ones.
 fn place_step(
     alloc: Global,
     text: &[u8],
@@ -236,7 +236,7 @@ fn snapped_place(text: &str, place: DefinitionPlace) -> DefinitionPlace
     }
 }
 
-/// A definition as it is said, where it stands.
+/// A definition as it is said, where it is.
 #[tactic(auto, unfolding(crate::specs::Definitions::said_at))]
 fn said_at(
     alloc: Global,
@@ -313,7 +313,7 @@ pub(crate) fn definitions_among(
 }
 
 /// The link reference definitions of a text under a syntax, in their order, each with what it says and
-/// where it stands. Of several with one label the first is what links with that label lead to.
+/// where it is. Of several with one label the first is what links with that label lead to.
 ///
 /// They are those that the reader finds under this syntax, in quotes and items, too. Each range lies
 /// within the text, on boundaries of characters.

@@ -1,4 +1,4 @@
-//! From nodes to events. A node has a depth, and a range of the text in bytes: from its first byte to behind its last
+//! From nodes to events. A node has a depth, and a range of the text in bytes: from its first byte to after its last
 //! one. Nodes are written in the order of their Starts; a node lies in the nearest container before it whose depth is
 //! less. Its event has its range if this is in order, within the text and on boundaries of characters; else an empty
 //! one at the front.

@@ -47,7 +47,7 @@ pub const GFM: ParserOptions = ParserOptions(
         | ParserOptions::ENABLE_PLUSES_DELIMITED_METADATA_BLOCKS.0,
 );
 
-/// The flag of each of these extensions, behind the name by which command lines and configuration files know it.
+/// The flag of each of these extensions, after the name by which command lines and configuration files know it.
 pub const NAMED_EXTENSIONS: [(&str, ParserOptions); 12] = [
     ("tables", ParserOptions::ENABLE_TABLES),
     ("footnotes", ParserOptions::ENABLE_FOOTNOTES),
@@ -97,60 +97,60 @@ pub(crate) fn syntax_of(names: Names, flags: ParserOptions) -> Syntax
 
 /// Reads CommonMark 0.31.2 with the extensions that the flags name.
 ///
-/// Strikethrough stands between one or two tildes and as many: they open before what is no white space,
-/// a single one only behind white space or punctuation, and close behind what is none.
+/// Strikethrough is between one or two tildes and as many: they open before what is no white space,
+/// a single one only after white space or punctuation, and close after what is none.
 ///
-/// A subscript stands between single tildes, which are no strikethrough where subscripts are read, too;
-/// two tildes without strikethrough are a text. A superscript stands between carets, which open and close
+/// A subscript is between single tildes, which are no strikethrough where subscripts are read, too;
+/// two tildes without strikethrough are a text. A superscript is between carets, which open and close
 /// as underscores do: `^a^` and `^^a^^` are one each, `x^2^` is none. A closing tilde or caret for which
-/// no opening one stands ends all that were opened before it.
+/// no opening one is ends all that were opened before it.
 ///
-/// Mathematics stands between dollar signs, two where it is set on lines of its own: `$a$`, `$$a$$`. A
-/// dollar sign belongs to the next one with balanced braces between them; a byte behind an escaping
-/// backslash counts as neither. Between single ones no white space stands at either end; behind the second
+/// Mathematics is between dollar signs, two where it is set on lines of its own: `$a$`, `$$a$$`. A
+/// dollar sign belongs to the next one with balanced braces between them; a byte after an escaping
+/// backslash counts as neither. Between single ones no white space is at either end; after the second
 /// of two the one that it belongs to is followed by another. Nothing is resolved in between, and what
 /// opens first wins, mathematics or code. All other dollar signs are a text.
 ///
-/// A box stands just behind the marker of an item: a space, `x` or `X` between brackets, and a space or
-/// the line ending behind them. The rest of its line begins a paragraph, whatever it looks like, which
+/// A box is just after the marker of an item: a space, `x` or `X` between brackets, and a space or
+/// the line ending after them. The rest of its line begins a paragraph, whatever it looks like, which
 /// has no definitions of links; where nothing is left of the line the item has the box.
 ///
 /// Metadata are lines between `---` and `---` or `...`, or between `+++` and `+++`, outside of all
 /// containers and not in a paragraph. They begin where the next line is neither blank nor their end,
-/// and their end stands below. Each line is a text with its line ending.
+/// and their end is below. Each line is a text with its line ending.
 ///
 /// A table begins with a header above a delimiter row, both directly in their containers: bars, colons,
 /// dashes and spaces, with a dash in each column that a bar ends. The header is the paragraph's only line
-/// behind its definitions, or one that begins with a bar, and has as many cells. Each further line is a row,
+/// after its definitions, or one that begins with a bar, and has as many cells. Each further line is a row,
 /// until a blank line, a bar alone, or one that begins a quote, heading, fence, rule, item, HTML or the
 /// definition of a footnote. A bar
-/// divides cells if no backslash stands just before it; that backslash is no part of the cell. A row has as
+/// divides cells if no backslash is just before it; that backslash is no part of the cell. A row has as
 /// many cells as the header: further ones are dropped, missing ones are empty at its end. A table
 /// ends before a row with which all rows of the text would lack more than 262,144 cells.
 ///
-/// The kind of a block quote stands just behind the mark that begins it, and at most one space or tab:
+/// The kind of a block quote is just after the mark that begins it, and at most one space or tab:
 /// `[!NOTE]`, `[!TIP]`, `[!IMPORTANT]`, `[!WARNING]` or `[!CAUTION]` in any case, with nothing but spaces
-/// and tabs behind it. That line has no events, and the lines behind it go on as those of a paragraph do
+/// and tabs after it. That line has no events, and the lines after it go on as those of a paragraph do
 /// that has no text yet: what can't interrupt a paragraph is its text, but for a tag alone on its line.
 ///
-/// The attributes of a heading stand between braces at the end of its one line, or of its last line above an
+/// The attributes of a heading are between braces at the end of its one line, or of its last line above an
 /// underline, before a closing sequence of `#` is looked for: words between spaces, tabs and form feeds,
 /// without braces, angle brackets and backslashes. Of `#id` the last counts, `.class` is a class, and any
-/// other word an attribute, whose value stands behind its first `=`; a word of one byte says nothing.
+/// other word an attribute, whose value is after its first `=`; a word of one byte says nothing.
 ///
-/// A definition begins with a line whose first mark is a colon, behind at most three spaces, if a paragraph
-/// with text stands just before it in the same container: the open one, or the last block, also behind blank
-/// lines and behind definitions of links. That paragraph is a title, and begins a list if it isn't in one. A
-/// colon behind a definition of the same list begins a further one, also where its line would go on lazily.
-/// Lines of a definition are indented as its text is, past the colon and at most four spaces. Behind a
-/// definition a paragraph is the next title if a colon follows, and stands behind the list if none does. A list
-/// is loose if a blank line stands right before a definition, or between two blocks of one.
+/// A definition begins with a line whose first mark is a colon, after at most three spaces, if a paragraph
+/// with text is just before it in the same container: the open one, or the last block, also after blank
+/// lines and after definitions of links. That paragraph is a title, and begins a list if it isn't in one. A
+/// colon after a definition of the same list begins a further one, also where its line would go on lazily.
+/// Lines of a definition are indented as its text is, past the colon and at most four spaces. After a
+/// definition a paragraph is the next title if a colon follows, and is after the list if none follows. A list
+/// is loose if a blank line is right before a definition, or between two blocks of one.
 ///
-/// The label of a footnote is a caret and a name between brackets, on one line. A colon just behind it, at
+/// The label of a footnote is a caret and a name between brackets, on one line. A colon just after it, at
 /// the front of a container's line, begins a definition: a container whose further lines are indented by
-/// four columns or blank. It interrupts a paragraph, and a definition that would stand directly in another
+/// four columns or blank. It interrupts a paragraph, and a definition that would be directly in another
 /// one ends that. Elsewhere a label whose name is defined anywhere in the text is a reference, unless a
-/// destination in parentheses or a link label that is none of a footnote stands behind it; names match as
+/// destination in parentheses or a link label that is none of a footnote is after it; names match as
 /// link labels do, and nothing that was open before a reference can become a link that has it in it.
 ///
 /// Under all flags alike a reference such as `&auml;` is the characters that HTML gives its name: 2,125
@@ -209,7 +209,7 @@ impl ExtendedReader {
     }
 
     /// The link reference definitions that this reader finds in a text under some flags, as
-    /// `find_definitions` gives them: in their order, each with what it says and where it stands, in bytes
+    /// `find_definitions` gives them: in their order, each with what it says and where it is, in bytes
     /// of the text. Of several with one label the first counts.
     ///
     /// ```

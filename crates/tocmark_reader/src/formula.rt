@@ -26,7 +26,7 @@ fn others(lines: &[Piece]) -> &[Piece]
     if lines.is_empty() { &[] } else { &lines[1..] }
 }
 
-/// Whether blanks stand in front of a line, behind the prefixes of its containers.
+/// Whether blanks are in front of a line, after the prefixes of its containers.
 #[tactic(auto, unfolding(crate::specs::Formulas::is_indented))]
 fn is_indented(line: Piece) -> bool
     ensures { result ≡ is_indented line }
@@ -46,7 +46,7 @@ fn has_indented(lines: &[Piece]) -> bool
     false
 }
 
-/// Whether mathematics is read, and a line behind the first is indented: then formulas in these lines may
+/// Whether mathematics is read, and a line after the first is indented: then formulas in these lines may
 /// have blanks that other inlines leave out.
 #[tactic(auto, unfolding(crate::specs::Formulas::keeps_blanks))]
 pub(crate) fn keeps_blanks(syntax: Syntax, lines: &[Piece]) -> bool
@@ -55,7 +55,7 @@ pub(crate) fn keeps_blanks(syntax: Syntax, lines: &[Piece]) -> bool
     syntax.math && has_indented(others(lines))
 }
 
-/// The lines that begin behind a place.
+/// The lines that begin after a place.
 fn lines_behind(lines: &[Piece], place: usize) -> &[Piece]
     ensures { result.now ≡ lines_behind place lines.now }
 {
@@ -79,7 +79,7 @@ fn blanks_of<'t>(source: &'t [u8], lines: &[Piece]) -> &'t [u8]
     }
 }
 
-/// Writes a byte of a formula, and behind a line feed the blanks of the next line; gives the lines that
+/// Writes a byte of a formula, and after a line feed the blanks of the next line; gives the lines that
 /// are still to come.
 #[tactic(auto, unfolding(crate::specs::Formulas::laid_byte))]
 fn push_laid<'l>(
@@ -161,7 +161,7 @@ fn laid_event(
     }
 }
 
-/// Writes an inline, behind whose first byte these lines begin.
+/// Writes an inline, after whose first byte these lines begin.
 #[tactic(auto, unfolding(crate::specs::Formulas::laid_node, crate::specs::Formulas::laid_item))]
 fn write_laid_inline(
     alloc: Global,
@@ -185,7 +185,7 @@ fn write_laid_inline(
     }
 }
 
-/// Writes the inlines of these lines behind what is written: formulas keep the blanks of their lines.
+/// Writes the inlines of these lines after what is written: formulas keep the blanks of their lines.
 pub(crate) fn write_laid_inlines(
     alloc: Global,
     out: &mut Emission,

@@ -156,7 +156,7 @@ fn write_inline(
     }
 }
 
-/// Writes inlines behind what is written.
+/// Writes inlines after what is written.
 pub fn write_inlines(
     alloc: Global,
     out: &mut Emission,

@@ -1,7 +1,7 @@
 //! Readers of CommonMark 0.31.2: a text goes in, its events with their ranges and its labels come out.
 //!
 //! Enter at `CoreReader` (`reader`), which knows no extension, or at `ExtendedReader` (`extended`), which takes those that
-//! flags name. `UnitReader` (`unit_reader`) is the one to hand to the writer: it needs no definitions of footnotes. Below this crate stand `tocmark_read_blocks` and `tocmark_read_inlines`. Above it stands the library, which
+//! flags name. `UnitReader` (`unit_reader`) is the one to hand to the writer: it needs no definitions of footnotes. Below this crate are `tocmark_read_blocks` and `tocmark_read_inlines`. Above it is the library, which
 //! hands it to its users.
 //!
 //! A text is read in these steps:
@@ -11,7 +11,7 @@
 //! 3. `block_events` takes a block. A container comes from `containers` and `attributes`, code and HTML come from
 //!    `code_lines`, and the inlines of a paragraph, a heading or a cell come from `inline`. `formula` keeps the blanks of a
 //!    formula's lines. `quiet` is the short way for lines without marks.
-//! 4. `emit` puts the events behind one another, and ends the containers.
+//! 4. `emit` puts the events after one another, and ends the containers.
 //!
 //! Some modules serve several steps. `words` makes the texts that the source doesn't spell as they are. `searched` is the
 //! source, in which U+0000 is sought once. `pieces` takes a leaf's lines from those of all leaves.

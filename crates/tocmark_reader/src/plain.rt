@@ -22,7 +22,7 @@ fn is_plain_byte(before: u8, byte: u8, behind: u8) -> bool
         || (byte == b'_' && before.is_ascii_alphanumeric() && behind.is_ascii_alphanumeric())
 }
 
-/// The last byte of the part that a byte begins, and how many bytes of it stand behind that byte, if it
+/// The last byte of the part that a byte begins, and how many bytes of it are after that byte, if it
 /// means what it is for.
 fn plain_front(before: u8, byte: u8, behind: &[u8]) -> Option<(u8, usize)>
     ensures { result ≡ plain_front before byte behind.now }

@@ -14,7 +14,7 @@ use tocmark_read_page::piece::Piece;
 use tocmark_read_scan::basic::bytes_between;
 use tocmark_read_scan::class::{Class, is_in};
 
-// Each byte that is one of a text in each reading stands as a comma, but for U+0000.
+// Each byte that is one of a text in each reading is as a comma, but for U+0000.
 static TEXT_BYTES: [u8; 256] = *b"\
     z,,,,,,,,,\n,,,,,,,,,,,,,,,,,,,,,\
     ,!,,$,&,,,*,,,,,,,,,,,,,,,,,<,,,\

@@ -6,7 +6,7 @@ ghost use Rattle.std.specs.List.{list_any};
 use std::marker::Model;
 use tocmark_read_scan::class::has_byte;
 
-/// A text, and whether no U+0000 stands in it.
+/// A text, and whether no U+0000 is in it.
 #[derive(Drop)]
 pub struct SearchedText<'t> {
     text: &'t str,
@@ -42,7 +42,7 @@ impl<'t> SearchedText<'t> {
         self.text
     }
 
-    /// Whether no U+0000 stands in the text.
+    /// Whether no U+0000 is in the text.
     pub fn is_clean(&self) -> bool
         ensures { IsTrue result → list_any (λ b. b == 0) self.now ≡ false }
     {

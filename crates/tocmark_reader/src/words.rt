@@ -97,7 +97,7 @@ fn cleaned_text(alloc: Global, text: &str, feed: bool) -> Result<String, AllocEr
     }
 }
 
-/// A text in which no U+0000 stands, and a line feed behind it if it is a line that ends.
+/// A text in which no U+0000 is, and a line feed after it if it is a line that ends.
 #[tactic(auto, using(crate::proofs::Zeros::text_kept, crate::proofs::Zeros::line_kept))]
 fn clean_text(alloc: Global, text: &str, feed: bool) -> Result<String, AllocError>
     ensures { list_any (λ b. b == 0) text.now ≡ false
@@ -110,7 +110,7 @@ fn clean_text(alloc: Global, text: &str, feed: bool) -> Result<String, AllocErro
     }
 }
 
-/// A part of a text with U+FFFD for U+0000, and a line feed behind it if it is a line that ends.
+/// A part of a text with U+FFFD for U+0000, and a line feed after it if it is a line that ends.
 #[tactic(auto, using(crate::proofs::Zeros::none_between))]
 #[inline(always)]
 pub fn part_of(

@@ -31,7 +31,7 @@ partly b zero es = es
 partly b (suc n) [] = []
 partly b (suc n) (e ∷ es) = joined_event b e ∷ partly (is_open_behind b e) n es
 
--- whether a heading on one line is open behind so many events
+-- whether a heading on one line is open after so many events
 abbrev pub open_at : Bool → ℕ → List EventView → Bool
 open_at b zero es = b
 open_at b (suc n) [] = b

@@ -11,7 +11,7 @@ use Rattle.tocmark_rewrite.specs.declared.trees.Block.{Block}
 use Rattle.tocmark_rewrite.specs.declared.trees.Tree.{Tree}
 use Rattle.tocmark_rewrite.proofs.Copied.{all-at}
 
--- a tree stands where its first event does
+-- a tree is where its first event is
 tree-placed : (ranges : List (ℕ × ℕ)) (t : Tree) (s : ℕ × ℕ) → t ≡ tree_at ranges s → range_at ranges t.first ≡ (t.begins, t.ends)
 tree-placed ranges t s e = subst (λ (u : Tree). range_at ranges u.first ≡ (u.begins, u.ends)) (sym e) refl
 

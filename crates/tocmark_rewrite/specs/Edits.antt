@@ -72,11 +72,11 @@ with_level s (Start (Heading level id classes attrs)) = Start (Heading (shifted 
 with_level s (End (end.Heading level)) = End (end.Heading (shifted s level))
 with_level s e = e
 
--- whether a heading of this level stands on one line
+-- whether a heading of this level is on one line
 abbrev pub is_on_one_line : HeadingLevel → Bool
 is_on_one_line level = not (nat_le (number_of level) 2)
 
--- whether a heading on one line is open behind an event, by whether one is before it
+-- whether a heading on one line is open after an event, by whether one is before it
 abbrev pub is_open_behind : Bool → EventView → Bool
 is_open_behind is_open (Start (Heading level id classes attrs)) = is_on_one_line level
 is_open_behind is_open (End (end.Heading level)) = false

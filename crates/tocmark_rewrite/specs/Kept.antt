@@ -95,7 +95,7 @@ pub record IsCopiedFirst (parts : List Part) (p : Plan) : Type 0 where
 abbrev pub AreCopied : List Part → List Plan → Type 0
 AreCopied parts plans = All (IsCopiedFirst parts) plans
 
--- the events of a tree of the answer: the first one, and the one behind the last
+-- the events of a tree of the answer: the first one, and the one after the last
 abbrev pub span_of : RewrittenTree → ℕ × ℕ
 span_of t = (t.first, t.past)
 

@@ -1,4 +1,4 @@
--- The lines of a source on which a block stands.
+-- The lines of a source on which a block is.
 use Rattle.std.specs.Option.{option_map_or}
 use Rattle.std.specs.Prelude.{◌≤◌, ◌<◌, ◌||◌, ℕ, Bool, true, IsTrue, List, length, nat_eq, slice_get}
 use Rattle.tocmark_rewrite.specs.declared.trees.Block.{Block}

@@ -17,7 +17,7 @@ use std::alloc::{AllocError, Global};
 /// A block that is in the new text as it is in the source.
 #[derive(Clone, Copy, Debug, PartialEq, Eq)]
 pub struct Kept {
-    /// Its events in the reading of the source: the first one, and the one behind the last.
+    /// Its events in the reading of the source: the first one, and the one after the last.
     pub first: usize,
     pub past: usize,
     /// The bytes of its lines in the source, without the last line's end.
@@ -44,7 +44,7 @@ pub enum Fate {
 pub struct RewrittenTree {
     /// Its first event.
     pub first: usize,
-    /// The event behind it.
+    /// The event after it.
     pub past: usize,
     /// The first and the last line of the source's block that it is, or that it replaces, counted from 1; none if it is new.
     pub lines: Option<(usize, usize)>,
@@ -61,7 +61,7 @@ pub struct Rewritten {
     pub trees: Vec<RewrittenTree>,
 }
 
-/// The first part behind one that copies all of these bytes; none is looked for behind one that copies later bytes.
+/// The first part after one that copies all of these bytes; none is looked for after one that copies later bytes.
 fn later_part(parts: &[Part], next: usize, from: usize, to: usize) -> Option<usize>
     ensures { IfSome result (λ at. Copies parts.now at from to) }
 {
@@ -145,7 +145,7 @@ fn tree_of(
     }
 }
 
-/// The first part from one on that copies bytes behind a place.
+/// The first part from one on that copies bytes after a place.
 fn part_behind(parts: &[Part], next: usize, place: usize) -> usize {
     for at in next..parts.len() {
         if let Some(Part::Source(_, past)) = parts.get(at)
@@ -157,7 +157,7 @@ fn part_behind(parts: &[Part], next: usize, place: usize) -> usize {
     parts.len()
 }
 
-/// The first part in which trees behind one can be kept: the one in which that was.
+/// The first part in which trees after one can be kept: the one in which that was.
 fn next_part(parts: &[Part], next: usize, plan: &Plan, fate: Fate) -> usize
     ensures { (part : ℕ) → IsKeptIn part fate → result ≡ part }
 {

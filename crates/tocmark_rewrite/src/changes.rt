@@ -159,7 +159,7 @@ impl Way {
         };
     }
 
-    /// The way that is tried behind this one, by whether new inlines can be spelled in several ways.
+    /// The way that is tried after this one, by whether new inlines can be spelled in several ways.
     fn next(self, has_texts: bool) -> Way {
         match self {
             Way::Literal if has_texts => Way::Escaped,

@@ -10,7 +10,7 @@ ghost use Rattle.tocmark_compare.specs.Given.{given_events};
 use std::alloc::{AllocError, Global};
 use tocmark_event::event::Event;
 
-/// The place behind an event: in a container its beginning, else its end.
+/// The place after an event: in a container its beginning, else its end.
 fn behind(event: &Event<'_>, range: (usize, usize)) -> usize {
     match event {
         Event::Start(_) => range.0,
@@ -18,7 +18,7 @@ fn behind(event: &Event<'_>, range: (usize, usize)) -> usize {
     }
 }
 
-/// The events that an iterator gives. One without a range has an empty one behind the event before it.
+/// The events that an iterator gives. One without a range has an empty one after the event before it.
 pub(crate) fn collected<'a, 'c, I>(
     alloc: Global,
     events: I,

@@ -7,7 +7,7 @@ use tocmark_event::event::LinkType;
 use tocmark_reader::{DefinitionPlace, ReferenceDefinition};
 use tocmark_write_texts::text_modifications::close_link;
 
-/// Whether a destination can stand as it is.
+/// Whether a destination can be as it is.
 fn is_bare(text: &str) -> bool {
     if text.is_empty() || text.contains('&') && text.contains(';') {
         return false;

@@ -171,14 +171,14 @@ pub fn shift_headings(events: &mut [(Event<'static>, (usize, usize))], shift: Sh
     }
 }
 
-/// Whether a heading of this level stands on one line.
+/// Whether a heading of this level is on one line.
 fn is_on_one_line(level: HeadingLevel) -> bool
     ensures { result ≡ is_on_one_line level }
 {
     number_of(level) > 2
 }
 
-/// Whether a heading on one line is open behind an event, by whether one is before it.
+/// Whether a heading on one line is open after an event, by whether one is before it.
 fn is_open_behind(is_open: bool, event: &Event<'_>) -> bool
     ensures { result ≡ is_open_behind is_open (event_view text_of event.now) }
 {
@@ -200,7 +200,7 @@ fn join_line(event: &mut Event<'static>)
     }
 }
 
-/// Puts a space in place of a line break in a heading on one line. Returns whether one is open behind the event.
+/// Puts a space in place of a line break in a heading on one line. Returns whether one is open after the event.
 fn join_event(event: &mut Event<'static>, is_open: bool) -> bool
     ensures event { event_view text_of event.new
         ≡ joined_event is_open (event_view text_of event.old) }

@@ -4,13 +4,13 @@ use std::alloc::{AllocError, Global};
 use tocmark_compare::event::same_event;
 use tocmark_event::event::{Event, Tag, TagEnd};
 
-/// What stands in the text for a mark. No reader finds this character in a text.
+/// What is in the text for a mark. No reader finds this character in a text.
 pub(crate) const MARK: char = '\0';
 
 /// An inline that is no text.
 #[derive(Clone, Copy)]
 pub(crate) struct Mark<'e> {
-    /// Where it stands in the text.
+    /// Where it is in the text.
     pub(crate) at: usize,
     /// The event; for an End the Start that it ends.
     pub(crate) event: &'e Event<'e>,
@@ -46,7 +46,7 @@ impl<'e> Inlines<'e> {
         Ok(inlines)
     }
 
-    /// Adds an event behind the others.
+    /// Adds an event after the others.
     pub(crate) fn add(&mut self, event: &'e Event<'e>) -> Result<(), AllocError> {
         match event {
             Event::Text(text) => self.text.push_str(text.as_ref()),
@@ -114,7 +114,7 @@ fn is_inline_end(end: TagEnd) -> bool {
     }
 }
 
-/// Whether an event stands within a leaf.
+/// Whether an event is within a leaf.
 pub(crate) fn is_inline(event: &Event<'_>) -> bool {
     match event {
         Event::Start(tag) => is_inline_tag(tag),

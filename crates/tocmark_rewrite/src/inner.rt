@@ -179,7 +179,7 @@ pub(crate) fn innermost(
     Ok(pairings)
 }
 
-/// What stands before a block on its line, with spaces for the marks of items.
+/// What is before a block on its line, with spaces for the marks of items.
 pub(crate) fn prefix_of(alloc: Global, source: &str, begins: usize) -> Result<String, AllocError> {
     let start = line_start(source.as_bytes(), begins);
     let mut prefix = String::new(alloc);
@@ -189,7 +189,7 @@ pub(crate) fn prefix_of(alloc: Global, source: &str, begins: usize) -> Result<St
     Ok(prefix)
 }
 
-/// A text of which each line but the first stands behind a prefix.
+/// A text of which each line but the first is after a prefix.
 pub(crate) fn behind_prefix(alloc: Global, text: &str, prefix: &str) -> Result<String, AllocError> {
     let mut all = String::new(alloc);
     for (at, line) in text.split('\n').enumerate() {
@@ -263,7 +263,7 @@ fn write_block<'a, R: Reader>(
     }
 }
 
-/// The patch of a block in a container, which is written by itself and stands as it did; none if it is refused.
+/// The patch of a block in a container, which is written by itself and is as it did; none if it is refused.
 pub(crate) fn block_patch<'a, R: Reader>(
     tools: &Tools<'_, '_, R>,
     source: &str,

@@ -1,4 +1,4 @@
-//! Blocks side by side: those that are kept as they stand in the source, those that were written between them.
+//! Blocks side by side: those that are kept as they are in the source, those that were written between them.
 
 ghost use Rattle.std.specs.Prelude.{IfOk, OnOk};
 ghost use Rattle.tocmark_rewrite.specs.Parts.{Builds};
@@ -12,7 +12,7 @@ use crate::plan::{Plan, behind};
 use crate::trees::{Block, gap, has_text, trimmed};
 use std::alloc::{AllocError, Global};
 
-/// What stands between two blocks of which the second would be read as a part of the first: the definition of a label that
+/// What is between two blocks of which the second would be read as a part of the first: the definition of a label that
 /// nothing uses.
 const DIVIDER: &str = "[cmark-apart-1]: <>";
 
@@ -96,7 +96,7 @@ impl Between<'_> {
     }
 }
 
-/// Two line ends, if something stands before.
+/// Two line ends, if something is before.
 fn separate(source: &str, line_end: LineEnd, output: &mut Output) -> Result<(), AllocError>
     requires { Builds source.now output.old }
     ensures { OnOk result (Builds source.now output.new) }
@@ -108,7 +108,7 @@ fn separate(source: &str, line_end: LineEnd, output: &mut Output) -> Result<(), 
     output.put_str(source, line_end.as_str())
 }
 
-/// What stands in the gaps from one block of the source on to another: definitions.
+/// What is in the gaps from one block of the source on to another: definitions.
 fn put_gaps(
     source: &str,
     between: Between<'_>,
@@ -162,11 +162,11 @@ fn copy_stretch(
 /// How the blocks are put side by side.
 #[derive(Clone, Copy, Debug)]
 pub(crate) struct Manner {
-    /// Whether a blank line stands before and behind a written block, also where the source has none.
+    /// Whether a blank line is before and after a written block, also where the source has none.
     pub(crate) apart: bool,
     /// Whether definitions that written blocks ask for take the place of the source's of these labels.
     pub(crate) redefines: bool,
-    /// Whether they stand at the end.
+    /// Whether they are at the end.
     pub(crate) defines: bool,
 }
 
@@ -214,7 +214,7 @@ fn is_wide(bytes: &[u8], from: usize, to: usize) -> bool {
     ends_between(bytes, from, first) > 1 && ends_between(bytes, past, to) > 1
 }
 
-/// The stretch of the source that stands before the block at a place as it does in the source, if there is one:
+/// The stretch of the source that is before the block at a place as it is in the source, if there is one:
 /// if no block was taken out before it, the gap before it; else, if there is no text, a gap with a blank line.
 fn stretch_before(
     source: &str,
@@ -248,7 +248,7 @@ fn stretch_before(
     }
 }
 
-/// What stands before a block.
+/// What is before a block.
 fn put_before(
     source: &str,
     between: Between<'_>,
@@ -362,13 +362,13 @@ struct Last {
     manner: Manner,
     /// The first block of the source that isn't passed.
     next: usize,
-    /// Whether a tree stands before that is new, and whether one that was kept, or none.
+    /// Whether a tree is before that is new, and whether one that was kept, or none.
     is_new: bool,
     is_kept: bool,
 }
 
 impl Last {
-    /// Whether a blank line has to stand behind it, before a block that is kept or written.
+    /// Whether a blank line has to be after it, before a block that is kept or written.
     fn is_loose(self, is_kept: bool) -> bool {
         self.is_new || self.manner.apart && !(self.is_kept && is_kept)
     }
@@ -383,7 +383,7 @@ impl Last {
     }
 }
 
-/// A tree and what stands before it.
+/// A tree and what is before it.
 fn put_tree(
     source: &str,
     between: Between<'_>,
@@ -420,7 +420,7 @@ fn put_tree(
     )
 }
 
-/// What stands behind the last tree: what is left of the source, and definitions.
+/// What is after the last tree: what is left of the source, and definitions.
 fn put_end(
     source: &str,
     between: Between<'_>,

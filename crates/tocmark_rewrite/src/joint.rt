@@ -1,5 +1,5 @@
-//! How trees stand behind one another: lists that would be read as one take different marks, and indented code that would
-//! be read as a part of the block before it stands behind a definition.
+//! How trees are after one another: lists that would be read as one take different marks, and indented code that would
+//! be read as a part of the block before it is after a definition.
 
 use crate::patch::Patch;
 use crate::pieces::Tools;
@@ -10,17 +10,17 @@ use std::alloc::{AllocError, Global};
 use tocmark_event::event::{CodeBlockKindOf, Event, Tag};
 use tocmark_event::options::Options;
 
-/// A tree, and how it stands behind the one before it.
+/// A tree, and how it is after the one before it.
 #[derive(Clone, Copy, Debug)]
 pub(crate) struct Joint {
     pub(crate) plan: Plan,
-    /// The mark of its items, if it is a list: their bullet, or the sign behind their numbers.
+    /// The mark of its items, if it is a list: their bullet, or the sign after their numbers.
     pub(crate) mark: Option<char>,
-    /// Whether a definition has to stand before it.
+    /// Whether a definition has to be before it.
     pub(crate) needs_divider: bool,
 }
 
-/// The byte behind the digits that begin at a place.
+/// The byte after the digits that begin at a place.
 fn behind_digits(source: &str, begins: usize) -> Option<usize> {
     for at in begins..source.len() {
         if !byte_at(source, at).is_ascii_digit() {
@@ -65,7 +65,7 @@ fn other_mark(mark: char, before: Option<char>, behind: Option<char>) -> char {
     other
 }
 
-/// The mark of a list, by its own, the list before it that it would meet, and the mark of the one behind it.
+/// The mark of a list, by its own, the list before it that it would meet, and the mark of the one after it.
 fn chosen_mark(own: Option<char>, before: Option<Joint>, behind: Option<char>) -> Option<char> {
     let own = own?;
     let before = match before {
@@ -143,7 +143,7 @@ impl<'e> Row<'_, 'e> {
         mark_at(self.source, block.tree.begins)
     }
 
-    /// The mark of the tree behind one, if that is a changed tree which would meet the list that is kept.
+    /// The mark of the tree after one, if that is a changed tree which would meet the list that is kept.
     fn mark_behind(
         self,
         options: Options<'_>,
@@ -177,7 +177,7 @@ impl<'e> Row<'_, 'e> {
         }
     }
 
-    /// How each tree stands behind the one before it.
+    /// How each tree is after the one before it.
     pub(crate) fn joints(
         self,
         alloc: Global,

@@ -1,4 +1,4 @@
-//! What a link by a label says: it stands in the label's definition.
+//! What a link by a label says: it is in the label's definition.
 
 use crate::destination::redirection;
 use crate::link::LinkParts;

@@ -1,7 +1,7 @@
 //! Writes an edited document: what you didn't change stays byte for byte, and the new text parses to the edited events.
 //!
 //! The writer (`tocmark_state`) writes the blocks that can't be patched, and `tocmark_compare` compares events. Programs that
-//! change documents stand above this crate. Start at `edits`, which has common changes of events, and at `rewritten`
+//! change documents are above this crate. Start at `edits`, which has common changes of events, and at `rewritten`
 //! (`rewrite`).
 //!
 //! `trees` cuts events into their trees, and finds the lines of these; `line_end` says what ends them. `plan` finds which
@@ -9,7 +9,7 @@
 //! where `hunks` differ; a `marker` spells new ones) and of links (`link`), with their `destination` and `title`, or those
 //! of the `label`'s definition, which `definition_reader` finds. `inner` writes the changed blocks in a tree, and `changes`
 //! finds the smallest patches of each tree. `pieces` writes changed trees, which `given` lends to a state, whose reader is
-//! that of `unit_reader`. `joint` decides how trees stand behind one another, and `join` puts them side by side. All leave a
+//! that of `unit_reader`. `joint` decides how trees are after one another, and `join` puts them side by side. All leave a
 //! list of parts (`output`), whose text is parsed; `labels` compares the labels that it defines. `answer` says what became
 //! of each tree, and `fault` why there is no text.
 //!

@@ -61,7 +61,7 @@ impl LineEnd {
         LineEnd::Feed
     }
 
-    /// The line end behind some lines, or else the one before them, or else `common`.
+    /// The line end after some lines, or else the one before them, or else `common`.
     pub(crate) fn beside(bytes: &[u8], from: usize, to: usize, common: LineEnd) -> LineEnd {
         match LineEnd::at(bytes, to) {
             Some(end) => end,

@@ -54,7 +54,7 @@ pub(crate) fn link_parts<'t>(event: &'t Event<'_>) -> Option<LinkParts<'t>> {
 pub(crate) struct LinkChange<'o, 'n> {
     /// Where it begins and ends in the source.
     pub(crate) range: (usize, usize),
-    /// The byte behind its text.
+    /// The byte after its text.
     pub(crate) inner: usize,
     pub(crate) old: LinkParts<'o>,
     pub(crate) new: LinkParts<'n>,

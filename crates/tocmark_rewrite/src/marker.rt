@@ -59,7 +59,7 @@ impl Markers {
         format!(in alloc; "{ticks}{padding}{inside}{padding}{ticks}")
     }
 
-    /// What stands before or behind the content of a container; none if that isn't known.
+    /// What is before or after the content of a container; none if that isn't known.
     fn tag(self, alloc: Global, tag: &Tag<'_>, is_end: bool) -> Result<Option<String>, AllocError> {
         let marker = match tag {
             Tag::Emphasis => self.emphasis(),
@@ -89,7 +89,7 @@ impl Markers {
     }
 }
 
-/// What stands behind the text of an inline link or image; none for other ones.
+/// What is after the text of an inline link or image; none for other ones.
 fn link_end(alloc: Global, tag: &Tag<'_>) -> Result<Option<String>, AllocError> {
     match tag {
         Tag::Link {

@@ -9,7 +9,7 @@ use std::alloc::{AllocError, Global};
 /// A part of the new text.
 #[derive(Debug, Drop)]
 pub enum Part {
-    /// These bytes of the source: the first one, and the one behind the last.
+    /// These bytes of the source: the first one, and the one after the last.
     Source(usize, usize),
     /// A text that was written.
     Written(String),

@@ -62,13 +62,13 @@ pub struct Patches {
     pub markers: Markers,
     /// Whether the spelling of some inline is a choice.
     pub has_texts: bool,
-    /// The Starts that are open: where each stands in the events that the reader found, and in those that were given.
+    /// The Starts that are open: where each is in the events that the reader found, and in those that were given.
     open: Vec<(usize, usize)>,
-    /// Whether a text stands as it is, as in code.
+    /// Whether a text is as it is, as in code.
     is_raw: bool,
 }
 
-/// What stands in the place of one event, or of a run of neighbours.
+/// What is in the place of one event, or of a run of neighbours.
 #[derive(Clone, Copy)]
 struct Step {
     /// The stretch of the events that the reader found.
@@ -77,7 +77,7 @@ struct Step {
     new: (usize, usize),
 }
 
-/// Whether an event opens a block whose texts stand as they are.
+/// Whether an event opens a block whose texts are as they are.
 fn opens_raw(event: &Event<'_>) -> bool {
     match event {
         Event::Start(Tag::CodeBlock(_)) => true,
@@ -143,7 +143,7 @@ fn step_end(events: &[(Event<'_>, (usize, usize))], first: usize, runs: Runs) ->
     events.len()
 }
 
-/// What stands in the place of each event, and of each run; none if these aren't as many.
+/// What is in the place of each event, and of each run; none if these aren't as many.
 fn steps(
     alloc: Global,
     old: &[(Event<'_>, (usize, usize))],
@@ -328,7 +328,7 @@ impl Patches {
         run.add_patches(alloc, source, &texts, manner, &mut self.list)
     }
 
-    /// Texts that stand as they are, as in code: each by itself if there are as many.
+    /// Texts that are as they are, as in code: each by itself if there are as many.
     fn raw_texts<'e>(
         &mut self,
         alloc: Global,

@@ -105,7 +105,7 @@ fn fault_of(error: Error) -> Error {
     }
 }
 
-/// The definitions in front of a tree, where they stand if it holds code or HTML, and the tree's text.
+/// The definitions in front of a tree, where they are if it holds code or HTML, and the tree's text.
 fn split_definitions(text: &str) -> (&str, &str) {
     let is_front = !text.starts_with("[^") && definition_at(text.as_bytes(), 0).is_some();
     match text.split_once("\n\n") {
@@ -143,7 +143,7 @@ pub fn write_with<'a, R: Reader>(
     Ok(Piece { body, definitions })
 }
 
-/// A tree that begins at a byte of the source, written with the marker that stands there.
+/// A tree that begins at a byte of the source, written with the marker that is there.
 pub(crate) fn write_tree<'a, R: Reader>(
     tools: &Tools<'_, '_, R>,
     source: &str,
@@ -251,7 +251,7 @@ impl Definitions {
         Ok(all)
     }
 
-    /// Adds those of the source that stand in blocks which aren't kept, the first one of each label.
+    /// Adds those of the source that are in blocks which aren't kept, the first one of each label.
     pub(crate) fn add_lost(
         &mut self,
         alloc: Global,

@@ -1,4 +1,4 @@
-//! Which trees of the edited events stand in the source as they are.
+//! Which trees of the edited events are in the source as they are.
 
 ghost use Rattle.std.specs.Prelude.{◌≡◌, ◌↔◌, ◌<◌, ◌+◌, ◌^◌, ℕ, IfOk, IfSome, IsSome, IsTrue, Some, map, slice_get, slice_range};
 ghost use Rattle.std.specs.List.{All};
@@ -23,7 +23,7 @@ pub struct Plan {
     pub kept: Option<Block>,
 }
 
-/// The events of a stretch; what ends behind the last event ends there.
+/// The events of a stretch; what ends after the last event ends there.
 fn stretch<'e>(
     events: &'e [(Event<'e>, (usize, usize))],
     first: usize,
@@ -94,7 +94,7 @@ impl Documents<'_, '_> {
         }
     }
 
-    /// Whether the tree behind one that begins where a block does is that block, as it was.
+    /// Whether the tree after one that begins where a block does is that block, as it was.
     fn is_taken(
         &self,
         alloc: Global,
@@ -197,7 +197,7 @@ impl Documents<'_, '_> {
     }
 }
 
-/// The first block that isn't passed behind a tree, by that before it.
+/// The first block that isn't passed after a tree, by that before it.
 pub(crate) fn behind(next: usize, plan: &Plan) -> usize
     ensures { (place : ℕ) → plan.now.stands_for ≡ Some place → place < 2 ^ 63
         → result ≡ place + 1 }
@@ -231,7 +231,7 @@ fn is_changed_before(plans: &[Plan], at: usize) -> bool {
     }
 }
 
-/// Releases the misread trees that were kept beside a change, so that they are written: those behind it at distance 0, those
+/// Releases the misread trees that were kept beside a change, so that they are written: those after it at distance 0, those
 /// before it at distance 1. None if there are no such trees.
 fn loosened_at(
     alloc: Global,
@@ -254,7 +254,7 @@ fn loosened_at(
     Ok(if is_looser { Some(loose) } else { None })
 }
 
-/// Releases the misread trees that were kept directly behind a change. If there are none, it releases those directly before
+/// Releases the misread trees that were kept directly after a change. If there are none, it releases those directly before
 /// one. None if there are none there either.
 pub(crate) fn loosened(
     alloc: Global,
@@ -293,7 +293,7 @@ pub(crate) fn lines_of(blocks: &[Block], plan: &Plan) -> Option<(usize, usize)> 
     Some(block.lines)
 }
 
-/// Where a tree stands.
+/// Where a tree is.
 pub(crate) fn place_of(blocks: &[Block], plan: &Plan) -> Place {
     Place {
         event: plan.tree.first,

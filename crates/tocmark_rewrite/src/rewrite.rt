@@ -37,7 +37,7 @@ use tocmark_event::event::{Event, ParserOptions};
 use tocmark_event::options::Options;
 use tocmark_event::reader::{Reader, Reading};
 
-/// The source as it stands.
+/// The source as it is.
 fn whole(alloc: Global, source: &str) -> Result<Output, AllocError>
     ensures text { IfOk result (λ output. string_bytes output.text ≡ source.now) }
     ensures parts { IfOk result (λ output. Builds source.now output) }
@@ -585,7 +585,7 @@ pub fn rewritten_slice<'a, R: DefinitionReader>(
 ///   replaced. The destination of a link by label is replaced in the label's definition.
 /// - If a word was made strong, emphasized, struck through, code or a link, or isn't any more, just the delimiters change.
 /// - If more was changed, the innermost block or item with a change is written again, or else the block at the top.
-/// - If blocks at the top were added or removed, the others keep their lines but for such changes, and so does what stands
+/// - If blocks at the top were added or removed, the others keep their lines but for such changes, and so does what is
 ///   between them.
 /// - If a block beside a change would be parsed otherwise there, it is written again, too.
 ///

@@ -18,7 +18,7 @@ pub(crate) fn behind_white(source: &str, from: usize) -> usize {
     source.len()
 }
 
-/// The byte behind a run of one byte.
+/// The byte after a run of one byte.
 pub(crate) fn run_end(source: &str, from: usize, byte: u8) -> usize {
     for k in from..source.len() {
         if byte_at(source, k) != byte {

@@ -5,7 +5,7 @@ use crate::patch::Patch;
 use std::alloc::{AllocError, Global};
 use tocmark_reader::DefinitionPlace;
 
-/// A title as it is spelled, behind a space; nothing for the empty one.
+/// A title as it is spelled, after a space; nothing for the empty one.
 pub(crate) fn spelled_title(alloc: Global, text: &str) -> Result<String, AllocError> {
     let closing = closing(alloc, "a", text)?;
     let end = closing.len().saturating_sub(1);

@@ -1,4 +1,4 @@
-//! The trees at the top of a list of events, and the lines of the source that they stand on.
+//! The trees at the top of a list of events, and the lines of the source that they are on.
 
 ghost use Rattle.std.specs.Prelude.{◌≡◌, ◌≤◌, ◌<◌, ◌^◌, ◌⊎◌, IfOk, length, map};
 ghost use Rattle.std.specs.List.{All};
@@ -17,7 +17,7 @@ use tocmark_event::event::Event;
 pub struct Tree {
     /// Its first event.
     pub first: usize,
-    /// The event behind it.
+    /// The event after it.
     pub past: usize,
     /// Where it begins and ends in the source, as its first event says.
     pub begins: usize,
@@ -54,7 +54,7 @@ fn is_blank_at(bytes: &[u8], at: usize) -> bool
     }
 }
 
-/// The first byte of the line on which a byte stands.
+/// The first byte of the line on which a byte is.
 pub fn line_start(bytes: &[u8], at: usize) -> usize
     ensures { result ≤ at }
 {
@@ -68,7 +68,7 @@ pub fn line_start(bytes: &[u8], at: usize) -> usize
     0
 }
 
-/// The end of the line on which a byte stands.
+/// The end of the line on which a byte is.
 pub fn line_end(bytes: &[u8], at: usize) -> usize
     ensures ends { result ≤ length bytes.now }
     ensures follows { at ≤ result ⊎ length bytes.now ≤ result }
@@ -83,7 +83,7 @@ pub fn line_end(bytes: &[u8], at: usize) -> usize
     bytes.len()
 }
 
-/// The byte behind the last one of a stretch that isn't blank; the first one if all are.
+/// The byte after the last one of a stretch that isn't blank; the first one if all are.
 fn past_text(bytes: &[u8], from: usize, to: usize) -> usize
     ensures { AreBlank bytes.now result to }
 {
@@ -113,7 +113,7 @@ pub fn has_text(bytes: &[u8], from: usize, to: usize) -> bool {
     false
 }
 
-/// The stretch without blank lines before it and blank bytes behind it.
+/// The stretch without blank lines before it and blank bytes after it.
 pub fn trimmed(bytes: &[u8], from: usize, to: usize) -> (usize, usize) {
     let mut first = from;
     for k in from..to {
@@ -142,7 +142,7 @@ impl LineCounter {
         LineCounter { at: 0, ended: 0 }
     }
 
-    /// The number of the line on which a byte stands, counted from 1; bytes are asked for in their order.
+    /// The number of the line on which a byte is, counted from 1; bytes are asked for in their order.
     fn line_of(&mut self, bytes: &[u8], at: usize) -> usize {
         for k in self.at..at.min(bytes.len()) {
             let next = bytes.get(k.saturating_add(1));
@@ -173,7 +173,7 @@ fn tree_at(events: &[(Event<'_>, (usize, usize))], first: usize, past: usize) ->
     }
 }
 
-/// How many containers are open behind an event.
+/// How many containers are open after an event.
 fn depth_behind(depth: usize, event: &Event<'_>) -> usize
     requires { depth < 2 ^ 63 }
     ensures { result ≡ depth_behind depth (event_view text_of event.now) }

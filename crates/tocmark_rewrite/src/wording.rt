@@ -15,9 +15,9 @@ use tocmark_event::event::Event;
 /// How the texts of a changed run are spelled. The ways are tried in this order.
 #[derive(Clone, Copy, Debug, PartialEq, Eq)]
 pub enum Spelling {
-    /// New characters stand as they are, and the others keep the bytes of the source.
+    /// New characters are as they are, and the others keep the bytes of the source.
     Literal,
-    /// A backslash stands before each new character that may be taken for a mark. The others keep the bytes of the source.
+    /// A backslash is before each new character that may be taken for a mark. The others keep the bytes of the source.
     Escaped,
     /// The whole run is escaped.
     Anew,
@@ -51,7 +51,7 @@ pub(crate) struct Run<'e> {
     /// The bytes of the source that spell it, with a backslash before it if that escapes its first character.
     from: usize,
     to: usize,
-    /// Whether a text stands as it is, as in code.
+    /// Whether a text is as it is, as in code.
     is_raw: bool,
 }
 
@@ -62,7 +62,7 @@ pub(crate) struct Manner {
     pub(crate) markers: Markers,
 }
 
-/// Where an event begins: a text with the backslash that escapes its first character, an End behind the text of its link.
+/// Where an event begins: a text with the backslash that escapes its first character, an End after the text of its link.
 fn start_of(source: &str, pair: &(Event<'_>, (usize, usize))) -> usize {
     let begins = pair.1.0;
     let before = begins.saturating_sub(1);
@@ -107,7 +107,7 @@ impl<'e> Run<'e> {
         Ok(run)
     }
 
-    /// Adds an event, by the one behind it.
+    /// Adds an event, by the one after it.
     fn add(
         &mut self,
         source: &str,
@@ -185,7 +185,7 @@ impl<'e> Run<'e> {
         self.inlines.text.as_str() == text
     }
 
-    /// The cut before the stretch with a number: in code where the line begins, else behind what stands before it.
+    /// The cut before the stretch with a number: in code where the line begins, else after what is before it.
     fn cut_at(&self, number: usize) -> Cut {
         let mut cut = Cut {
             text: 0,

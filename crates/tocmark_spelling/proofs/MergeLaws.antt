@@ -11,7 +11,7 @@ abbrev begins_with_text : List EventView → Bool
 begins_with_text [] = false
 begins_with_text (e ∷ es) = is_text e
 
--- no text stands just after a text
+-- no text is just after a text
 abbrev IsApart : List EventView → Type 0
 IsApart [] = Unit {0}
 IsApart (e ∷ es) = (is_text e ≡ true → begins_with_text es ≡ false) × IsApart es

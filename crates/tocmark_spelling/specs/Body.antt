@@ -1,4 +1,4 @@
--- What stands in the body of a container.
+-- What is in the body of a container.
 use Rattle.std.specs.Prelude.{ℕ, ◌+◌, Bool, true, false, not, ◌&&◌, ◌||◌, ◌==◌, if◌then◌else◌, Option, Some, None, List, [], ◌∷◌, ◌++◌}
 use Rattle.tocmark_event.specs.View.{TagView, LeafView, SourcedLeaf, SourcedEvent, Start, End, Leaf, Text, Html, InlineHtml, SoftBreak, HardBreak, Rule, end_of}
 use Rattle.tocmark_event.specs.Forest.{Forest, empty, leaf, node}
@@ -60,11 +60,11 @@ count_children count empty = 0
 count_children count (leaf l f) = count_children count f
 count_children count (node t kids f) = count kids + count_children count f
 
--- a list is tight if something inline stands directly in its children, and no Paragraph does
+-- a list is tight if something inline is directly in its children, and no Paragraph is
 abbrev pub is_tight : Trees → Bool
 is_tight kids = some_child has_inline kids && not (some_child (has_tag is_paragraph) kids)
 
--- a list with one Item, in whose children stands one block, a Paragraph
+-- a list with one Item, in whose children is one block, a Paragraph
 abbrev pub has_lone_paragraph : Trees → Bool
 has_lone_paragraph kids =
     (count_tags is_item kids == 1) && (count_children (count_tags (λ t. not (is_inline_tag t))) kids == 1)

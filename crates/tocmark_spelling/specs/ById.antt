@@ -41,12 +41,12 @@ abbrev pub reads_as : Setting → List ℕ → TagView → List ℕ → Trees �
 reads_as s mark t id body =
     is_one_link t (merged_trees body) (merged (events_of (s.reading (mark ++ codes "[" ++ id ++ codes "](cmark-label)") s.flags)))
 
--- whether the id of such a link or image stands in place of its body, where its type lets it
+-- whether the id of such a link or image is in place of its body, where its type lets it
 abbrev pub by_id_of : Bool → Setting → List ℕ → TagView → List ℕ → Trees → Bool
 by_id_of true s mark t id body = reads_as s mark t id body
 by_id_of false s mark t id body = false
 
--- whether a container is a Collapsed or Shortcut link or image whose id stands in place of its body
+-- whether a container is a Collapsed or Shortcut link or image whose id is in place of its body
 unfoldable pub by_id : Setting → TagView → Trees → Bool
 by_id s (Link k d t i) body = by_id_of (goes_by_id k) s [] (Link k d t i) i body
 by_id s (Image k d t i) body = by_id_of (goes_by_id k) s (codes "!") (Image k d t i) i body

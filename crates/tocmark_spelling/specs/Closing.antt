@@ -38,17 +38,17 @@ close_block t owed path p = left path (with_owed owed (ended t p))
 abbrev pub close_plain : TagView → Path → Page → Site
 close_plain t path p = left path (ended t p)
 
--- a heading's id behind a space and `#`; nothing if it has none
+-- a heading's id after a space and `#`; nothing if it has none
 abbrev pub id_text : Option (List ℕ) → List ℕ
 id_text None = []
 id_text (Some id) = codes " #" ++ id
 
--- an attribute's value behind `=`; nothing if it has none
+-- an attribute's value after `=`; nothing if it has none
 abbrev pub value_text : Option (List ℕ) → List ℕ
 value_text None = []
 value_text (Some value) = codes "=" ++ value
 
--- an attribute of a heading behind a space, with its value if it has one
+-- an attribute of a heading after a space, with its value if it has one
 abbrev pub attribute_text : List ℕ × Option (List ℕ) → List ℕ
 attribute_text a = codes " " ++ a.0 ++ value_text a.1
 
@@ -95,7 +95,7 @@ abbrev pub close_code : OptionsView → TagView → OpeningChoice → Path → P
 close_code o t c path p =
     close_block t (max o.newlines_after_codeblock 2) path (written path (fence_closing c p.sheet.feeds) (with_raw_end p))
 
--- what was written last behind an HTML block: the block, only if a blank line ends it (CommonMark, section 4.6)
+-- what was written last after an HTML block: the block, only if a blank line ends it (CommonMark, section 4.6)
 abbrev pub html_last : Bool → Last
 html_last true = BlockEnd (end_of HtmlBlock)
 html_last false = Other
@@ -219,7 +219,7 @@ close_metadata o kind path p = close_block (MetadataBlock kind) (metadata_owes o
 abbrev pub close_inline : List ℕ → Path → Page → Site
 close_inline text path p = left path (with_last Inline (written path text p))
 
--- what stands after the body of a delimited container
+-- what is after the body of a delimited container
 abbrev pub closing_token : OpeningChoice → List ℕ
 closing_token (Delimited before after) = after
 closing_token c = []
@@ -238,7 +238,7 @@ abbrev pub needs_id : OpeningChoice → List ℕ → Bool
 needs_id (Named true) id = false
 needs_id c id = not (length id == 0)
 
--- the label is what stands in the unit's text behind the opening, prefixes included
+-- the label is what is in the unit's text after the opening, prefixes included
 abbrev pub close_with_body : List ℕ → Level → List ℕ → List ℕ → List ℕ → Path → Page → Site
 close_with_body text l dest title id path p =
     if needs_id l.content id then close_with_id dest title id path p

@@ -40,7 +40,7 @@ edge_after e = edge first_character e
 abbrev pub no_flags : ParserOptions
 no_flags = record { 0 = 0 }
 
--- whether the reader opens emphasis behind a character
+-- whether the reader opens emphasis after a character
 abbrev pub opens_behind : Setting → ℕ → Bool
 opens_behind s c = list_any (λ e. starts is_emphasis e) (events_of (s.reading (encode_utf8 c ++ codes "_x_") no_flags))
 

@@ -35,11 +35,11 @@ is_definition_end l = false
 abbrev pub resumed : EventView → Trail → Trail
 resumed e t = record t { last_list = if starts is_list e then t.last_list else None; raw_end = false }
 
--- a list inside a list begins on a new line, but not right behind its item's marker
+-- a list inside a list begins on a new line, but not right after its item's marker
 abbrev pub raised_for_list : EventView → Path → Trail → Trail
 raised_for_list e path t = if starts is_list e && is_in is_list path && not (is_item_opening t.last) then raised 1 t else t
 
--- a blank line stands between a definition and the next title
+-- a blank line is between a definition and the next title
 abbrev pub raised_for_title : EventView → Trail → Trail
 raised_for_title e t = if is_definition_end t.last && starts is_definition_title e then raised 2 t else t
 
@@ -116,11 +116,11 @@ abbrev pub joins_list : EventView → Last → Bool
 joins_list e (ListEnd t) = could_join e t
 joins_list e l = false
 
--- a blank line stands between an inner list and what could go on with its last item
+-- a blank line is between an inner list and what could go on with its last item
 abbrev pub raised_after_list : EventView → Trail → Trail
 raised_after_list e t = if joins_list e t.last then raised 2 t else t
 
--- blank lines stand between the items of a list that isn't tight
+-- blank lines are between the items of a list that isn't tight
 abbrev pub raised_for_item : EventView → Path → Trail → Trail
 raised_for_item e path t = if starts is_item e && is_in_loose_list path && is_item_end t.last then raised 2 t else t
 

@@ -30,11 +30,11 @@ abbrev pub is_blank_terminated : Option (List ℕ) → Bool
 is_blank_terminated None = false
 is_blank_terminated (Some html) = ends_at_blank (trim_start html)
 
--- whether the end tag of some raw text stands in it, in capitals or not (CommonMark, section 4.6)
+-- whether the end tag of some raw text is in it, in capitals or not (CommonMark, section 4.6)
 abbrev pub holds_end_tag : List ℕ → Bool
 holds_end_tag text = list_any (λ raw. holds (str_to_ascii_lowercase text) (codes "</" ++ raw ++ codes ">")) raw_names
 
--- whether the end of the block that begins so stands in it
+-- whether the end of the block that begins so is in it
 abbrev pub holds_its_end : List ℕ → Bool
 holds_its_end text =
     if begins_with text (codes "<!--") then holds text (codes "-->")

@@ -1,4 +1,4 @@
--- What an opening may ask of its body and of what stands round the container.
+-- What an opening may ask of its body and of what is round the container.
 use Rattle.std.specs.Prelude.{ℕ, Bool, true, false, not, Option, List}
 use Rattle.tocmark_event.specs.View.{TagView, EventView}
 use Rattle.tocmark_spelling.specs.Plan.{Setting, Manner}
@@ -10,7 +10,7 @@ use Rattle.tocmark_spelling.specs.ById.{by_id}
 use Rattle.tocmark_spelling.specs.Runs.{Run, opening_run, closing_run, opening_width, prefers_underscore, inside}
 use Rattle.tocmark_spelling.specs.Page.{Around, front, following}
 
--- what an opening may ask: what stands round the container, its runs of markers, and what its body is like
+-- what an opening may ask: what is round the container, its runs of markers, and what its body is like
 pub record Look : Type 0 where
   -- the event before the container, the one after it in the unit, and the one after it beyond the unit's end too
   pub previous : Option EventView
@@ -46,7 +46,7 @@ abbrev pub prefers_if : Bool → Setting → Manner → TagView → Trees → Ar
 prefers_if true s m t kids a = prefers_underscore s (not (is_preferred m.plan.layout)) kids a
 prefers_if false s m t kids a = false
 
--- what an opening may ask; `a` says where the container stands
+-- what an opening may ask; `a` says where the container is
 abbrev pub look : Setting → Manner → TagView → Trees → Around → Look
 look s m t kids a = record {
   previous = front a.before;

@@ -1,4 +1,4 @@
--- A machine over flat events, which stands where the spelling of their forest does.
+-- A machine over flat events, which is where the spelling of their forest is.
 use Rattle.std.specs.Prelude.{ℕ, zero, suc, Bool, true, false, Option, Some, None, List, [], ◌∷◌}
 use Rattle.tocmark_event.specs.View.{TagView, SourcedEvent, EventView, Start, End, Leaf}
 use Rattle.tocmark_event.specs.Forest.{empty, leaf, node}
@@ -13,7 +13,7 @@ use Rattle.tocmark_spelling.specs.Closing.{closing}
 use Rattle.tocmark_spelling.specs.Stretch.{leaf_on}
 use Rattle.tocmark_spelling.specs.Spelling.{skips_body, id_on}
 
--- the trees that stand before the first End of a container that is open, and those before each further such End
+-- the trees that are before the first End of a container that is open, and those before each further such End
 pub record Layers : Type 0 where
   pub inner : Trees
   pub outer : List Trees
@@ -27,7 +27,7 @@ abbrev pub with_node : TagView → Trees → List Trees → Layers
 with_node t kids [] = record { inner = node t kids empty; outer = [] }
 with_node t kids (f ∷ fs) = record { inner = node t kids f; outer = fs }
 
--- the layers behind an End: inside the container that it ends nothing stands yet
+-- the layers after an End: inside the container that it ends nothing is yet
 abbrev pub with_end : Layers → Layers
 with_end l = record { inner = empty; outer = l.inner ∷ l.outer }
 
@@ -38,11 +38,11 @@ layers (Leaf l ∷ es) = with_leaf (layers es) (leaf l)
 layers (Start t ∷ es) = with_node t (layers es).inner (layers es).outer
 layers (End k ∷ es) = with_end (layers es)
 
--- the body of a container behind whose Start these events stand, as trees
+-- the body of a container after whose Start these events are, as trees
 abbrev pub kids_of : List SourcedEvent → Trees
 kids_of es = (layers es).inner
 
--- the events behind the End of the container that is open with so many others inside it; none where it isn't closed
+-- the events after the End of the container that is open with so many others inside it; none where it isn't closed
 abbrev pub behind_end : ℕ → List SourcedEvent → Option (List SourcedEvent)
 behind_end d [] = None
 behind_end d (Leaf l ∷ es) = behind_end d es
@@ -50,7 +50,7 @@ behind_end d (Start t ∷ es) = behind_end (suc d) es
 behind_end zero (End k ∷ es) = Some es
 behind_end (suc d) (End k ∷ es) = behind_end d es
 
--- where the machine stands, with the events so far, the last one first: it goes on, or skips a body whose id is written,
+-- where the machine is, with the events so far, the last one first: it goes on, or skips a body whose id is written,
 -- with so many containers open in it, or it has refused an event
 pub data Machine : Type 0 where
   going : Site → List SourcedEvent → Machine
@@ -72,12 +72,12 @@ abbrev pub entered : Bool → TagView → Site → List SourcedEvent → Machine
 entered true t here before = skip (id_on t here) before
 entered false t here before = going here before
 
--- behind the opening of a container: its body comes, or its id; where the opening is refused, so is the event
+-- after the opening of a container: its body comes, or its id; where the opening is refused, so is the event
 abbrev pub started : TagView → Option Site → List SourcedEvent → Machine
 started t (Some here) before = entered (skips_body here.path) t here before
 started t None before = refused
 
--- where an event stands: those before it, the last one first, those after it, and what flushes the unit
+-- where an event is: those before it, the last one first, those after it, and what flushes the unit
 abbrev pub around : List SourcedEvent → List SourcedEvent → Option EventView → Around
 around before after next = record { before = before; after = after; next = next }
 
@@ -95,7 +95,7 @@ begun_if s m next t kids None here before = refused
 abbrev pub ended : Setting → TagEnd → Site → List SourcedEvent → Machine
 ended s k here before = arrive (closing s.options here.path here.page) (End k ∷ before)
 
--- one event, behind which these stand
+-- one event, after which these are
 abbrev pub step : Setting → Manner → Option EventView → SourcedEvent → List SourcedEvent → Machine → Machine
 step s m next e rest refused = refused
 step s m next (Leaf l) rest (going here before) = going (leaf_on s m l (around before rest next) here.path here.page) (Leaf l ∷ before)

@@ -21,12 +21,12 @@ use Rattle.tocmark_spelling.specs.Places.{nearest}
 abbrev pub other_marker : ℕ → ℕ
 other_marker c = if c == asterisk then underscore else asterisk
 
--- what stands before the body of a delimited container
+-- what is before the body of a delimited container
 abbrev pub opening_token : OpeningChoice → List ℕ
 opening_token (Delimited open_token close_token) = open_token
 opening_token c = []
 
--- what stands before the body of an open container, if there is one
+-- what is before the body of an open container, if there is one
 abbrev pub token_of : Option Level → Option (List ℕ)
 token_of None = None
 token_of (Some l) = Some (opening_token l.content)
@@ -46,11 +46,11 @@ abbrev pub asked_marker : Markers → TagView → ℕ
 asked_marker m Strong = slice_index m.strong 0
 asked_marker m t = m.emphasis
 
--- `_` may stand on both sides
+-- `_` may be on both sides
 abbrev pub fits_underscore : Setting → Option ℕ → Option ℕ → Bool
 fits_underscore s before after = is_boundary s before && is_boundary s after
 
--- the preferred marker of Emphasis: `_` if it is preferred and may stand here, else the one asked for, but not the one
+-- the preferred marker of Emphasis: `_` if it is preferred and may be here, else the one asked for, but not the one
 -- of the Emphasis around it
 abbrev pub preferred_marker : Setting → List ℕ → Look → Path → Page → List ℕ
 preferred_marker s t l path p =
@@ -161,13 +161,13 @@ inside_parent s layout c t l None p = c
 inside_parent s layout c t l (Some parent) p =
     if shares_marker s layout t l parent p then marker_of parent else other_marker (marker_of parent)
 
--- the marker by shared runs or the rule of three, but for a marker that stands beside it in a Text
+-- the marker by shared runs or the rule of three, but for a marker that is beside it in a Text
 abbrev pub marker_by_sharing : Setting → Layout → ℕ → TagView → Look → Path → Page → ℕ
 marker_by_sharing s layout c t l path p =
     if ends_delimiter l.previous then after_closing layout l p
     else inside_parent s layout c t l (nearest is_emphasis_or_strong path) p
 
--- with literal texts: the marker that stands in a Text before or after
+-- with literal texts: the marker that is in a Text before or after
 abbrev pub literal_marker : TextSpelling → Look → Option ℕ
 literal_marker LiteralEntities l = or_else l.opening.literal_before l.closing.literal_after
 literal_marker text l = None

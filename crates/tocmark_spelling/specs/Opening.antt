@@ -32,7 +32,7 @@ use Rattle.tocmark_spelling.specs.declared.list_choice.ListChoice.{ListChoice}
 abbrev pub entered : TagView → List ℕ → OpeningChoice → Path → Page → Option Site
 entered t prefix c path p = Some (record { path = record { tag = t; prefix = prefix; start = length p.sheet.text; content = c } ∷ path; page = p })
 
--- the same where it may stand here
+-- the same where it may be here
 abbrev pub entered_if : Bool → TagView → List ℕ → OpeningChoice → Path → Page → Option Site
 entered_if true t prefix c path p = entered t prefix c path p
 entered_if false t prefix c path p = None
@@ -55,12 +55,12 @@ abbrev pub heading_mark : HeadingLevel → Bool → List ℕ
 heading_mark level true = []
 heading_mark level false = replicate (level_number level) hash ++ codes " "
 
--- a heading, which may not stand in a heading
+-- a heading, which may not be in a heading
 abbrev pub open_heading : TagView → HeadingLevel → Look → Path → Page → Option Site
 open_heading t level l path p =
     entered_if (not (is_in is_heading path)) t [] (Underlined l.broken) path (written path (heading_mark level l.broken) p)
 
--- a block that needs a line of its own begins one, but not right behind an item's marker
+-- a block that needs a line of its own begins one, but not right after an item's marker
 abbrev pub on_new_line : Path → Page → Page
 on_new_line path p = if (p.sheet.feeds == 0) && not (at_item_start path p) then written path (codes "\n") p else p
 
@@ -78,7 +78,7 @@ abbrev pub without_space : Bool → List ℕ → List ℕ
 without_space true text = drop 1 text
 without_space false text = text
 
--- a quote (CommonMark, section 5.1); its first line is its own, but behind an item's marker
+-- a quote (CommonMark, section 5.1); its first line is its own, but after an item's marker
 abbrev pub open_quote : Option BlockQuoteKind → Path → Page → Option Site
 open_quote kind path p =
     let at_item = at_item_start path p in
@@ -91,7 +91,7 @@ open_indented path p =
     entered (CodeBlock Indented) (codes "    ") Plain path
     (if at_item_start path p then written path (codes "    ") p else on_new_line path p)
 
--- the preferred token, but `~` where a backtick couldn't stand before this info string
+-- the preferred token, but `~` where a backtick couldn't be before this info string
 abbrev pub fence_token : OptionsView → List ℕ → ℕ
 fence_token o info = if (o.code_block_token == backtick) && list_any (λ b. b == backtick) info then 126 else o.code_block_token
 
@@ -147,7 +147,7 @@ abbrev pub continues_list : Option LastList → ℕ → Option ℕ → ℕ → B
 continues_list None depth number token = false
 continues_list (Some l) depth number token = (l.depth == depth) && same_truth l.ordered (is_some number) && (l.token == token)
 
--- the preferred token; a bullet list right behind another one's marker takes another
+-- the preferred token; a bullet list right after another one's marker takes another
 abbrev pub first_token : OptionsView → Option ℕ → Path → Page → ℕ
 first_token o (Some number) path p = o.ordered_list_token
 first_token o None path p =
@@ -211,7 +211,7 @@ abbrev pub item_in : Setting → OpeningChoice → Level → Look → Path → P
 item_in s (Listed c) list l outside p = item_with s c list l outside p
 item_in s c list l outside p = None
 
--- an item, which stands directly in a list alone
+-- an item, which is directly in a list alone
 abbrev pub open_item : Setting → Look → Path → Page → Option Site
 open_item s l [] p = None
 open_item s l (list ∷ outside) p = item_in s list.content list l outside p
@@ -220,7 +220,7 @@ open_item s l (list ∷ outside) p = item_in s list.content list l outside p
 abbrev pub open_footnote : List ℕ → Path → Page → Option Site
 open_footnote label path p = entered (FootnoteDefinition label) (codes "    ") Plain path (written path (codes "[^" ++ label ++ codes "]: ") p)
 
--- a title in a definition list, on a line of its own, but not right behind an item's marker
+-- a title in a definition list, on a line of its own, but not right after an item's marker
 abbrev pub open_title : Path → Page → Option Site
 open_title path p =
     open_plain DefinitionListTitle path
@@ -232,11 +232,11 @@ open_definition l path p =
     entered DefinitionListDefinition (codes "  ") (Defined l.has_paragraph) path
     (written path (codes ": ") (if l.begins_paragraph then filled_to 2 path p else p))
 
--- a table's head, which stands directly in a table alone
+-- a table's head, which is directly in a table alone
 abbrev pub open_head : Path → Page → Option Site
 open_head path p = entered_if (is_directly_in is_table path) TableHead [] Plain path p
 
--- a cell, which stands in a table alone
+-- a cell, which is in a table alone
 abbrev pub open_cell : Path → Page → Option Site
 open_cell path p = entered_if (is_in is_table path) TableCell [] (Width 0) path (written path (codes "|") p)
 
@@ -297,7 +297,7 @@ open_named t mark l path p = entered t [] (Named l.named) path (written path mar
 abbrev pub link_mark : LinkType → List ℕ
 link_mark kind = if is_raw_link kind then codes "<" else codes "["
 
--- what the opening of a container leaves, after its gap; none where the container may not stand here
+-- what the opening of a container leaves, after its gap; none where the container may not be here
 abbrev pub opening_of : Setting → Manner → TagView → Look → Path → Page → Option Site
 opening_of s m (Heading level id classes attrs) l path p = open_heading (Heading level id classes attrs) level l path p
 opening_of s m (BlockQuote kind) l path p = open_quote kind path p

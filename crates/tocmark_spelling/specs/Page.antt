@@ -7,7 +7,7 @@ use Rattle.tocmark_spelling.specs.declared.trail.Last.TheVariants.{Other}
 use Rattle.tocmark_spelling.specs.declared.trail.LastList.{LastList}
 use Rattle.tocmark_spelling.specs.declared.list_choice.ListChoice.{ListChoice}
 
--- what a finished tree leaves to its right neighbour: line feeds that must stand before it, what was written last, the last list,
+-- what a finished tree leaves to its right neighbour: line feeds that must be before it, what was written last, the last list,
 -- the line that goes on with a quote, whether raw text ended without a line feed, and whether HTML is open
 pub record Trail : Type 0 where
   pub owed : ℕ
@@ -28,7 +28,7 @@ pub data OpeningChoice : Type 0 where
   Underlined : Bool → OpeningChoice
   -- a fenced code block: its fence
   Fence : List ℕ → OpeningChoice
-  -- an HTML block: whether a blank line ends it, and whether its end stands in it
+  -- an HTML block: whether a blank line ends it, and whether its end is in it
   HtmlEnds : Bool → Bool → OpeningChoice
   -- a list
   Listed : ListChoice → OpeningChoice
@@ -38,9 +38,9 @@ pub data OpeningChoice : Type 0 where
   Headers : List ℕ → OpeningChoice
   -- a cell: its width so far, in characters
   Width : ℕ → OpeningChoice
-  -- emphasis and its like: what stands before and after the body
+  -- emphasis and its like: what is before and after the body
   Delimited : List ℕ → List ℕ → OpeningChoice
-  -- a link or image: whether its id stands in place of its body
+  -- a link or image: whether its id is in place of its body
   Named : Bool → OpeningChoice
 
 -- an open container: its prefix, and the place in the unit's text where its opening ended
@@ -66,7 +66,7 @@ pub record Reference : Type 0 where
   pub title : List ℕ
 
 -- a stretch of texts that has not ended: the joined texts, their joined sources where each is known,
--- and whether an End of Emphasis or Strong stands before them
+-- and whether an End of Emphasis or Strong is before them
 pub record Held : Type 0 where
   pub text : List ℕ
   pub source : Option (List ℕ)
@@ -79,12 +79,12 @@ pub record Page : Type 0 where
   pub references : List Reference
   pub held : Option Held
 
--- where the spelling stands: the open containers and the page
+-- where the spelling is: the open containers and the page
 pub record Site : Type 0 where
   pub path : Path
   pub page : Page
 
--- where a tree or forest stands in its unit: the events before it, the last one first, the events after it,
+-- where a tree or forest is in its unit: the events before it, the last one first, the events after it,
 -- and the event at whose coming the unit is flushed
 pub record Around : Type 0 where
   pub before : List SourcedEvent
@@ -100,7 +100,7 @@ front (e ∷ es) = Some (unsourced e)
 abbrev pub following : Around → Option EventView
 following a = or_else (front a.after) a.next
 
--- what stands before a byte that is written after so many line feeds: the prefix at a line's beginning
+-- what is before a byte that is written after so many line feeds: the prefix at a line's beginning
 abbrev pub lead : List ℕ → ℕ → List ℕ
 lead prefix feeds = if nat_lt 0 feeds then prefix else []
 
@@ -117,7 +117,7 @@ abbrev pub laid : List ℕ → List ℕ → Sheet → Sheet
 laid prefix [] s = s
 laid prefix (b ∷ bs) s = laid prefix bs (put_byte prefix b s)
 
--- line feeds until so many of them stand
+-- line feeds until so many of them are
 abbrev pub filled : List ℕ → ℕ → Sheet → Sheet
 filled prefix lines s = laid prefix (replicate (lines - s.feeds) 10) s
 
@@ -134,7 +134,7 @@ laid_on prefix text p = record p { sheet = laid prefix text p.sheet }
 abbrev pub written : Path → List ℕ → Page → Page
 written path text p = laid_on (prefix_of path) text p
 
--- line feeds inside the open containers until so many of them stand
+-- line feeds inside the open containers until so many of them are
 abbrev pub filled_to : ℕ → Path → Page → Page
 filled_to lines path p = record p { sheet = filled (prefix_of path) lines p.sheet }
 

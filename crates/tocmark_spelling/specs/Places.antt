@@ -26,7 +26,7 @@ abbrev pub nearest : (TagView → Bool) → Path → Option Level
 nearest test [] = None
 nearest test (l ∷ path) = if test l.tag then Some l else nearest test path
 
--- nothing but openings stand between an item's opening and this place
+-- nothing but openings is between an item's opening and this place
 abbrev pub is_item_start : ℕ → Path → Bool
 is_item_start place [] = false
 is_item_start place (l ∷ path) = (l.start == place) && (is_item l.tag || is_item_start place path)
@@ -50,13 +50,13 @@ abbrev pub is_in_tight_list : Path → Bool
 is_in_tight_list [] = false
 is_in_tight_list (l ∷ path) = is_tight_list l.content
 
--- no blank lines stand between the children of a container with this content and tag, in the containers outside
+-- no blank lines are between the children of a container with this content and tag, in the containers outside
 abbrev pub is_close_at : OpeningChoice → TagView → Path → Bool
 is_close_at (Defined has_paragraph) t path = not has_paragraph
 is_close_at (Listed c) t path = c.tight
 is_close_at c t path = is_item t && is_in_tight_list path
 
--- no blank lines stand between the children of the innermost container: it is a definition without direct Paragraph,
+-- no blank lines are between the children of the innermost container: it is a definition without direct Paragraph,
 -- a tight list, or an item directly in one
 abbrev pub is_close : Path → Bool
 is_close [] = false

@@ -26,7 +26,7 @@ manner_of d source = record {
 abbrev pub setting_of : OptionsView → ParserOptions → (List ℕ → ParserOptions → ReadingView) → Option (List ℕ) → Setting
 setting_of options flags reading label = record { options = options; flags = flags; reading = reading; label = label }
 
--- where a stretch stands; the definitions' place asks nothing more of the setting and the manner
+-- where a stretch is; the definitions' place asks nothing more of the setting and the manner
 abbrev pub stretch_place : OptionsView → ParserOptions → TextSpelling → Bool → Option EventView → Path → Page → Surroundings
 stretch_place o flags text after_close next path p = record {
   flags = flags;

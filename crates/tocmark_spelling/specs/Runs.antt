@@ -35,12 +35,12 @@ abbrev pub close_width : SourcedEvent → ℕ
 close_width (End k) = end_width k
 close_width e = 0
 
--- how wide the run is that a list begins with, by the width of each event, and what stands behind it
+-- how wide the run is that a list begins with, by the width of each event, and what is after it
 abbrev pub width_ahead : (SourcedEvent → ℕ) → List SourcedEvent → ℕ
 width_ahead width [] = 0
 width_ahead width (e ∷ es) = if width e == 0 then 0 else width e + width_ahead width es
 
--- the events behind the run that a list begins with
+-- the events after the run that a list begins with
 abbrev pub behind_run : (SourcedEvent → ℕ) → List SourcedEvent → List SourcedEvent
 behind_run width [] = []
 behind_run width (e ∷ es) = if width e == 0 then e ∷ es else behind_run width es
@@ -97,7 +97,7 @@ run_at width own before after = record {
   width = run_width width own before after;
 }
 
--- the events behind a container's Start, and those before its End, the last one first
+-- the events after a container's Start, and those before its End, the last one first
 abbrev pub behind_start : TagView → Trees → Around → List SourcedEvent
 behind_start t kids a = flat_onto kids (End (end_of t) ∷ a.after)
 
@@ -105,11 +105,11 @@ behind_start t kids a = flat_onto kids (End (end_of t) ∷ a.after)
 abbrev pub before_end : TagView → Trees → Around → List SourcedEvent
 before_end t kids a = back_onto kids (Start t ∷ a.before)
 
--- the run in which a container's Start stands, and the one in which its End does
+-- the run in which a container's Start is, and the one in which its End is
 abbrev pub opening_run : TagView → Trees → Around → Run
 opening_run t kids a = run_at start_width (tag_width t) a.before (behind_start t kids a)
 
--- the run in which a container's End stands
+-- the run in which a container's End is
 abbrev pub closing_run : TagView → Trees → Around → Run
 closing_run t kids a = run_at close_width (tag_width t) (before_end t kids a) a.after
 
@@ -127,23 +127,23 @@ width_within f = 0
 abbrev pub opening_width : TagView → Trees → ℕ
 opening_width t kids = tag_width t + width_within kids
 
--- where the children of a container stand, and where its right neighbours do
+-- where the children of a container are, and where its right neighbours do
 abbrev pub inside : TagView → Around → Around
 inside t a = record { before = Start t ∷ a.before; after = End (end_of t) ∷ a.after; next = a.next }
 
--- where the right neighbours of a container stand
+-- where the right neighbours of a container are
 abbrev pub beyond : TagView → Trees → Around → Around
 beyond t kids a = record a { before = End (end_of t) ∷ before_end t kids a }
 
--- where a tree stands that has these right neighbours
+-- where a tree is that has these right neighbours
 abbrev pub ahead_of : Trees → Around → Around
 ahead_of f a = record a { after = flat_onto f a.after }
 
--- the place just behind this event
+-- the place just after this event
 abbrev pub past : SourcedEvent → Around → Around
 past e a = record a { before = e ∷ a.before }
 
--- `_` couldn't stand beside these characters, so an asterisk is needed
+-- `_` couldn't be beside these characters, so an asterisk is needed
 abbrev pub needs_asterisk : Setting → Option ℕ → Option ℕ → Bool
 needs_asterisk s before after = not (is_boundary s before) || not (is_boundary s after)
 

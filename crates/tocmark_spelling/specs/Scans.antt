@@ -2,7 +2,7 @@
 use Rattle.std.specs.Prelude.{◌≡◌, ℕ, zero, suc, ◌+◌, Bool, false, if◌then◌else◌, nat_lt, Option, Some, None, List, [], ◌∷◌, length, drop, slice_get, slice_index_or}
 use Rattle.tocmark_event.specs.View.{SourcedEvent, LeafView, Start, End, Leaf}
 
--- how many events stand before the End of the container that is open with so many others inside it, or before the list's end
+-- how many events are before the End of the container that is open with so many others inside it, or before the list's end
 abbrev pub span : ℕ → List SourcedEvent → ℕ
 span d [] = 0
 span d (Start t ∷ es) = suc (span (suc d) es)
@@ -10,11 +10,11 @@ span zero (End k ∷ es) = 0
 span (suc d) (End k ∷ es) = suc (span d es)
 span d (Leaf l ∷ es) = suc (span d es)
 
--- the place of that End, if it stands there, among events that stand from a place on
+-- the place of that End, if it is there, among events that are from a place on
 abbrev pub end_from : ℕ → ℕ → List SourcedEvent → Option ℕ
 end_from d i es = if nat_lt (span d es) (length es) then Some (i + span d es) else None
 
--- the place where the container ends that the first of these events starts, which stands at a place; none where it starts none
+-- the place where the container ends that the first of these events starts, which is at a place; none where it starts none
 -- or the container isn't ended
 abbrev pub end_at : ℕ → List SourcedEvent → Option ℕ
 end_at i (Start t ∷ es) = end_from 0 (i + 1) es

@@ -22,7 +22,7 @@ abbrev pub directly_in : (TagView → Bool) → List TagView → Bool
 directly_in test [] = false
 directly_in test (t ∷ ts) = test t
 
--- a container that may not stand in these, the innermost first
+-- a container that may not be in these, the innermost first
 abbrev pub is_wrong_in : TagView → List TagView → Bool
 is_wrong_in Item outside = not (directly_in is_list outside)
 is_wrong_in (Heading level id classes attrs) outside = list_any is_heading outside
@@ -30,7 +30,7 @@ is_wrong_in TableCell outside = not (list_any is_table outside)
 is_wrong_in TableHead outside = not (directly_in is_table outside)
 is_wrong_in t outside = false
 
--- whether some node stands where it may not: an Item not directly in a List, a Heading in a Heading, a TableCell in no
+-- whether some node is where it may not: an Item not directly in a List, a Heading in a Heading, a TableCell in no
 -- Table, a TableHead not directly in a Table; a body that is spelled by its id isn't looked at
 unfoldable pub is_misplaced : Setting → List TagView → Trees → Bool
 is_misplaced s outside empty = false
@@ -38,17 +38,17 @@ is_misplaced s outside (leaf l f) = is_misplaced s outside f
 is_misplaced s outside (node t kids f) =
     is_wrong_in t outside || (not (by_id s t kids) && is_misplaced s (t ∷ outside) kids) || is_misplaced s outside f
 
--- what comes next, from where the spelling stands; none if there was no spelling so far
+-- what comes next, from where the spelling is; none if there was no spelling so far
 abbrev pub then_site : Option Site → (Site → Option Site) → Option Site
 then_site (Some here) f = f here
 then_site None f = None
 
--- whether the id of the innermost container stands in place of its body
+-- whether the id of the innermost container is in place of its body
 abbrev pub is_named : OpeningChoice → Bool
 is_named (Named named) = named
 is_named c = false
 
--- whether the body of the innermost container is left out, since its id stands in its place
+-- whether the body of the innermost container is left out, since its id is in its place
 abbrev pub skips_body : Path → Bool
 skips_body [] = false
 skips_body (l ∷ path) = is_named l.content

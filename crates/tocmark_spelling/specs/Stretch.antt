@@ -31,7 +31,7 @@ has_entities t = false
 abbrev pub at_front : Path → Page → Bool
 at_front path p = nat_lt 0 p.sheet.feeds || length p.sheet.text == 0 || is_after_opening path p
 
--- where a stretch of texts stands
+-- where a stretch of texts is
 abbrev pub place : Setting → Manner → Bool → Option EventView → Path → Page → Surroundings
 place s m after_close next path p = record {
   flags = s.flags;
@@ -117,7 +117,7 @@ abbrev pub code_on : List ℕ → Path → Page → Site
 code_on text path p =
     record (inline_on (Code text) (code_span (is_in is_table path) text) path p) { path = widened (length (chars text) + 2) path }
 
--- a leaf; `a` says where it stands
+-- a leaf; `a` says where it is
 abbrev pub leaf_text : Setting → Manner → LeafView → Option (List ℕ) → Around → Path → Page → Site
 leaf_text s m (Text t) source a path p = text_on s m t source a path p
 leaf_text s m (Code t) source a path p = code_on t path p

@@ -28,14 +28,14 @@ trail_view t = trail_of t.carried (option_map string_bytes t.quote_line)
 abbrev pub Becomes : Carried → Carried → (page.Trail → page.Trail) → Type 0
 Becomes old new change = (line : Option (List ℕ)) → trail_of new line ≡ change (trail_of old line)
 
--- a list begins on a new line inside a list, but not right behind its item's marker
+-- a list begins on a new line inside a list, but not right after its item's marker
 abbrev pub raised_in_list : EventView → Bool → page.Trail → page.Trail
 raised_in_list e in_list t = if starts is_list e && in_list && not (is_item_opening t.last) then raised 1 t else t
 
--- what the block that ended last needs behind it
+-- what the block that ended last needs after it
 abbrev pub raised_to_least : EventView → page.Trail → page.Trail
 raised_to_least e t = raised (least e t.last) t
 
--- blank lines stand between the items of a list, if it isn't tight
+-- blank lines are between the items of a list, if it isn't tight
 abbrev pub raised_in_loose_list : EventView → Bool → page.Trail → page.Trail
 raised_in_loose_list e loose t = if starts is_item e && loose && is_item_end t.last then raised 2 t else t

@@ -7,6 +7,6 @@ use tocmark_event::event::OwnedEvent;
 pub struct BufferedEvent {
     /// The event.
     pub event: OwnedEvent,
-    /// For a text, what stands in the source for it.
+    /// For a text, what is in the source for it.
     pub source: Option<String>,
 }

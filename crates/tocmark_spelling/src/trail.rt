@@ -46,7 +46,7 @@ pub struct LastList {
 /// Of what a finished tree leaves to its right neighbour, all that owns no memory.
 #[derive(Clone, Copy)]
 pub struct Carried {
-    /// Line feeds that must stand before it.
+    /// Line feeds that must be before it.
     pub owed: usize,
     pub last: Last,
     pub last_list: Option<LastList>,
@@ -215,7 +215,7 @@ impl Carried {
         self
     }
 
-    /// A list inside a list begins on a new line, but not right behind its item's marker.
+    /// A list inside a list begins on a new line, but not right after its item's marker.
     pub fn raised_for_list(self, event: &OwnedEvent, in_list: bool) -> Carried
         ensures { Becomes self result (raised_in_list (event_view string_bytes event.now) in_list) }
     {
@@ -223,7 +223,7 @@ impl Carried {
         self.raised_if(needed, 1)
     }
 
-    /// A blank line stands between a definition and the next title.
+    /// A blank line is between a definition and the next title.
     pub fn raised_for_title(self, event: &OwnedEvent) -> Carried
         ensures { Becomes self result (raised_for_title (event_view string_bytes event.now)) }
     {
@@ -239,21 +239,21 @@ impl Carried {
         self.raised_if(needed, 1)
     }
 
-    /// What the block that ended last needs behind it.
+    /// What the block that ended last needs after it.
     pub fn raised_to_least(self, event: &OwnedEvent) -> Carried
         ensures { Becomes self result (raised_to_least (event_view string_bytes event.now)) }
     {
         self.raised(self.last.least(event))
     }
 
-    /// A blank line stands between an inner list and what could go on with its last item.
+    /// A blank line is between an inner list and what could go on with its last item.
     pub fn raised_after_list(self, event: &OwnedEvent) -> Carried
         ensures { Becomes self result (raised_after_list (event_view string_bytes event.now)) }
     {
         self.raised_if(self.last.joins_list(event), 2)
     }
 
-    /// Blank lines stand between the items of a list that isn't tight.
+    /// Blank lines are between the items of a list that isn't tight.
     pub fn raised_for_item(self, event: &OwnedEvent, in_loose_list: bool) -> Carried
         ensures { Becomes self result
             (raised_in_loose_list (event_view string_bytes event.now) in_loose_list) }

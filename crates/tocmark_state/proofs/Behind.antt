@@ -25,7 +25,7 @@ known-none false d = refl
 kept-none : (kept : Kept) → kept_behind [] kept ≡ kept
 kept-none kept = ap (λ (d : DocumentView). record kept { document = d }) (known-none kept.document.flushed kept.document)
 
--- behind no definitions all is as without them
+-- after no definitions all is as without them
 pub behind-none : (o : OptionsView) (reading : List ℕ → ParserOptions → ReadingView) → rendering_behind [] o reading ≡ rendering o reading
 behind-none o reading = λ j. record (rendering o reading) {
   choice = λ kept unit next. (rendering o reading).choice (kept-none kept j) unit next;

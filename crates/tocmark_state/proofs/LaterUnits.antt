@@ -1,4 +1,4 @@
--- Behind a first unit, a walk goes on as one without the definitions that a document has already.
+-- After a first unit, a walk goes on as one without the definitions that a document has already.
 use Rattle.std.proofs.Common.{◌≡◌, ◌∙◌, ap, refl, ℕ, Bool, true, false, ◌&&◌, if◌then◌else◌, List, [], ◌∷◌, ◌++◌, Option, Some, None, Result, Ok, Err}
 use Rattle.tocmark_event.specs.Options.{OptionsView}
 use Rattle.tocmark_event.specs.Reading.{ReadingView}
@@ -16,10 +16,10 @@ use Rattle.tocmark_write_labels.specs.Document.{DocumentView}
 use Rattle.tocmark_write_labels.specs.Units.{labelled}
 use Rattle.tocmark_write_pending.specs.Pending.{nested}
 use Rattle.tocmark_write_pending.specs.Units.{trees_of, waits}
-use Rattle.tocmark_render.specs.Candidates.{candidates, is_checked, preferred_manner}
-use Rattle.tocmark_render.specs.Choice.{Chosen, accepted_if, by_markers, choice, document_after, first_or, first_that_reads_back, has_standard_markers, preferred, spelled, unless_misplaced}
-use Rattle.tocmark_render.specs.Chosen.{choice_of, chosen}
-use Rattle.tocmark_render.specs.Validates.{validates}
+use Rattle.tocmark_choose.specs.Candidates.{candidates, is_checked, preferred_manner}
+use Rattle.tocmark_choose.specs.Choice.{Chosen, accepted_if, by_markers, choice, document_after, first_or, first_that_reads_back, has_standard_markers, preferred, spelled, unless_misplaced}
+use Rattle.tocmark_choose.specs.Chosen.{choice_of, chosen}
+use Rattle.tocmark_choose.specs.Validates.{validates}
 use Rattle.tocmark_state.specs.Ranges.{Pair, resolved}
 use Rattle.tocmark_state.specs.Walk.{Kept, Rendering, Standing, Walk, advance, advance_with, flush_of, flushed, flushed_before, flushed_or_deferred, go_on, is_due, joins, step, walk, with_event}
 use Rattle.tocmark_state.specs.WorkView.{keeping, rendering, rendering_behind}
@@ -169,7 +169,7 @@ module _ (defined : List Reference) (o : OptionsView) (reading : List ℕ → Pa
   unfolding step
   step-alike source pair s h = with-alike s (resolved source s.range_end pair) h
 
-  -- from a standing behind a first unit
+  -- from a standing after a first unit
   pub walk-alike : (source : List ℕ) (s : Standing) → IsLater s → (p : List Pair) → walk told source s p ≡ walk plain source s p
   walk-alike source s h [] = refl
   walk-alike source s h (x ∷ xs) =

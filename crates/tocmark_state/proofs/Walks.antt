@@ -14,8 +14,8 @@ use Rattle.tocmark_write_labels.specs.Document.{DocumentView}
 use Rattle.tocmark_write_labels.specs.Ending.{last_texts, leading_feeds, unless_empty, with_definitions_in_front}
 use Rattle.tocmark_write_pending.specs.Pending.{PendingView, Joins, behind, nested}
 use Rattle.tocmark_write_pending.proofs.Joined.{unsourced-sourced}
-use Rattle.tocmark_render.specs.TrialOf.{Refuses}
-use Rattle.tocmark_render.specs.DocumentOf.{Gives}
+use Rattle.tocmark_choose.specs.TrialOf.{Refuses}
+use Rattle.tocmark_choose.specs.DocumentOf.{Gives}
 use Rattle.tocmark_state.specs.WorkView.{Answers, keeping}
 use Rattle.tocmark_state.specs.Ranges.{Pair, resolved, unranged}
 use Rattle.tocmark_state.specs.Walk.{done, Kept, Rendering, Standing, Walk, go_on, stay, refuse, handed_text, hand_walk, finished, finished_of, last_choice, last_walk, two_texts, with_event, joins, flush_of, flushed, is_due, is_whole, flushed_before, advance, step, walk, ended_at, ended}
@@ -195,7 +195,7 @@ pub go_on-assoc : {A S : Type 0} (ts us : List (List ℕ)) (o : Result A Error) 
 go_on-assoc ts us (Ok s) f = ap (λ xs. record { texts = xs; outcome = (f s).outcome }) (sym (append_assoc ts us (f s).texts))
 go_on-assoc ts us (Err e) f = refl
 
--- a longer list goes on where a shorter one stands
+-- a longer list goes on where a shorter one is
 pub walk-append : (how : Rendering) (source : List ℕ) (s : Standing) (xs ys : List Pair) → walk how source s (xs ++ ys) ≡ go_on (walk how source s xs).texts (walk how source s xs).outcome (λ t. walk how source t ys)
 walk-append how source s [] ys = refl
 walk-append how source s (x ∷ xs) ys = go (λ t. walk-append how source t xs ys) (step how source x s).texts (step how source x s).outcome
@@ -295,7 +295,7 @@ last-front true [] text h = cc
 last-front true (b ∷ defs) text h =
     ap (λ (ts : List (List ℕ)). record { texts = ts; outcome = Ok done }) (append-nil _ ∙ handed_text-nonempty (with_definitions_in_front (b ∷ defs) text) (front-nonempty (b ∷ defs) text))
 
--- definitions behind, if there are any
+-- definitions after, if there are any
 pub last-behind : (raw : Bool) (defs text : List ℕ) → (raw && not (length defs == 0)) ≡ false → two_texts text defs ≡ last_walk raw defs text
 last-behind raw [] text h = ap (λ (ts : List (List ℕ)). record { texts = ts; outcome = Ok done }) (append-nil (handed_text text))
 last-behind false (b ∷ defs) text h = refl

@@ -17,7 +17,7 @@ use Rattle.tocmark_state.specs.Walk.{done, Rendering, Standing, Walk, walk, noth
 use Rattle.tocmark_state.specs.Writes.{Makes}
 use Rattle.tocmark_state.specs.WorkView.{Counts, flags_of, rendering_behind, standing_of}
 
--- where the events that a state took stand
+-- where the events that a state took are
 abbrev pub place_of : {R : Type 0} → State R → Standing
 place_of s = standing_of s.work
 
@@ -37,7 +37,7 @@ state_flags s = flags_of s.work
 abbrev pub defined_of : {R : Type 0} → State R → List Reference
 defined_of s = map reference_view s.defined.items
 
--- two states take the same further events, under the same options and behind the same definitions
+-- two states take the same further events, under the same options and after the same definitions
 pub record SameStanding {R : Type 0} (s t : State R) : Type 0 where
   pub status : status_of t ≡ status_of s
   pub options : owned_options_view t.options ≡ owned_options_view s.options
@@ -56,7 +56,7 @@ walk_from reading s source p = walk (rendering_of reading s) source (place_of s)
 abbrev pub IsActive : {R : Type 0} → State R → Type 0
 IsActive s = status_of s ≡ Active
 
--- a state that is active, and stands where the list of pairs over the source does
+-- a state that is active, and is where the list of pairs over the source is
 pub record Stands {R : Type 0} (reading : R → List ℕ → ParserOptions → ReadingView) (flags : ParserOptions) (source : List ℕ) (s : State R) (p : List Pair) : Type 0 where
   pub active : IsActive s
   pub standing : (walk (rendering_of reading s) source (nothing_yet flags) p).outcome ≡ Ok (place_of s)
@@ -69,7 +69,7 @@ IsFailed s = status_of s ≡ Failed
 abbrev pub IsFinished : {R : Type 0} → State R → Type 0
 IsFinished s = status_of s ≡ Finished
 
--- A call that took the pairs q after p handed what the walk of both adds to that of p, and stands there or answers its end.
+-- A call that took the pairs q after p handed what the walk of both adds to that of p, and is there or answers its end.
 pub record Adds {W : Type 0} (gives refuses : W → List ℕ → W → Type 0) (w v : W) (how : Rendering) (flags : ParserOptions) (source : List ℕ) (r : Result Progress Error) (place : Standing) (p q : List Pair) : Type 0 where
   pub more : List (List ℕ)
   pub added : (walk how source (nothing_yet flags) (p ++ q)).texts ≡ (walk how source (nothing_yet flags) p).texts ++ more

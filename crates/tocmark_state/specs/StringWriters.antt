@@ -7,7 +7,7 @@ use Rattle.tocmark_state.specs.declared.string_writer.StringWriter.{StringWriter
 abbrev pub held : StringWriter → List ℕ
 held w = string_bytes w.text
 
--- a text that it took stands behind what it held
+-- a text that it took is after what it held
 abbrev pub Has : StringWriter → List ℕ → StringWriter → Type 0
 Has before text after = held after ≡ held before ++ text
 

@@ -1,4 +1,4 @@
--- What a list of events comes to: the texts of its units, and where it stands after them.
+-- What a list of events comes to: the texts of its units, and where it is after them.
 use Rattle.std.specs.Prelude.{ℕ, List, [], ◌∷◌, ◌++◌, Bool, true, false, not, ◌&&◌, if◌then◌else◌, Result, Ok, Err, Option, Some, None}
 use Rattle.tocmark_event.specs.View.{EventView, SourcedEvent, unsourced}
 use Rattle.tocmark_event.specs.declared.event.TagEnd.{TagEnd}
@@ -26,7 +26,7 @@ pub record Rendering : Type 0 where
   -- whether a unit holds raw text, which nothing can follow
   pub holds_raw : List SourcedEvent → Bool
 
--- where a list of events stands
+-- where a list of events is
 pub record Standing : Type 0 where
   -- the events since the last unit that was written
   pub pending : List SourcedEvent
@@ -38,16 +38,16 @@ pub record Standing : Type 0 where
   -- a unit waits, so that all later events join it
   pub is_deferred : Bool
 
--- the end of a list, where nothing is left to stand
+-- the end of a list, where nothing is left to be
 pub data Done : Type 0 where
   done : Done
 
--- texts that are handed, and where it stands then, or why it stops
+-- texts that are handed, and where it is then, or why it stops
 pub record Walk (S : Type 0) : Type 0 where
   pub texts : List (List ℕ)
   pub outcome : Result S Error
 
--- a walk, and another one from where it stands
+-- a walk, and another one from where it is
 abbrev pub go_on : {A S : Type 0} → List (List ℕ) → Result A Error → (A → Walk S) → Walk S
 go_on texts (Ok s) f = record { texts = texts ++ (f s).texts; outcome = (f s).outcome }
 go_on texts (Err e) f = record { texts = texts; outcome = Err e }
@@ -122,11 +122,11 @@ abbrev pub walk : Rendering → List ℕ → Standing → List Pair → Walk Sta
 walk how source s [] = stay s
 walk how source s (x ∷ xs) = go_on (step how source x s).texts (step how source x s).outcome (λ t. walk how source t xs)
 
--- where nothing stands yet, over a document
+-- where nothing is yet, over a document
 abbrev pub beginning : Kept → Standing
 beginning kept = record { pending = []; open_tags = []; document = kept; range_end = 0; is_deferred = false }
 
--- what a new state stands at
+-- what a new state is at
 abbrev pub nothing_yet : ParserOptions → Standing
 nothing_yet flags = beginning (record { flags = flags; document = first_document })
 

@@ -15,14 +15,14 @@ use Rattle.tocmark_write_renderer.specs.WriterOf.{reference_view}
 use Rattle.tocmark_write_labels.specs.Defined.{behind, undefined}
 use Rattle.tocmark_write_labels.specs.Definitions.{definitions_text}
 use Rattle.tocmark_write_labels.specs.Document.{DocumentView}
-use Rattle.tocmark_render.specs.TrialOf.{Refuses}
-use Rattle.tocmark_render.specs.DocumentOf.{document_view, document_flags}
+use Rattle.tocmark_choose.specs.TrialOf.{Refuses}
+use Rattle.tocmark_choose.specs.DocumentOf.{document_view, document_flags}
 use Rattle.tocmark_write_labels.specs.Ending.{holds_raw_block}
-use Rattle.tocmark_render.specs.Chosen.{chosen}
+use Rattle.tocmark_choose.specs.Chosen.{chosen}
 use Rattle.tocmark_write_pending.specs.Pending.{text_now}
 use Rattle.tocmark_write_pending.specs.Units.{waits}
-use Rattle.tocmark_render.specs.declared.document.Document.{Document}
-use Rattle.tocmark_render.specs.declared.tools.Tools.{Tools}
+use Rattle.tocmark_choose.specs.declared.document.Document.{Document}
+use Rattle.tocmark_choose.specs.declared.tools.Tools.{Tools}
 use Rattle.tocmark_state.specs.declared.work.Progress.{Progress}
 use Rattle.tocmark_state.specs.declared.work.Work.{Work}
 use Rattle.tocmark_state.specs.Ranges.{Pair, Range, unranged}
@@ -47,7 +47,7 @@ rendering options reading = record {
   holds_raw = holds_raw_block;
 }
 
--- a document with its flags, behind which a unit is written where it has these definitions already
+-- a document with its flags, after which a unit is written where it has these definitions already
 abbrev pub kept_behind : List Reference → Kept → Kept
 kept_behind defined kept = record kept { document = behind defined kept.document }
 
@@ -63,7 +63,7 @@ rendering_behind defined options reading = record (rendering options reading) {
 abbrev pub kept_of : Document → Kept
 kept_of d = record { flags = document_flags d; document = document_view d }
 
--- where a state's events stand
+-- where a state's events are
 abbrev pub standing_of : Work → Standing
 standing_of w = record {
   pending = w.pending.events;

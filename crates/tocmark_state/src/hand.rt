@@ -35,14 +35,14 @@ fn hand_both<W: Taker>(first: &str, second: &str, writer: &mut W) -> Result<usiz
     Ok(written.saturating_add(more))
 }
 
-/// Whether definitions stand in front of the last unit: there are some, and they can't follow it.
+/// Whether definitions are in front of the last unit: there are some, and they can't follow it.
 fn stand_in_front(holds_raw: bool, definitions: &str) -> bool
     ensures { result ≡ holds_raw && not (length definitions.now == 0) }
 {
     holds_raw && !definitions.is_empty()
 }
 
-/// Hands the text of the last unit and the definitions that are left: they stand behind it, or in
+/// Hands the text of the last unit and the definitions that are left: they are after it, or in
 /// front of it where it holds raw text, which nothing can follow. Returns how many bytes it handed,
 /// at most the greatest `usize`.
 pub fn hand_last<W: Taker>(

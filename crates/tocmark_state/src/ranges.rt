@@ -54,7 +54,7 @@ fn text_start(source: &str, range_end: usize, start: usize) -> usize
     }
 }
 
-/// What stands in the source for a text, with the backslash before it.
+/// What is in the source for a text, with the backslash before it.
 fn text_spelling(source: &str, range_end: usize, range: (usize, usize)) -> &str
     requires { is_good_range source.now range ≡ true }
     ensures { result.now
@@ -64,7 +64,7 @@ fn text_spelling(source: &str, range_end: usize, range: (usize, usize)) -> &str
     &source[start..range.1]
 }
 
-/// What stands in the source for an event, which only a text has, and the end of the last range.
+/// What is in the source for an event, which only a text has, and the end of the last range.
 pub fn resolve<'s>(
     source: &'s str,
     range_end: usize,

@@ -20,10 +20,10 @@ use crate::taker::Taker;
 use crate::work::{Progress, Work};
 use std::alloc::{AllocError, Global};
 use std::fmt;
+use tocmark_choose::tools::Tools;
 use tocmark_event::event::{Event, ParserOptions};
 use tocmark_event::options::{Error, Options, OptionsOf};
 use tocmark_event::reader::{Reader, Reading};
-use tocmark_render::tools::Tools;
 pub use tocmark_write_labels::defined::DefinedLabel;
 use tocmark_write_labels::defined::copied_labels;
 use tocmark_write_labels::definitions::copied_references;
@@ -40,7 +40,7 @@ enum Status {
 
 /// Takes events, and hands the text of each unit to a writer.
 ///
-/// A unit is held until the event behind it has come, so what a call hands may stem from earlier ones.
+/// A unit is held until the event after it has come, so what a call hands may stem from earlier ones.
 ///
 /// ```
 /// let paragraph = [
@@ -171,7 +171,7 @@ impl<R: Reader + Drop> State<R> {
         State::begun(alloc, reader, parser_options, options, copies)
     }
 
-    /// A state that took no event, behind these definitions. An `Err` is as in `new`.
+    /// A state that took no event, after these definitions. An `Err` is as in `new`.
     fn begun(
         alloc: Global,
         reader: R,
@@ -251,7 +251,7 @@ impl<R: Reader + Drop> State<R> {
         }
     }
 
-    /// Takes events, and hands the text of each unit to the writer, once the event behind the unit has
+    /// Takes events, and hands the text of each unit to the writer, once the event after the unit has
     /// come. The events needn't outlive the call; the writer is to be the same in all calls.
     ///
     /// A unit is a container at top level with all that is in it, or a leaf at top level. Each nonempty
@@ -261,7 +261,7 @@ impl<R: Reader + Drop> State<R> {
     /// An `Err` is one of these, and every later call answers `Failed`:
     /// - `FormatFailed`: the writer refused a text in this call.
     /// - `UnexpectedEvent`: an End that isn't the innermost open container's, found after the unit
-    ///   before it is written, or a unit with events that cannot stand where they do.
+    ///   before it is written, or a unit with events that aren't allowed where they are.
     /// - `Unrepresentable`: no spelling of a unit reads back.
     /// - `OutOfMemory`: memory ran out.
     /// - `Finished`, after `finish`, even for no events, and `Failed`, after another error: nothing is
@@ -489,7 +489,7 @@ impl<R: Reader + Drop> State<R> {
 impl<R: Clone> State<R> {
     ghost use Rattle.tocmark_state.specs.StateView.{SameStanding, reader_of};
 
-    /// A state that stands where this one does, with the same options and flags and a clone of the reader.
+    /// A state that is where this one is, with the same options and flags and a clone of the reader.
     /// This state stays as it is.
     pub fn clone(&self) -> Result<State<R>, AllocError>
         ensures same { IfOk result (λ copy. SameStanding self.now copy) }

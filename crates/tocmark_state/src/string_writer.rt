@@ -7,12 +7,12 @@ use crate::taker::Taker;
 use std::alloc::Global;
 use std::fmt;
 
-/// Keeps each text behind those before it. Over a `String`, which is a `fmt::Write`, a contract can't say
+/// Keeps each text after those before it. Over a `String`, which is a `fmt::Write`, a contract can't say
 /// why a text was refused; over this writer it does: a text is refused only where memory ran out, and then
 /// nothing of it is kept.
 #[derive(Drop)]
 pub struct StringWriter {
-    /// The texts that it took, one behind the other.
+    /// The texts that it took, one after the other.
     pub text: String,
 }
 

@@ -128,7 +128,7 @@ container_core cs tail cursor p = by (is_blank_at cs cursor || nat_le 4 (indent_
     by false false false None = refl
     by false false false (Some i) = refl
 
--- both states of a step, and that an open leaf is tied behind it
+-- both states of a step, and that an open leaf is tied after it
 abbrev pub Goes : ℕ → ℕ → State × Option LineStart → State × Option LineStart → Type 0
 Goes e l r' r = (r' ≡ (page_on e l (r.0), r.1)) × Tied e l (r.0)
 

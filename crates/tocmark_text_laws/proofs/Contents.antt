@@ -1,9 +1,9 @@
--- The content of a leaf whose lines stand one further: the same bytes, places one further.
-use Rattle.std.proofs.Common.{◌≡◌, ℕ, zero, suc, ◌+◌, ◌-◌, ◌^◌, ◌<◌, ◌≤◌, Bool, true, false, ◌==◌, ◌&&◌, if◌then◌else◌, nat_le, List, [], ◌∷◌, ◌++◌, length, map, take, drop, refl, ap, sym, ◌∙◌, arith, length-append, length-take, min, ◌⊎◌, inl, inr}
+-- The content of a leaf whose lines are one further: the same bytes, places one further.
+use Rattle.std.proofs.Common.{◌≡◌, ℕ, suc, ◌+◌, ◌-◌, ◌^◌, ◌<◌, ◌≤◌, Bool, true, false, ◌==◌, ◌&&◌, if◌then◌else◌, nat_le, List, [], ◌∷◌, length, map, drop, refl, ap, sym, ◌∙◌, arith, length-append, length-take, min, ◌⊎◌, inl, inr}
 use Rattle.std.specs.Prelude.{slice_range}
 use Rattle.std.specs.List.{fold}
 use Rattle.std.proofs.lemmas.Bool.Decides.{nat_tests}
-use Rattle.std.proofs.lemmas.List.{map-append, take-map, length-drop}
+use Rattle.std.proofs.lemmas.List.{map-append, take-map}
 use Rattle.tocmark_read_scan.specs.Basic.{plus, bytes_between}
 use Rattle.tocmark_read_scan.specs.Content.{State, put, put_byte, put_bytes, put_line, joined, before_white, trimmed, content_of}
 use Rattle.tocmark_read_scan.specs.Repeat.{iterated}

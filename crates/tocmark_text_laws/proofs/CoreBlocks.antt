@@ -1,12 +1,11 @@
 -- CommonMark alone makes no block of an extension.
-use Rattle.std.proofs.Common.{◌≡◌, ℕ, zero, suc, ◌+◌, ◌-◌, Bool, true, false, ◌&&◌, ◌||◌, if◌then◌else◌, nat_lt, nat_le, List, [], ◌∷◌, ◌++◌, length, take, drop, refl, ap, sym, ◌∙◌, true≢false}
+use Rattle.std.proofs.Common.{◌≡◌, ℕ, zero, suc, ◌-◌, Bool, true, false, ◌||◌, if◌then◌else◌, nat_lt, List, [], ◌∷◌, ◌++◌, length, take, refl, ap, sym, ◌∙◌}
 use Rattle.std.specs.Prelude.{slice_get, slice_set, Option, Some, None, is_some}
 use Rattle.std.specs.Option.{option_map_or}
-use Rattle.std.specs.List.{AllByRecursion, fold}
 use Rattle.tocmark_read_lines.specs.declared.container.Container.{Container}
 use Rattle.tocmark_read_lines.specs.declared.container.Opened.{Opened}
 use Rattle.tocmark_read_lines.specs.declared.line.Line.{Line}
-use Rattle.tocmark_read_page.specs.Pages.{State, innermost, ended, finished, raised_last, leaf_finished, table_finished, shortened, defined_as, settled_as, settled, leaf_closed_as, leaf_closed, is_quote, is_list, is_definitions, quote_left, one_closed, times, closed_to, list_of, is_loose, left_noted, list_left, is_apart, made_loose, loosened, begun, quote_entered, opened_with, leaf_opened, piece_pushed, piece_taken, of_kind}
+use Rattle.tocmark_read_page.specs.Pages.{State, innermost, ended, finished, raised_last, leaf_finished, table_finished, shortened, defined_as, settled_as, settled, leaf_closed_as, leaf_closed, is_quote, is_list, is_definitions, quote_left, one_closed, times, closed_to, list_of, is_loose, left_noted, list_left, is_apart, loosened, begun, quote_entered, opened_with, leaf_opened, piece_pushed, piece_taken, of_kind}
 use Rattle.tocmark_read_page.specs.declared.leaf.Leaf.{Leaf}
 use Rattle.tocmark_read_page.specs.declared.leaf.Leaf.TheVariants as leaf
 use Rattle.tocmark_read_page.specs.declared.leaf.Table.{Table}

@@ -1,5 +1,5 @@
 -- A line leaves blocks of CommonMark alone.
-use Rattle.std.proofs.Common.{◌≡◌, ℕ, zero, suc, Bool, true, false, if◌then◌else◌, nat_le, List, [], ◌∷◌, length, refl, ap, sym, ◌∙◌, subst, nat_lt, true≢false}
+use Rattle.std.proofs.Common.{◌≡◌, ℕ, Bool, true, false, if◌then◌else◌, nat_le, List, [], ◌∷◌, length, refl, sym, subst}
 use Rattle.std.specs.Prelude.{Option, Some, None}
 use Rattle.tocmark_read_scan.specs.Basic.{bytes_between}
 use Rattle.tocmark_read_scan.specs.declared.syntax.TheConstants.{CORE}
@@ -21,7 +21,7 @@ use Rattle.tocmark_read_page.specs.declared.line_start.LineStart.{LineStart}
 use Rattle.tocmark_read_constructs.specs.Headings.{heading_put, heading_started_in, underlined, underlined_in}
 use Rattle.tocmark_read_constructs.specs.Metadata.{metadata_in}
 use Rattle.tocmark_read_constructs.specs.Quotes.{quote_opened}
-use Rattle.tocmark_read_blocks.specs.Blocks.{core_known, rule_or_text, underlined_if, underline_taken_in, started_in, started_at_in, leaf_started_in, passed_in, turn_of, turn_in, leaf_ended, touched, turn_taken_in, taken_at_in, cells_taken_in, line_taken_in}
+use Rattle.tocmark_read_blocks.specs.Blocks.{core_known, rule_or_text, underlined_if, underline_taken_in, started_in, started_at_in, leaf_started_in, passed_in, turn_in, leaf_ended, touched, turn_taken_in, taken_at_in, cells_taken_in, line_taken_in}
 use Rattle.tocmark_read_blocks.specs.Codes.{indented_started, fence_started, html_started}
 use Rattle.tocmark_read_blocks.specs.Containers.{goes_directly, item_opened, begun_at, container_once_in, containers_opened_in}
 use Rattle.tocmark_read_blocks.specs.Leaves.{metadata_or, rule_at}
@@ -30,13 +30,12 @@ use Rattle.tocmark_read_blocks.specs.declared.leaf.LeafStart.{LeafStart}
 use Rattle.tocmark_read_blocks.specs.declared.leaf.LeafStart.TheVariants as start
 use Rattle.tocmark_read_blocks.specs.declared.leaf.Turn.{Turn}
 use Rattle.tocmark_read_blocks.specs.declared.leaf.Turn.TheVariants as turn
-use Rattle.tocmark_text_laws.proofs.Shut.{closed_shut, finished_shut}
 use Rattle.tocmark_text_laws.proofs.Leaves.{is_core}
-use Rattle.tocmark_text_laws.proofs.Core.{begins_core, leaf_core, repeated_keeps, shut_core, code_core, text_core, settled_leaf, turns_core}
-use Rattle.tocmark_text_laws.proofs.Begun.{is_core_start, container_core, item_shut, quote_shut}
+use Rattle.tocmark_text_laws.proofs.Core.{begins_core, leaf_core, repeated_keeps, turns_core}
+use Rattle.tocmark_text_laws.proofs.Begun.{is_core_start, container_core}
 use Rattle.tocmark_text_laws.proofs.Machine.{core_at, core_begun}
 use Rattle.tocmark_text_laws.proofs.Turns.{turn_of_core}
-use Rattle.std.specs.Prelude.{◌-◌, slice_get, slice_set, ◌+◌, ◌^◌, ◌<◌, map, ◌++◌}
+use Rattle.std.specs.Prelude.{◌-◌, slice_get, slice_set}
 use Rattle.std.specs.Option.{option_map_or}
 use Rattle.std.specs.List.{fold}
 use Rattle.tocmark_read_lines.specs.Lines.{lines_of}
@@ -53,11 +52,9 @@ use Rattle.tocmark_read_blocks.specs.Blocks.{page_in, blocks_in}
 use Rattle.tocmark_read_blocks.specs.Codes.{info_of, html_ended_as, html_ended, code_taken}
 use Rattle.tocmark_read_blocks.specs.Containers.{is_in_list, list_started}
 use Rattle.tocmark_read_blocks.specs.Paragraphs.{text_started, in_paragraph, text_taken}
-use Rattle.tocmark_text_laws.proofs.Front.{front}
 use Rattle.tocmark_text_laws.proofs.Kept.{line_core}
 use Rattle.tocmark_text_laws.proofs.Read.{is_core_kind, CoreKinds}
 use Rattle.tocmark_text_laws.proofs.CoreBlocks.{Kept, finished_kept, settled_kept, closed_kept, list_left_kept, opened_with_kept, leaf_opened_kept, piece_taken_kept, of_kind_core, changed_core}
-use Rattle.tocmark_reader.specs.Reading.{reading_of}
 
 html_kept : (rest : List ℕ) (s : State) → Kept s → Kept (html_ended rest s)
 unfolding html_ended

@@ -1,4 +1,4 @@
--- Definitions of links in a text behind one more byte.
+-- Definitions of links in a text after one more byte.
 use Rattle.std.proofs.Common.{◌≡◌, ℕ, List, [], ◌∷◌, ◌++◌, map, flat_map, refl, ap, ◌∙◌}
 use Rattle.tocmark_read_page.specs.Definitions.{DefinitionView, begins_definition, replaced, joined_line, joined, definitions_from}
 use Rattle.tocmark_read_page.specs.declared.piece.Piece.{Piece}

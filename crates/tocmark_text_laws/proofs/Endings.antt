@@ -1,17 +1,17 @@
 -- The lines of a text have no line ending in them, and each ends as the standard says.
-use Rattle.std.proofs.Common.{◌≡◌, ℕ, zero, suc, ◌+◌, ◌-◌, ◌^◌, ◌<◌, ◌≤◌, ◌⊎◌, inl, inr, Bool, true, false, not, ◌==◌, ◌&&◌, ◌||◌, if◌then◌else◌, nat_lt, nat_le, List, [], ◌∷◌, ◌++◌, length, refl, ap, sym, ◌∙◌, subst, arith, append_assoc, length-append, true≢false}
-use Rattle.std.specs.Prelude.{slice_get, unwrap_or, Option, Some, None}
+use Rattle.std.proofs.Common.{◌≡◌, ℕ, suc, ◌+◌, ◌-◌, ◌^◌, ◌<◌, inl, inr, Bool, true, false, not, ◌==◌, ◌&&◌, ◌||◌, if◌then◌else◌, nat_lt, nat_le, List, [], ◌∷◌, ◌++◌, length, refl, ap, sym, ◌∙◌, subst, arith, append_assoc, length-append, true≢false}
+use Rattle.std.specs.Prelude.{slice_get, unwrap_or, Some}
 use Rattle.std.specs.List.{AllByRecursion}
 use Rattle.std.specs.Option.{option_map_or}
 use Rattle.std.proofs.lemmas.Bool.Decides.{nat_tests}
 use Rattle.std.proofs.lemmas.Option.{slice_get_past}
 use Rattle.tocmark_read_scan.proofs.PlainPieces.{piece_between}
 use Rattle.tocmark_read_scan.specs.Basic.{plus, byte_at, bytes_between}
-use Rattle.tocmark_read_lines.specs.Lines.{ends_here, line_stop, line, last_line, lines_from, lines_of}
+use Rattle.tocmark_read_lines.specs.Lines.{ends_here, line_stop, line, last_line, lines_from}
 use Rattle.tocmark_read_lines.specs.declared.line.Line.{Line}
 use Rattle.tocmark_text_laws.specs.Lines.{IsInner, IsEnded, IsLine, LinesEndOnce}
 
--- a line ends at a line feed, at the last byte if that is a carriage return, and at a carriage return without a line feed behind it
+-- a line ends at a line feed, at the last byte if that is a carriage return, and at a carriage return without a line feed after it
 feed_ends : (t : List ℕ) (b at : ℕ) → (b == 10) ≡ true → ends_here t b at ≡ true
 unfolding ends_here
 feed_ends t b at h = rw h refl
@@ -82,7 +82,7 @@ goes t before start at b bs e more = by (ends_here t b at) e
     by true h = absurd (true≢false h)
     by false h = more
 
--- where a line stands that has come to a place
+-- where a line is that has come to a place
 record Stands (t pre held rest : List ℕ) (start at : ℕ) : Type 0 where
   whole : t ≡ pre ++ (held ++ rest)
   begins : start ≡ length pre
@@ -105,13 +105,13 @@ size t pre held rest start at s =
     let a : at ≡ length (pre ++ held) = there t pre held rest start at s in
     omega arith
 
--- these bytes stand at the place
+-- these bytes are at the place
 behind : (t pre held xs rest : List ℕ) (start at : ℕ) → Stands t pre held (xs ++ rest) start at → (end : ℕ) → end ≡ at + length xs → bytes_between t at end ≡ xs
 behind t pre held xs rest start at s end h =
     let a : at ≡ length (pre ++ held) = there t pre held (xs ++ rest) start at s in
     piece_between t (pre ++ held) xs rest at end (front_of t pre held (xs ++ rest) start at s) a (h ∙ ap (λ n. n + length xs) a)
 
--- a line begins behind some bytes
+-- a line begins after some bytes
 again : (t front xs rest : List ℕ) (at next : ℕ) → t ≡ front ++ (xs ++ rest) → at ≡ length front → next ≡ at + length xs → Stands t (front ++ xs) [] rest next next
 again t front xs rest at next e a h = record {
   whole = e ∙ sym (append_assoc front xs rest);
@@ -121,7 +121,7 @@ again t front xs rest at next e a h = record {
   quiet = let q : nat_lt next next ≡ false = grind (arith, nat_tests) in rw q refl;
 }
 
--- a line goes on behind a byte of it
+-- a line goes on after a byte of it
 further : (t pre held bs : List ℕ) (b start at : ℕ) → Stands t pre held (b ∷ bs) start at → IsInner b → Stands t pre (held ++ b ∷ []) bs start (at + 1)
 further t pre held bs b start at s k = record {
   whole = s.whole ∙ ap (λ x. pre ++ x) (sym (append_assoc held (b ∷ []) bs));

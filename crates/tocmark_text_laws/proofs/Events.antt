@@ -1,16 +1,16 @@
 -- The events of nodes depend on what the nodes say, and on the ranges that they end up with.
-use Rattle.std.proofs.Common.{◌≡◌, ℕ, zero, suc, ◌+◌, ◌-◌, ◌^◌, ◌<◌, ◌≤◌, Bool, true, false, ◌==◌, ◌&&◌, ◌||◌, if◌then◌else◌, nat_lt, nat_le, List, [], ◌∷◌, ◌++◌, length, map, pred, take, drop, reverse, refl, ap, sym, ◌∙◌, arith}
+use Rattle.std.proofs.Common.{◌≡◌, ℕ, zero, suc, ◌+◌, ◌-◌, ◌^◌, ◌<◌, ◌≤◌, Bool, true, false, ◌==◌, ◌&&◌, if◌then◌else◌, nat_lt, nat_le, List, [], ◌∷◌, length, map, pred, take, drop, reverse, refl, ap, sym, ◌∙◌, arith}
 use Rattle.std.specs.List.{fold}
 use Rattle.std.proofs.lemmas.List.{map-append, drop-map, take-map}
 use Prim.Native.Nat.compare
-use Rattle.tocmark_event.specs.View.{EventView, Start, End, Leaf, TagView, LeafView, Text, end_of}
+use Rattle.tocmark_event.specs.View.{EventView, End, Text}
 use Rattle.std.proofs.lemmas.Bool.Decides.{nat_tests}
 use Rattle.tocmark_read_scan.specs.Basic.{plus, bytes_between}
 use Rattle.tocmark_reader.specs.Emitted.{ItemView, NodeView, Container, Source, Given, Writing, end_event, closings, closed, put, step, emitted, source_text}
 use Rattle.tocmark_reader.specs.Range.{is_cut, snapped}
 use Rattle.tocmark_reader.specs.declared.emit.Open.{Open}
 use Rattle.tocmark_text_laws.proofs.Lists.{reverse_map}
-use Rattle.tocmark_text_laws.proofs.LinesFurther.{lt_on, le_on, between_on}
+use Rattle.tocmark_text_laws.proofs.LinesFurther.{le_on, between_on}
 
 -- what a node says
 abbrev pub plain_item : List ℕ → ItemView → ℕ → ℕ → ItemView

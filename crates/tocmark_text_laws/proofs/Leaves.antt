@@ -67,7 +67,7 @@ code_taken_on t c cs column line s low =
     rw (code_on cs column line low, between_on t c (code_piece cs column line).start (code_piece cs column line).end, same_keeps cs column s.leaf, piece_taken_on (code_piece cs column line) line (keeps_line cs column s.leaf) s)
     (html_ended_on (bytes_between t (code_piece cs column line).start (code_piece cs column line).end) (piece_taken (code_piece cs column line) line (keeps_line cs column s.leaf) s))
 
--- a leaf begins behind what ends in the line
+-- a leaf begins after what ends in the line
 opened_on_closed : (t : List ℕ) (c depth : ℕ) (f : Leaf) (k : BlockKind) (start : ℕ) (line : Line) (e l : ℕ) (s : State) → Tied e l s → line.number + 1 < 2 ^ 64 - 1
     → leaf_opened f (kind_on k) (suc start) (line_on line) (closed_to (c ∷ t) depth (page_on e l s)) ≡ tied_on (leaf_opened f k start line (closed_to t depth s))
 opened_on_closed t c depth f k start line e l s tied few =

@@ -26,3 +26,16 @@ pub mod Read
 pub mod CoreBlocks
 pub mod CoreKept
 pub mod Moved
+pub mod Alls
+pub mod Placed
+pub mod Walked
+pub mod Grounds
+pub mod Ranged
+pub mod InPlace
+pub mod NothingLost
+pub mod BlockNodes
+pub mod Stacked
+pub mod Nesting
+pub mod NestWalk
+pub mod NestRun
+pub mod KeptLines

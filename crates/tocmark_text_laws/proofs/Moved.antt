@@ -1,5 +1,5 @@
 -- Line feeds in front of a text, one after the other.
-use Rattle.std.proofs.Common.{◌≡◌, ℕ, zero, suc, ◌+◌, ◌-◌, ◌^◌, ◌<◌, List, [], ◌∷◌, ◌++◌, length, map, pred, replicate, refl, ap, sym, ◌∙◌, arith, length-append}
+use Rattle.std.proofs.Common.{◌≡◌, ℕ, zero, suc, ◌+◌, ◌-◌, ◌^◌, ◌<◌, List, [], ◌∷◌, ◌++◌, length, map, pred, replicate, refl, ap, ◌∙◌, arith, length-append}
 use Rattle.tocmark_event.specs.View.{EventView}
 use Rattle.tocmark_reader.specs.Reading.{core_reading}
 use Rattle.tocmark_text_laws.specs.EmptyLine.{moved_back, IsMovedBack, EmptyLinesInFront}

@@ -1,5 +1,5 @@
--- The events of a text behind an empty line are its own, one place further, if its blocks are of CommonMark's kinds.
-use Rattle.std.proofs.Common.{◌≡◌, ℕ, zero, suc, ◌+◌, ◌-◌, ◌^◌, ◌<◌, Bool, true, false, if◌then◌else◌, nat_le, List, [], ◌∷◌, ◌++◌, length, map, pred, refl, ap, sym, ◌∙◌, true≢false}
+-- The events of a text after an empty line are its own, one place further, if its blocks are of CommonMark's kinds.
+use Rattle.std.proofs.Common.{◌≡◌, ℕ, suc, ◌+◌, ◌^◌, ◌<◌, Bool, true, false, if◌then◌else◌, nat_le, List, [], ◌∷◌, ◌++◌, length, map, pred, refl, ap, sym, ◌∙◌, true≢false}
 use Rattle.std.specs.Prelude.{Option, Some, None}
 use Rattle.std.specs.Option.{option_map}
 use Rattle.std.specs.List.{AllByRecursion, fold}

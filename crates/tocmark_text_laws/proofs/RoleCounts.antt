@@ -1,8 +1,8 @@
 -- A leaf's first pass keeps one role for each byte.
-use Rattle.std.proofs.Common.{◌≡◌, ℕ, zero, suc, ◌-◌, Bool, true, false, not, ◌==◌, ◌&&◌, ◌||◌, if◌then◌else◌, nat_lt, nat_le, List, [], ◌∷◌, ◌++◌, length, drop, replicate, codes, refl, ap, sym, ◌∙◌}
+use Rattle.std.proofs.Common.{◌≡◌, ℕ, zero, suc, ◌-◌, Bool, true, false, not, ◌==◌, ◌&&◌, ◌||◌, if◌then◌else◌, nat_lt, nat_le, List, [], ◌∷◌, ◌++◌, length, drop, replicate, codes, refl, ap, ◌∙◌}
 use Rattle.std.specs.Prelude.{slice_get, slice_set, unwrap_or, Option, Some, None}
 use Rattle.std.specs.List.{fold}
-use Rattle.tocmark_read_scan.specs.Basic.{plus, byte_at, bytes_between, starts_at}
+use Rattle.tocmark_read_scan.specs.Basic.{plus, bytes_between, starts_at}
 use Rattle.tocmark_read_scan.specs.Class.{run_end}
 use Rattle.tocmark_read_scan.specs.Repeat.{iterated, repeated}
 use Rattle.tocmark_read_scan.specs.declared.class.Class.TheVariants.{Only}
@@ -27,12 +27,10 @@ use Rattle.tocmark_read_spans.specs.declared.link.InlineTarget.{InlineTarget}
 use Rattle.tocmark_read_spans.specs.declared.role.Leaf.{Leaf}
 use Rattle.tocmark_read_spans.specs.declared.role.Leaf.TheVariants.{HardBreak, SoftBreak}
 use Rattle.tocmark_read_spans.specs.declared.role.Role.{Role}
-use Rattle.tocmark_read_spans.specs.declared.role.Role.TheVariants.{Plain, Fresh, Hidden, Open, Close, Single}
-use Rattle.tocmark_read_spans.specs.declared.role.Span.TheVariants.{Link, Image}
+use Rattle.tocmark_read_spans.specs.declared.role.Role.TheVariants.{Fresh, Hidden, Single}
 use Rattle.tocmark_read_spans.specs.declared.role.Target.{Target}
 use Rattle.tocmark_read_spans.specs.declared.run.Run.{Run}
-use Rattle.tocmark_read_inlines.specs.Scan.{State, Known, ahead_in, before_space, kept, kept_code, kept_resolved_in, targeted, put_leaf, escaped, referred_to, referred, code_put, coded_to, coded, run_kept, run_taken, marked_last, marked, opened, imaged, address_target, addressed, html_put, tagged_to, tagged, mailed_to, mailed, angled_to, angled, line_ended, spanned, settled, linked, inline_to, closed_inline_in, missing, label_target, looked_up_as, looked_up, closed_asked, closed_by_label, closed_found_in, closed_active_in, popped, closed_popped_in, closed_last_in, closed_in, looked_mark, looked, is_mark_in, is_tilde_in, is_caret_in, is_dollar_in, is_note_end_in, looked_in, scan_step_in, scanned_in}
-use Rattle.tocmark_read_inlines.specs.Inlines.{scan_start}
+use Rattle.tocmark_read_inlines.specs.Scan.{State, Known, ahead_in, before_space, kept, kept_code, kept_resolved_in, targeted, put_leaf, escaped, referred_to, referred, code_put, coded_to, coded, run_kept, run_taken, marked_last, marked, opened, imaged, addressed, html_put, tagged_to, tagged, mailed_to, mailed, angled_to, angled, line_ended, spanned, settled, linked, closed_inline_in, missing, looked_up_as, looked_up, closed_asked, closed_by_label, closed_found_in, closed_active_in, popped, closed_popped_in, closed_last_in, closed_in, looked_mark, looked, is_mark_in, is_tilde_in, is_caret_in, is_dollar_in, is_note_end_in, looked_in, scan_step_in, scanned_in}
 use Rattle.tocmark_text_laws.proofs.Core.{repeated_keeps}
 
 set_length : {A : Type 0} (xs : List A) (i : ℕ) (x : A) → length (slice_set xs i x) ≡ length xs

@@ -1,4 +1,4 @@
--- What is read of a text behind one more byte: places and numbers of lines are one further, all else is the same.
+-- What is read of a text after one more byte: places and numbers of lines are one further, all else is the same.
 use Rattle.std.specs.Prelude.{ℕ, suc, ◌+◌, ◌^◌, ◌<◌, ◌≡◌, List, ◌∷◌, length, map}
 use Rattle.std.specs.Option.{option_map}
 use Rattle.tocmark_read_lines.specs.declared.cell.Cell.{Cell}

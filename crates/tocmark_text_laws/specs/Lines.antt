@@ -22,7 +22,7 @@ IsInner b = ((b == 10) ≡ false) × ((b == 13) ≡ false)
 abbrev pub ending_of : List ℕ → Line → List ℕ
 ending_of text l = bytes_between text l.end l.next
 
--- a line feed, a carriage return with a line feed, a carriage return without one behind it, or nothing where the text ends
+-- a line feed, a carriage return with a line feed, a carriage return without one after it, or nothing where the text ends
 abbrev pub IsEnded : List ℕ → Line → Type 0
 IsEnded text l =
     (ending_of text l ≡ 10 ∷ [])

@@ -1,8 +1,11 @@
 //! Laws of what is read of every text, each the contract of a function that does nothing: of a text's lines (`lines`),
-//! and of empty lines in front of a text (`empty_line`).
+//! of empty lines in front of a text (`empty_line`), of where its blocks are (`ranges`), and of the bytes of a leaf's text
+//! (`texts`).
 //!
-//! Below it stand the readers, whose definitions the laws speak of. No other crate needs it.
+//! Below it are the readers, whose definitions the laws speak of. No other crate needs it.
 #![tactic(auto)]
 
 pub mod empty_line;
 pub mod lines;
+pub mod ranges;
+pub mod texts;

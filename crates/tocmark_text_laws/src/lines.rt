@@ -7,8 +7,8 @@ pub fn lines_cover_the_text()
     ensures { LinesCoverTheText }
 {}
 
-/// Each line of a text has neither a line feed nor a carriage return in it. Behind it stands a line feed, a carriage
-/// return with a line feed, a carriage return without one behind it, or the end of the text.
+/// Each line of a text has neither a line feed nor a carriage return in it. After it is a line feed, a carriage
+/// return with a line feed, a carriage return without one after it, or the end of the text.
 pub fn lines_end_once()
     ensures { LinesEndOnce }
 {}

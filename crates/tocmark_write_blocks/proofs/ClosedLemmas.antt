@@ -1,4 +1,4 @@
--- Whether the end of an HTML block stands in it, by where the ends stand in all HTML from its beginning on.
+-- Whether the end of an HTML block is in it, by where the ends are in all HTML from its beginning on.
 use Rattle.std.proofs.Common.{◌≡◌, ℕ, ◌<◌, Bool, true, false, cond, codes, List, [], ◌∷◌, ◌++◌, refl, sym, ap, ◌∙◌, length, arith, append_assoc, IsUtf8}
 use Rattle.std.specs.Prelude.{◌||◌}
 use Rattle.std.specs.Char.{is_whitespace, to_ascii_lowercase}

@@ -1,4 +1,4 @@
--- What is found of HTML blocks from the last event to the first is what stands in them.
+-- What is found of HTML blocks from the last event to the first is what is in them.
 use Rattle.std.proofs.Common.{◌≡◌, ℕ, zero, suc, ◌+◌, ◌-◌, ◌<◌, ◌≤◌, Bool, Option, Some, None, List, [], ◌∷◌, ◌++◌, refl, sym, ap, ◌∙◌, subst, take, drop, length, length-append, append_assoc, arith, IsUtf8}
 use Rattle.std.specs.Prelude.{◌&&◌, nat_lt}
 use Rattle.std.specs.Str.{trim_start}
@@ -201,7 +201,7 @@ past-found es j x le rest there = let none : [] ≡ Start HtmlBlock ∷ rest = s
 abbrev facts : Bool → Bool → HtmlFacts
 facts b c = record { blank = b; closed = c }
 
--- a block with this body, behind which that stands
+-- a block with this body, after which that is
 block-is : (body tail : List SourcedEvent) (front text : List ℕ) → AreHtmlTexts body → AreHtmlTexts tail → AreHtmlTexts (body ++ tail)
     → all_html (body ++ tail) ≡ all_html body ++ all_html tail → text ≡ front ++ all_html (body ++ tail)
     → facts_by text (length (all_html tail)) (length tail) (ahead_of (body ++ tail))
@@ -237,7 +237,7 @@ body-html rest =
     ap (λ x. facts (is_blank_terminated x) (is_html_closed (all_html (body_in rest)))) (first-scan rest)
     ∙ ap (λ x. facts (html_of_kids (kids_of rest)).blank (is_html_closed x)) (joined-scan html_of_leaf rest)
 
--- a block behind whose Start these events stand
+-- a block after whose Start these events are
 start-is : (rest : List SourcedEvent) (front text : List ℕ) → AreHtmlTexts rest → text ≡ front ++ all_html rest
     → facts_by text (length (all_html (drop (span 0 rest) rest))) (length (drop (span 0 rest) rest)) (ahead_of rest) ≡ html_of_kids (kids_of rest)
 start-is rest front text h whole =

@@ -1,4 +1,4 @@
--- A piece stands in the front of a text just where its first place in all of it leaves enough bytes.
+-- A piece is in the front of a text just where its first place in all of it leaves enough bytes.
 use Rattle.std.proofs.Common.{◌≡◌, ℕ, suc, ◌+◌, ◌-◌, ◌<◌, ◌≤◌, Bool, true, false, cond, List, [], ◌∷◌, ◌++◌, refl, sym, ap, ◌∙◌, drop, length, length-append, get_or, arith, nat_eq}
 use Rattle.std.specs.Prelude.{◌||◌, ◌&&◌, ◌==◌, codes, if◌then◌else◌, nat_le, slice_get, unwrap_or}
 use Rattle.std.specs.Str.{str_to_ascii_lowercase}
@@ -48,7 +48,7 @@ either-false true b h = absurd (false≢true (sym h))
 other-byte : (b q : ℕ) → (b == q) ≡ false → nat_eq q b ≡ false
 other-byte b q h = grind (arith, nat_tests)
 
--- a piece doesn't stand where its first byte doesn't
+-- a piece isn't where its first byte doesn't
 none-begins : (q : ℕ) (ps text : List ℕ) → (unwrap_or (slice_get text 0) 0 == q) ≡ false → begins_with text (q ∷ ps) ≡ false
 none-begins q ps [] h = refl
 none-begins q ps (b ∷ bs) h = ap (λ c. c && begins_with bs ps) (other-byte b q h)

@@ -1,4 +1,4 @@
--- No body has a run of a token that stands in no text.
+-- No body has a run of a token that is in no text.
 use Rattle.std.proofs.Common.{◌≡◌, ℕ, zero, suc, ◌+◌, ◌<◌, ◌≤◌, Bool, true, false, List, [], ◌∷◌, length, drop, refl, sym, ◌∙◌, arith, subst}
 use Rattle.std.specs.Prelude.{◌==◌}
 use Rattle.std.proofs.lemmas.List.{drop_all}
@@ -81,7 +81,7 @@ one-without byte evs e i k q at held text h =
     let P : ℕ → Type 0 = λ i. AreWithout byte (drop i evs) in
     subst (AreWithout byte) (sym at) (held, (text, subst P q h))
 
--- and none behind the last
+-- and none after the last
 pub none-without : (byte : ℕ) (evs : List SourcedEvent) (len : ℕ) → length evs ≤ len → AreWithout byte (drop len evs)
 none-without byte evs len le = subst (AreWithout byte) (sym (drop_all len evs le)) tt
 

@@ -100,7 +100,7 @@ skip-bytes q ps (x ∷ xs) s h =
 
 -- ---- two texts that are joined
 
--- characters without the white space at their front, and others behind them
+-- characters without the white space at their front, and others after them
 abbrev joined_skip : List ℕ → List ℕ → List ℕ
 joined_skip [] ys = skip_leading_whitespace ys
 joined_skip (x ∷ xs) ys = x ∷ (xs ++ ys)
@@ -114,7 +114,7 @@ skip-append : (xs ys : List ℕ) → skip_leading_whitespace (xs ++ ys) ≡ join
 skip-append [] ys = refl
 skip-append (c ∷ xs) ys = skip-at (is_whitespace c) c xs ys (skip-append xs ys)
 
--- a text without the white space at its front, and another behind it
+-- a text without the white space at its front, and another after it
 abbrev pub joined_trim : List ℕ → List ℕ → List ℕ
 joined_trim [] s = trim_start s
 joined_trim (x ∷ xs) s = x ∷ (xs ++ s)

@@ -1,4 +1,4 @@
--- Where the ends of HTML blocks stand in a text, told by how many bytes are left from there on (CommonMark, section 4.6).
+-- Where the ends of HTML blocks are in a text, told by how many bytes are left from there on (CommonMark, section 4.6).
 use Rattle.std.specs.Prelude.{ℕ, ◌+◌, ◌-◌, Bool, ◌==◌, ◌||◌, if◌then◌else◌, nat_le, List, [], ◌∷◌, codes, drop, length, slice_get, unwrap_or}
 use Rattle.std.specs.Str.{str_to_ascii_lowercase}
 use Rattle.tocmark_spelling.specs.Words.{begins_with}
@@ -13,7 +13,7 @@ left_from piece (b ∷ bs) = if begins_with (b ∷ bs) piece then length (b ∷ 
 abbrev pub last_of : ℕ → List ℕ → List ℕ
 last_of left text = drop (length text - left) text
 
--- how many are left from the first place of each end on; tags stand there in capitals or not
+-- how many are left from the first place of each end on; tags are there in capitals or not
 abbrev pub ends_in : List ℕ → BlockEnds
 ends_in text = record {
   comment = left_from (codes "-->") text;
@@ -47,21 +47,21 @@ ends_with text lower behind = record {
 abbrev pub begins_end : ℕ → Bool
 begins_end b = (b == 62) || (b == 45) || (b == 63) || (b == 93)
 
--- some end may stand at the front of a text, which is given in lower case, too, by its first byte
+-- some end may be at the front of a text, which is given in lower case, too, by its first byte
 abbrev pub may_begin : List ℕ → List ℕ → Bool
 may_begin text lower = begins_end (unwrap_or (slice_get text 0) 0) || (unwrap_or (slice_get lower 0) 0 == 60)
 
--- whether a piece of this size stands before so many last bytes, by what is left from its first place on
+-- whether a piece of this size is before so many last bytes, by what is left from its first place on
 abbrev pub stands_before : ℕ → ℕ → ℕ → Bool
 stands_before after size left = nat_le (after + size) left
 
--- whether the end tag of some raw text stands before so many last bytes
+-- whether the end tag of some raw text is before so many last bytes
 abbrev pub tag_stands : ℕ → BlockEnds → Bool
 tag_stands after ends =
     stands_before after 6 ends.pre || stands_before after 9 ends.script || stands_before after 8 ends.style
     || stands_before after 11 ends.textarea
 
--- whether the end of the block that begins so stands before so many last bytes
+-- whether the end of the block that begins so is before so many last bytes
 abbrev pub closed_by : List ℕ → ℕ → BlockEnds → Bool
 closed_by opening after ends =
     if begins_with opening (codes "<!--") then stands_before after 3 ends.comment

@@ -1,4 +1,4 @@
--- What stands of a unit's HTML from an event on.
+-- What is of a unit's HTML from an event on.
 use Rattle.std.specs.Prelude.{ℕ, suc, ◌+◌, ◌-◌, Bool, ◌&&◌, ◌==◌, if◌then◌else◌, nat_lt, Option, Some, None, List, [], ◌∷◌, length, take}
 use Rattle.std.specs.Str.{IsUtf8, trim_start}
 use Rattle.tocmark_write_pending.specs.Ahead.{texts_of, first_of}
@@ -62,7 +62,7 @@ abbrev pub ahead_at : Option (List ℕ) → ℕ → List ℕ → HtmlAhead → H
 ahead_at (Some html) events text behind = ahead_with html events text behind
 ahead_at None events text behind = behind
 
--- whether a blank line ends the block behind whose end so many events are left
+-- whether a blank line ends the block after whose end so many events are left
 abbrev pub blank_by : ℕ → HtmlAhead → Bool
 blank_by events ahead = nat_lt events ahead.events && ahead.blank
 

@@ -8,11 +8,11 @@ use Rattle.tocmark_spelling.specs.Page.{Level, Path, Page, Site, Trail, with_tra
 use Rattle.tocmark_spelling.specs.Places.{is_in}
 use Rattle.tocmark_write_renderer.specs.WriterOf.{Rendering, levels_of, page_of, Stands}
 
--- where this leads from where a renderer stands
+-- where this leads from where a renderer is
 abbrev pub led_from : Rendering → (Path → Page → Site) → Site
 led_from old row = row (levels_of old) (page_of old)
 
--- a renderer stands where this leads from where the old one stood
+-- a renderer is where this leads from where the old one was
 abbrev pub Leads : Rendering → Rendering → (Path → Page → Site) → Type 0
 Leads old new row = Stands new (led_from old row).path (led_from old row).page
 

@@ -42,7 +42,7 @@ pub record AreRaw (o : OptionsView) (es : List SourcedEvent) (facts : List RawFa
   pub at : (i : ℕ) (e : SourcedEvent) (rest : List SourcedEvent) → drop i es ≡ e ∷ rest
       → IsRaw o e (kids_of rest) (slice_index_or facts i no_raw)
 
--- the longest run of a token in the body behind whose Start these events stand
+-- the longest run of a token in the body after whose Start these events are
 abbrev pub body_run : ℕ → List SourcedEvent → ℕ
 body_run token rest = longest_run token (chars (joined_by text_of_leaf (kids_of rest)))
 
@@ -51,7 +51,7 @@ pub record AreFenceRuns (token : ℕ) (es : List SourcedEvent) (runs : List Toke
   pub at : (i : ℕ) (info : List ℕ) (rest : List SourcedEvent) → drop i es ≡ Start (CodeBlock (Fenced info)) ∷ rest
       → (slice_index_or runs i no_runs).longest ≡ body_run token rest
 
--- whether a byte stands in a Text
+-- whether a byte is in a Text
 abbrev pub leaf_holds : ℕ → LeafView → Bool
 leaf_holds byte (Text t) = list_any (λ b. b == byte) t
 leaf_holds byte l = false
@@ -61,7 +61,7 @@ abbrev pub event_holds : ℕ → SourcedEvent → Bool
 event_holds byte (Leaf l) = leaf_holds byte l.leaf
 event_holds byte e = false
 
--- a byte stands in no Text, and each Text is UTF-8
+-- a byte is in no Text, and each Text is UTF-8
 abbrev pub AreWithout : ℕ → List SourcedEvent → Type 0
 AreWithout byte [] = Unit {0}
 AreWithout byte (e ∷ es) = (event_holds byte e ≡ false) × (IsText e × AreWithout byte es)

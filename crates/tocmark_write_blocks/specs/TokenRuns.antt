@@ -77,7 +77,7 @@ abbrev pub IsText : SourcedEvent → Type 0
 IsText (Leaf l) = IsLeafText l.leaf
 IsText e = Unit {0}
 
--- for each event the longest run of a token in the joined texts of the trees behind it; at a Start in its body's
+-- for each event the longest run of a token in the joined texts of the trees after it; at a Start in its body's
 pub record AreRuns (token : ℕ) (es : List SourcedEvent) (runs : List TokenRuns) : Type 0 where
   pub at : (i : ℕ)
       → (slice_index_or runs i no_runs).longest ≡ longest_run token (chars (joined_by text_of_leaf (kids_of (drop (i + 1) es))))

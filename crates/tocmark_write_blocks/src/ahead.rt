@@ -8,12 +8,12 @@ use tocmark_write_pending::body_facts::BodyFacts;
 pub struct Ahead<'e> {
     /// What the trees of the body are like.
     pub body: BodyFacts,
-    /// The event behind the container, beyond the unit's end too.
+    /// The event after the container, beyond the unit's end too.
     pub next: Option<&'e OwnedEvent>,
     /// In fenced code the longest run of its fence's token, in characters.
     pub longest: usize,
     /// In an HTML block whether a blank line ends it.
     pub blank: bool,
-    /// In an HTML block whether its end stands in it.
+    /// In an HTML block whether its end is in it.
     pub closed: bool,
 }

@@ -1,4 +1,4 @@
-//! Where the ends of HTML blocks stand in a text, told by how many bytes are left from there on.
+//! Where the ends of HTML blocks are in a text, told by how many bytes are left from there on.
 
 ghost use Rattle.std.specs.Prelude.{◌≡◌, ◌≤◌, [], length, slice_get, unwrap_or};
 ghost use Rattle.std.specs.Str.{str_to_ascii_lowercase};
@@ -73,7 +73,7 @@ fn first_byte(text: &[u8]) -> u8
     text.first().copied().unwrap_or(0)
 }
 
-/// Whether some end may stand at the front of a text, by its first byte.
+/// Whether some end may be at the front of a text, by its first byte.
 fn may_begin(text: &[u8], lower: &[u8]) -> bool
     ensures { result ≡ may_begin text.now lower.now }
 {
@@ -147,7 +147,7 @@ fn tag_stands(after: usize, ends: BlockEnds) -> bool
         || stands_before(after, 11, ends.textarea)
 }
 
-/// Whether the end of the HTML block that begins so stands before the last `after` bytes of a text:
+/// Whether the end of the HTML block that begins so is before the last `after` bytes of a text:
 /// that of the comment, instruction, character data or declaration, and else the end tag of some
 /// raw text.
 pub fn closed_by(opening: &[u8], after: usize, ends: BlockEnds) -> bool

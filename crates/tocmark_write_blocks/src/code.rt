@@ -29,7 +29,7 @@ use tocmark_write_renderer::job::Job;
 use tocmark_write_renderer::renderer::Renderer;
 use tocmark_write_texts::text_modifications::few_ticks;
 
-/// Four spaces behind an item's marker, and else a line of its own.
+/// Four spaces after an item's marker, and else a line of its own.
 fn begin_indented(renderer: &mut Renderer<'_>) -> Result<(), AllocError>
     ensures stands { OnOk result (Stands renderer.new (levels_of renderer.old)
         (if at_item_start (levels_of renderer.old) (page_of renderer.old)
@@ -109,7 +109,7 @@ pub fn open_code<'a>(
     }
 }
 
-/// The closing fence behind so many line feeds; nothing where there is none.
+/// The closing fence after so many line feeds; nothing where there is none.
 fn fence_closing(content: &OpeningChoice, feeds: usize) -> &str
     ensures { result.now ≡ fence_closing (content_view content.now) feeds }
 {
@@ -241,7 +241,7 @@ fn write_info(renderer: &mut Renderer<'_>, alloc: Global, info: &str) -> Result<
     renderer.write(text.as_str())
 }
 
-/// Writes a fence and the info string behind it.
+/// Writes a fence and the info string after it.
 fn write_fence(
     renderer: &mut Renderer<'_>,
     alloc: Global,
@@ -274,7 +274,7 @@ fn write_fence_line(
     renderer.write("\n")
 }
 
-/// The closing fence, if so many line feeds stand before it; nothing inside a line.
+/// The closing fence, if so many line feeds are before it; nothing inside a line.
 fn closing_fence<'a>(fence: &'a str, feeds: usize) -> &'a str
     ensures { result.now ≡ fence_closing (Fence fence.now) feeds }
 {

@@ -153,7 +153,7 @@ pub fn close_heading(
     }
 }
 
-/// Puts a heading's id behind a text, with a space and `#` before it; nothing if there is none.
+/// Puts a heading's id after a text, with a space and `#` before it; nothing if there is none.
 pub fn push_id(text: &mut String, id: &Option<String>) -> Result<(), AllocError>
     ensures { Grows result text.old text.new (id_text (option_map string_bytes id.now)) }
 {
@@ -189,8 +189,8 @@ fn push_value(text: &mut String, value: &Option<String>) -> Result<(), AllocErro
     }
 }
 
-/// Puts an attribute of a heading behind a text, with a space before it: its name, and its value
-/// behind `=` if it has one.
+/// Puts an attribute of a heading after a text, with a space before it: its name, and its value
+/// after `=` if it has one.
 pub fn push_attribute(
     text: &mut String,
     attribute: &(String, Option<String>),
@@ -216,7 +216,7 @@ fn push_attributes(
     Ok(())
 }
 
-/// What stands behind a heading's text: its id, classes and attributes in braces; nothing if there
+/// What is after a heading's text: its id, classes and attributes in braces; nothing if there
 /// are none.
 pub fn attributes_text(
     alloc: Global,

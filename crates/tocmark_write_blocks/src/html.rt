@@ -27,7 +27,7 @@ use tocmark_write_containers::prefix::Prefix;
 use tocmark_write_renderer::renderer::Renderer;
 
 /// Opens an HTML block, which writes nothing and keeps whether a blank line ends it and whether its
-/// end stands in it.
+/// end is in it.
 pub fn open_html<'a>(
     renderer: &mut Renderer<'a>,
     tag: &'a TagOf<String>,
@@ -48,7 +48,7 @@ pub fn open_html<'a>(
     )
 }
 
-/// What was written last behind an HTML block.
+/// What was written last after an HTML block.
 fn html_last(blank: bool) -> Last
     ensures { result ≡ html_last blank }
 {

@@ -1,4 +1,4 @@
-//! What stands of a unit's HTML from an event on.
+//! What is of a unit's HTML from an event on.
 
 ghost use Rattle.std.specs.Prelude.{◌≡◌, ◌+◌, ◌≤◌, [], length};
 ghost use Rattle.std.specs.Str.{str_to_ascii_lowercase};
@@ -27,7 +27,7 @@ pub struct HtmlAhead {
     pub blank: bool,
 }
 
-/// What is known behind the last event.
+/// What is known after the last event.
 pub fn nothing_ahead() -> HtmlAhead
     ensures { result ≡ ahead_of [] }
 {

@@ -23,7 +23,7 @@ use tocmark_write_pending::ends::{body_end, matching_ends};
 pub struct HtmlFacts {
     /// Whether a blank line ends it.
     pub blank: bool,
-    /// Whether its end stands in it.
+    /// Whether its end is in it.
     pub closed: bool,
 }
 
@@ -36,7 +36,7 @@ fn no_html() -> HtmlFacts
     }
 }
 
-/// Puts the HTML of an event behind a text.
+/// Puts the HTML of an event after a text.
 fn push_html(text: &mut String, event: &BufferedEvent) -> Result<(), AllocError>
     ensures { OnOk result (string_bytes text.new ≡ string_bytes text.old
         ++ event_text (buffered_view event.now)) }
@@ -130,7 +130,7 @@ fn found(
 }
 
 /// For each event that starts an HTML block how it ends, if there is such an event. It takes time
-/// in the events and their HTML, however deep such blocks stand in one another.
+/// in the events and their HTML, however deep such blocks are in one another.
 pub fn html_facts(
     alloc: Global,
     events: &[BufferedEvent],

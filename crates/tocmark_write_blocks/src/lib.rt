@@ -1,9 +1,9 @@
 //! Headings, quotes, paragraphs, code blocks, HTML blocks and metadata: what opens, what closes and what words each of
-//! them stands in one file, in this order.
+//! them is in one file, in this order.
 //!
-//! Below it stand `tocmark_write_renderer` and `tocmark_write_pending`, above it the other blocks (`tocmark_write_lists`,
+//! Below it are `tocmark_write_renderer` and `tocmark_write_pending`, above it the other blocks (`tocmark_write_lists`,
 //! `tocmark_write_tables`) and the loop that calls them all (`tocmark_write_unit`). Enter at `headings`, `quotes`,
-//! `paragraphs`, `code`, `html` or `metadata`. What all openings share stands in `ahead` (what one is told of its body and
+//! `paragraphs`, `code`, `html` or `metadata`. What all openings share is in `ahead` (what one is told of its body and
 //! of what follows it) and `new_line`, what all closings share in `trail`. `raw_facts` finds beforehand what is asked of
 //! the texts in code and HTML blocks, by `token_runs`, `html_facts` and `block_ends`.
 #![tactic(auto)]

@@ -7,7 +7,7 @@ ghost use Rattle.tocmark_write_renderer.specs.WriterOf.{levels_of, page_of, Stan
 use std::alloc::AllocError;
 use tocmark_write_renderer::renderer::Renderer;
 
-/// Begins a line where none begins here, but not right behind an item's marker.
+/// Begins a line where none begins here, but not right after an item's marker.
 pub fn begin_new_line(renderer: &mut Renderer<'_>) -> Result<(), AllocError>
     ensures stands { OnOk result (Stands renderer.new (levels_of renderer.old)
         (on_new_line (levels_of renderer.old) (page_of renderer.old))) }

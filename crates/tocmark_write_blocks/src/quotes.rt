@@ -18,7 +18,7 @@ use tocmark_write_containers::content::OpeningChoice;
 use tocmark_write_containers::prefix::Prefix;
 use tocmark_write_renderer::renderer::Renderer;
 
-/// Writes a quote's marker, right behind an item's marker or not, and owes what stands behind it.
+/// Writes a quote's marker, right after an item's marker or not, and owes what is after it.
 fn write_mark(
     renderer: &mut Renderer<'_>,
     kind: Option<BlockQuoteKind>,
@@ -35,7 +35,7 @@ fn write_mark(
     Ok(())
 }
 
-/// Opens a quote of this kind: its marker stands on a line of its own, but behind an item's marker.
+/// Opens a quote of this kind: its marker is on a line of its own, but after an item's marker.
 pub fn open_quote<'a>(
     renderer: &mut Renderer<'a>,
     tag: &'a TagOf<String>,
@@ -112,7 +112,7 @@ fn mark_at_item(kind: Option<BlockQuoteKind>) -> &'static str
     }
 }
 
-/// A quote's marker on its first line, with its kind if it has one; right behind an item's marker it
+/// A quote's marker on its first line, with its kind if it has one; right after an item's marker it
 /// has no space at its front.
 pub fn quote_mark(kind: Option<BlockQuoteKind>, at_item_start: bool) -> &'static str
     ensures { result.now ≡ without_space at_item_start (quote_mark kind) }
@@ -124,7 +124,7 @@ pub fn quote_mark(kind: Option<BlockQuoteKind>, at_item_start: bool) -> &'static
     }
 }
 
-/// The line feeds that a quote's first line owes to what stands in the quote: none right behind an
+/// The line feeds that a quote's first line owes to what is in the quote: none right after an
 /// item's marker where the quote has no kind, else one.
 pub fn quote_owes(kind: Option<BlockQuoteKind>, at_item_start: bool) -> usize
     ensures { result ≡ (if at_item_start && is_none kind then 0 else 1) }

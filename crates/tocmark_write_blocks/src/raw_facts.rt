@@ -28,7 +28,7 @@ pub struct RawFacts {
     pub longest: usize,
     /// Of an HTML block: whether a blank line ends it.
     pub blank: bool,
-    /// Of an HTML block: whether its end stands in it.
+    /// Of an HTML block: whether its end is in it.
     pub closed: bool,
 }
 
@@ -141,7 +141,7 @@ fn text_holds(text: &str, byte: u8) -> bool
     text.as_bytes().contains(&byte)
 }
 
-/// Whether a byte stands in an event that is a text.
+/// Whether a byte is in an event that is a text.
 fn event_holds(event: &BufferedEvent, byte: u8) -> bool
     ensures held { result ≡ event_holds byte (buffered_view event.now) }
     ensures text { IsText (buffered_view event.now) }
@@ -152,7 +152,7 @@ fn event_holds(event: &BufferedEvent, byte: u8) -> bool
     }
 }
 
-/// Whether a byte stands in no event that is a text.
+/// Whether a byte is in no event that is a text.
 fn are_without(events: &[BufferedEvent], byte: u8) -> bool
     ensures { result ≡ true → AreWithout byte (map buffered_view events.now) }
 {
@@ -166,7 +166,7 @@ fn are_without(events: &[BufferedEvent], byte: u8) -> bool
     true
 }
 
-/// Whether a token of ASCII stands in no text, so that no body has a run of it.
+/// Whether a token of ASCII is in no text, so that no body has a run of it.
 fn has_no_runs(events: &[BufferedEvent], token: char) -> bool
     ensures { result ≡ true → AreRuns token (map buffered_view events.now) [] }
 {
@@ -178,7 +178,7 @@ fn has_no_runs(events: &[BufferedEvent], token: char) -> bool
 }
 
 /// For each event that starts fenced code the runs of a token in it, if there is such an event and the
-/// token stands in a text.
+/// token is in a text.
 fn fence_runs(
     alloc: Global,
     events: &[BufferedEvent],
@@ -250,8 +250,8 @@ fn other_runs(
 }
 
 /// For each event that starts a code or HTML block what its opening asks of the texts in it. The list
-/// is empty where no block asks anything: without such a block, and for fenced code whose tokens stand in
-/// no text. It takes time in the events and their texts, however deep they stand.
+/// is empty where no block asks anything: without such a block, and for fenced code whose tokens are in
+/// no text. It takes time in the events and their texts, however deep they are.
 pub fn raw_facts(
     alloc: Global,
     options: &Options<'_>,

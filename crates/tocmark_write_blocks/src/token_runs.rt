@@ -13,9 +13,9 @@ use tocmark_spelling::buffered::BufferedEvent;
 /// The runs of a token in a text, in characters.
 #[derive(Clone, Copy)]
 pub struct TokenRuns {
-    /// How many tokens stand at its front.
+    /// How many tokens are at its front.
     pub front: usize,
-    /// How many stand at its end.
+    /// How many are at its end.
     pub back: usize,
     /// The length of the longest run.
     pub longest: usize,
@@ -90,7 +90,7 @@ fn char_runs(text: &str, token: char) -> Result<TokenRuns, AllocError>
     Ok(runs)
 }
 
-/// The runs of a token in a text. One of ASCII is found by its byte, which stands in no other
+/// The runs of a token in a text. One of ASCII is found by its byte, which is in no other
 /// character.
 fn text_runs(text: &str, token: char) -> Result<TokenRuns, AllocError>
     ensures { IfOk result (λ runs. runs ≡ runs_in token (chars text.now)) }
@@ -113,7 +113,7 @@ fn event_runs(event: &BufferedEvent, token: char) -> Result<TokenRuns, AllocErro
     }
 }
 
-/// A container in front with such a body; what stands to its right goes from the stack.
+/// A container in front with such a body; what is to its right goes from the stack.
 fn past_start(kids: TokenRuns, outer: &mut Vec<TokenRuns>) -> Result<TokenRuns, AllocError>
     ensures { IfOk result (λ x.
         record { inner = x; outer = reverse outer.new.items }
@@ -148,9 +148,9 @@ fn with_event(
     }
 }
 
-/// For each event the runs of a token in the joined texts of the trees behind it, up to the end of the container
+/// For each event the runs of a token in the joined texts of the trees after it, up to the end of the container
 /// that is innermost there: at a start, those of its body. It takes time in the events and their texts, however
-/// deep they stand.
+/// deep they are.
 pub fn token_runs(
     alloc: Global,
     events: &[BufferedEvent],
@@ -170,7 +170,7 @@ pub fn token_runs(
     Ok(runs)
 }
 
-/// The longest run of the token in the body behind an event.
+/// The longest run of the token in the body after an event.
 pub fn longest_at(runs: &[TokenRuns], i: usize) -> usize
     ensures { result ≡ (slice_index_or runs.now i no_runs).longest }
 {

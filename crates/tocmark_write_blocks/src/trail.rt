@@ -42,7 +42,7 @@ pub fn owe_at_least(renderer: &mut Renderer<'_>, lines: usize)
     renderer.set_carried(renderer.carried().raised(lines));
 }
 
-/// Says that a block ended last, and that so many line feeds are owed behind it.
+/// Says that a block ended last, and that so many line feeds are owed after it.
 pub fn end_block(renderer: &mut Renderer<'_>, end: TagEnd, owed: usize)
     ensures stands { OnPage renderer.old renderer.new
         (λ path p. with_owed owed (with_last (BlockEnd end) p)) }

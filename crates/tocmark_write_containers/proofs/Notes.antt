@@ -90,7 +90,7 @@ restore-step f g ks ms i k d less len at e done rest =
     ∙ sym (map-append g (take i ms) (get_or ms i d ∷ []))
     ∙ ap (map g) (sym (take_more ms i d (subst (λ n. i < n) len less)))
 
--- what stands behind the place of that step
+-- what is after the place of that step
 pub rest-step : (ks ms : List Kept) (i : ℕ) (k : Kept) → drop i ks ≡ drop i ms → drop (i + 1) (set ks i k) ≡ drop (i + 1) ms
 rest-step ks ms i k e = drop-set-lt (i + 1) ks i k (omega arith) ∙ sym (drop-drop 1 i ks) ∙ ap (drop 1) e ∙ drop-drop 1 i ms
 

@@ -65,7 +65,7 @@ start-more false b o s p e = by_case (b || is_number o s)
     by_case true = sym e
     by_case false = refl
 
--- nothing but openings stand between an item's opening and a place, if it is the one that was found
+-- nothing but openings is between an item's opening and a place, if it is the one that was found
 pub item-start : (place : ℕ) (path : Path) → is_item_start place path ≡ is_number (item_start_of path) place
 item-start place [] = refl
 item-start place (l ∷ path) =
@@ -214,7 +214,7 @@ nearest-none test f (l ∷ path) e = by_case (test l.tag) e (nearest-none test f
     by_case true e h = absurd (true≢false (ap is_some e))
     by_case false e h = ap (λ r. l ∷ r) (h e)
 
--- the nearest one stands at its place
+-- the nearest one is at its place
 nearest-at : (test : TagView → Bool) (path : Path) (d : Level) (i n : ℕ) → outside_nearest test path ≡ Some i → n + i + 1 ≡ length path → nearest test path ≡ Some (get_or path n d)
 nearest-at test [] d i n e s = absurd (omega (arith, s))
 nearest-at test (l ∷ path) d i n e s = by_case (test l.tag) n e s (λ e m. nearest-at test path d i m e)

@@ -36,7 +36,7 @@ at-place ks n k p e q =
 pub seen-at : {Y : Type 0} (f : Kept → Y) (ks : List Kept) (n : ℕ) (k : Kept) → 0 < n → n ≡ length ks → k ≡ get_or ks (n - 1) k → seen f ks ≡ f k ∷ seen f (take (n - 1) ks)
 seen-at f ks n k p e q = seen-last f ks (take (n - 1) ks) k (at-last ks n k p e q)
 
--- the innermost one stands at the front of the path
+-- the innermost one is at the front of the path
 pub head-is : (path : Path) (l : Level) → head_of path ≡ Some l → path ≡ l ∷ drop 1 path
 head-is [] l e = absurd (false≢true (ap is_some e))
 head-is (x ∷ xs) l e = ap (λ y. y ∷ xs) (ap (λ o. unwrap_or o x) e)

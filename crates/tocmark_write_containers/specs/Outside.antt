@@ -14,7 +14,7 @@ use Rattle.tocmark_write_containers.specs.declared.outside.Outside.{Outside}
 abbrev pub item_start_within : TagView → ℕ → Option ℕ → Option ℕ
 item_start_within t start outer = if is_item t || is_number outer start then Some start else None
 
--- the only place at which nothing but openings can stand between an item's opening and it
+-- the only place at which nothing but openings can be between an item's opening and it
 abbrev pub item_start_of : Path → Option ℕ
 item_start_of [] = None
 item_start_of (l ∷ path) = item_start_within l.tag l.start (item_start_of path)

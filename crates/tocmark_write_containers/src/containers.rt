@@ -27,7 +27,7 @@ use tocmark_spelling::kinds::is_item;
 #[derive(Drop)]
 pub struct Containers<'a> {
     alloc: Global,
-    /// What stands before each line: the prefixes of the open containers, joined.
+    /// What is before each line: the prefixes of the open containers, joined.
     prefix: String,
     /// The open containers, the innermost last.
     frames: Vec<Kept<'a>>,
@@ -64,7 +64,7 @@ impl<'a> Containers<'a> {
         }
     }
 
-    /// What stands before each line.
+    /// What is before each line.
     pub fn prefix(&self) -> &str
         ensures { result.now ≡ prefix_of self.now.path }
     {
@@ -121,7 +121,7 @@ impl<'a> Containers<'a> {
         }
     }
 
-    /// Whether nothing but openings stand between an item's opening and this place of the text, in
+    /// Whether nothing but openings is between an item's opening and this place of the text, in
     /// bytes.
     pub fn is_item_start(&self, place: usize) -> bool
         ensures { result ≡ is_item_start place self.now.path }
@@ -140,7 +140,7 @@ impl<'a> Containers<'a> {
         self.frames[n - 1].frame.start == place
     }
 
-    /// Whether no blank lines stand between the children of the innermost one.
+    /// Whether no blank lines are between the children of the innermost one.
     pub fn is_close(&self) -> bool
         ensures { result ≡ is_close self.now.path }
     {

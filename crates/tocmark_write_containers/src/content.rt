@@ -22,7 +22,7 @@ pub enum OpeningChoice {
     HtmlEnds {
         /// Whether a blank line ends the block.
         blank: bool,
-        /// Whether its end stands in it.
+        /// Whether its end is in it.
         closed: bool,
     },
     Listed(ListChoice),
@@ -32,12 +32,12 @@ pub enum OpeningChoice {
     Headers(Vec<usize>),
     /// A cell: its width so far, in characters.
     Width(usize),
-    /// Emphasis and its like: what stands before and after the body.
+    /// Emphasis and its like: what is before and after the body.
     Delimited {
         before: String,
         after: String,
     },
-    /// A link or image: whether its id stands in place of its body.
+    /// A link or image: whether its id is in place of its body.
     Named(bool),
 }
 
@@ -117,7 +117,7 @@ impl OpeningChoice {
         self.bullet() == Some('-')
     }
 
-    /// Whether `~~` stands before the body.
+    /// Whether `~~` is before the body.
     pub fn is_double(&self) -> bool
         ensures { result ≡ begins_double (content_view self.now) }
     {

@@ -13,7 +13,7 @@ use tocmark_event::event::TagOf;
 #[derive(Drop)]
 pub struct Frame<'a> {
     pub tag: &'a TagOf<String>,
-    /// What stands before each of its lines, behind the prefixes of the containers around it.
+    /// What is before each of its lines, after the prefixes of the containers around it.
     pub prefix: Prefix,
     /// Where its opening ended in the unit's text, in bytes.
     pub start: usize,

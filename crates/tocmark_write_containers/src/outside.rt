@@ -27,7 +27,7 @@ pub struct Outside {
     pub bullet: Option<char>,
     /// Whether the nearest open strikethrough began with `~~`.
     pub in_double: bool,
-    /// The place of the unit's text, in bytes, at which nothing but openings stand between it and an
+    /// The place of the unit's text, in bytes, at which nothing but openings is between it and an
     /// item's opening; none if there is no such place.
     pub item_start: Option<usize>,
     /// How many containers are open outside of the nearest open cell.
@@ -95,7 +95,7 @@ impl Outside {
         }
     }
 
-    /// Whether nothing but openings stand between an item's opening and this place of the unit's
+    /// Whether nothing but openings is between an item's opening and this place of the unit's
     /// text, in bytes.
     pub fn starts_item(self, place: usize) -> bool
         ensures { result ≡ is_number self.item_start place }

@@ -1,11 +1,11 @@
-//! What stands before the lines of one container.
+//! What is before the lines of one container.
 
 ghost use Rattle.std.specs.Prelude.{◌≡◌, ◌≤◌, ◌+◌, ◌++◌, ℕ, List, length, string_bytes, string_capacity, OnErr, OnOk, replicate};
 ghost use Rattle.tocmark_write_containers.specs.PrefixOf.{prefix_bytes};
 
 use std::alloc::AllocError;
 
-/// What stands before each line of a container, behind what stands there for those around it.
+/// What is before each line of a container, after what is there for those around it.
 #[derive(Clone, Copy)]
 pub enum Prefix {
     Empty,

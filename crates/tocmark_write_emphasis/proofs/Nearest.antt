@@ -16,7 +16,7 @@ mark-before (true ∷ ms) i e (suc n) q = lt-ltb i e (omega arith)
 mark-before (false ∷ ms) i e zero q = mark-before ms (i + 1) e zero (omega arith)
 mark-before (false ∷ ms) i e (suc n) q = mark-before ms (i + 1) e n (omega arith)
 
--- no end stands behind them
+-- no end is after them
 mark-behind : (ms : List Bool) (i n : ℕ) → length ms ≤ n → comes_before (first_mark i ms) None ≡ list_any (λ b. b) (take n ms)
 mark-behind [] i zero h = refl
 mark-behind [] i (suc n) h = refl

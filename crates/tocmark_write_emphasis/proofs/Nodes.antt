@@ -47,13 +47,13 @@ front-before es i b p lt e =
     ∙ ap (λ n. front (reverse (map buffered_view (take n es)))) q
     ∙ ap (λ x. front (reverse x)) (events-take es i)
 
--- the event just behind a place
+-- the event just after a place
 pub front-behind : (es : List BufferedEvent) (i : ℕ) (b : BufferedEvent) (next : Option EventView) → i + 1 < length es → b ≡ get_or es (i + 1) b → Some (event_of b) ≡ or_else (front (drop (i + 1) (map buffered_view es))) next
 front-behind es i b next lt e =
     ap Some (sym (unsourced-sourced (event_of b) _))
     ∙ ap (λ x. or_else (front x) next) (sym (drop-event es (i + 1) b lt e))
 
--- no event stands behind a place
+-- no event is after a place
 pub none-behind : (es : List BufferedEvent) (i : ℕ) (next : Option EventView) → length es ≤ i + 1 → next ≡ or_else (front (drop (i + 1) (map buffered_view es))) next
 none-behind es i next le = ap (λ x. or_else (front x) next) (sym (drop-all (map buffered_view es) (i + 1) (omega (arith, length-events es))))
 
@@ -62,7 +62,7 @@ strong-is Emphasis e = refl
 strong-is Strong e = refl
 strong-is t e = absurd (false≢true e)
 
--- the End of a container stands behind its children
+-- the End of a container is after its children
 end-flat : (f : Trees) (d : ℕ) (r : List SourcedEvent) → drop (span d (flat_onto f r)) (flat_onto f r) ≡ drop (span d r) r
 end-flat empty d r = refl
 end-flat (leaf l f) zero r = end-flat f zero r
@@ -94,7 +94,7 @@ before-end es rest i end t at q =
     ∙ ap (λ x. reverse (take (span 0 rest) x) ++ reverse (take (i + 1) es)) (place-rest es rest i (Start t) at)
     ∙ ap (λ x. reverse (body_in rest) ++ x) (place-before es rest i (Start t) at)
 
--- the events behind it
+-- the events after it
 pub behind-end : (es rest : List SourcedEvent) (i end : ℕ) (t : TagView) → drop i es ≡ Start t ∷ rest → end ≡ i + 1 + span 0 rest → drop (end + 1) es ≡ behind_body rest
 behind-end es rest i end t at q =
     let place : end + 1 ≡ i + 1 + suc (span 0 rest) = omega (arith, q) in
@@ -234,7 +234,7 @@ literals-low es i end n opening closing =
     let right : IsLow (run_view n.closing) = subst IsLow (sym closing) (run-low (reverse (take end es)) (drop end es)) in
     record { before = left.before; after = right.after }
 
--- the event just behind a container
+-- the event just after a container
 pub next-is : (es rest : List SourcedEvent) (i end : ℕ) (t : TagView) → end ≡ i + 1 + span 0 rest → Begins es i t rest → or_else (front (drop (end + 1) es)) None ≡ front (behind_body rest)
 next-is es rest i end t place begins =
     or-none (front (drop (end + 1) es)) ∙ ap front (behind-end es rest i end t begins.at place)

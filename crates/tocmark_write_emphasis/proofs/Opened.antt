@@ -92,7 +92,7 @@ item-low : (s : Setting) (c : OpeningChoice) (list : Level) (l : Look) (outside 
 item-low s (Listed c) list l outside p h = ((λ k. absurd (false≢true k)), ((λ k. nothing-low), h))
 item-low s c list l outside p h = tt
 
--- the markers that stand beside a run in Texts
+-- the markers that are beside a run in Texts
 before-low : (width : SourcedEvent → ℕ) (before : List SourcedEvent) → IfSome (literal_before width before) (λ c. c < 128)
 before-low width before = marker_only-low (edge_before (text_only (front (behind_run width before))))
 
@@ -155,7 +155,7 @@ closing-low o (l ∷ path) p h = closing_of-low o l.tag l path p h.1
 
 -- ---- a step
 
--- a machine stands in such containers, or has refused an event
+-- a machine is in such containers, or has refused an event
 abbrev IsLowIn : Machine → Type 0
 IsLowIn machine = IsLowAt (site_in machine)
 

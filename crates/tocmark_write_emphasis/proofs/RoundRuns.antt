@@ -25,7 +25,7 @@ module _ (c : Counted) (e : SourcedEvent) (back rest : List SourcedEvent) (run :
       found (run_at (width_of c) (width_of c e) back rest) (is ∙ run-counted c e back rest h)
       ∙ ap (λ (zs : List SourcedEvent). edge_before (front zs)) (sym (behind-cons c e back h))
 
-  -- behind the run that begins with it
+  -- after the run that begins with it
   pub behind-record : is_counted c e ≡ true → (character : Option ℕ) → ((r : Run) → run ≡ Some r → character ≡ r.after) → character ≡ run_after (width_of c) (e ∷ rest)
   behind-record h character found =
       found (run_at (width_of c) (width_of c e) back rest) (is ∙ run-counted c e back rest h)

@@ -45,7 +45,7 @@ asked_by d strong = asked_marker (markers_of d) (tag_of strong)
 pub record IsNode (node : EmphasisEvents) (l : Look) : Type 0 where
   -- whether the event before it is an End of Emphasis or Strong
   pub follows_closing : ends_delimiter l.previous ≡ node.follows_closing
-  -- the first character of the event behind it
+  -- the first character of the event after it
   pub next : edge_after l.next ≡ node.next
   -- its two runs
   pub opening : l.opening ≡ run_view node.opening
@@ -63,7 +63,7 @@ asks_runs layout = false
 pub record IsParent (layout : Layout) (f : Parent) (parent : Level) (l : Look) (p : Page) : Type 0 where
   -- the first byte of what it opened with
   pub marker : marker_of parent ≡ f.marker
-  -- whether nothing was written since its opening, and whether its End is the event behind the node
+  -- whether nothing was written since its opening, and whether its End is the event after the node
   pub same_start : same_start parent p ≡ f.same_start
   pub same_finish : same_finish parent l ≡ f.same_finish
   -- where runs are asked, that of its marker round the end of its opening
@@ -88,7 +88,7 @@ pub record IsPlace (layout : Layout) (place : NodeSurroundings) (token : List �
   -- the nearest open Emphasis or Strong
   pub parent : IsNearest layout place.parent (nearest is_emphasis_or_strong path) l p
 
--- the markers that may be chosen are ASCII: the one asked for, the parent's, and those that stand beside the node in
+-- the markers that may be chosen are ASCII: the one asked for, the parent's, and those that are beside the node in
 -- Texts
 pub record AreLow (asked : ℕ) (node : EmphasisEvents) (place : NodeSurroundings) : Type 0 where
   pub asked_is : asked < 128

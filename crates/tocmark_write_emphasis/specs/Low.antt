@@ -34,12 +34,12 @@ AsksLow d = chooses_bytes d.layout ≡ true → AreLowAsked d
 abbrev pub OpensLow : Delimiters → Path → Type 0
 OpensLow d path = chooses_bytes d.layout ≡ true → AreLowLevels path
 
--- the markers that stand beside a node in Texts are ASCII
+-- the markers that are beside a node in Texts are ASCII
 pub record HasLowLiterals (node : EmphasisEvents) : Type 0 where
   pub before : IfSome node.opening.literal_before (λ c. c < 128)
   pub after : IfSome node.closing.literal_after (λ c. c < 128)
 
--- where a machine stands; none where it has refused an event
+-- where a machine is; none where it has refused an event
 abbrev pub site_in : Machine → Option Site
 site_in (going here before) = Some here
 site_in (skipping d here before) = Some here

@@ -6,12 +6,12 @@ use Rattle.tocmark_spelling.specs.Runs.{counts, disturbs_at}
 use Rattle.tocmark_write_pending.specs.Pending.{PendingView}
 use Rattle.tocmark_write_texts.specs.Characters.{is_white_space}
 
--- an asterisk could close emphasis behind this character, given whether it and the one after are boundaries
+-- an asterisk could close emphasis after this character, given whether it and the one after are boundaries
 abbrev pub closes_at : Option ℕ → Bool → Bool → Bool
 closes_at None at_before at_first = false
 closes_at (Some c) at_before at_first = not (is_white_space c) && (not at_before || at_first)
 
--- whether an event starts a node that disturbs, given the characters before its Start, behind it, and behind its End
+-- whether an event starts a node that disturbs, given the characters before its Start, after it, and after its End
 abbrev pub mark_of : Setting → Bool → SourcedEvent → Option ℕ → Option ℕ → Option ℕ → Bool
 mark_of s runs (Start t) before first after = counts runs t && disturbs_at s before first after
 mark_of s runs e before first after = false

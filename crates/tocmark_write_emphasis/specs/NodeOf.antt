@@ -13,11 +13,11 @@ use Rattle.tocmark_write_pending.specs.Ahead.{behind_body, IsNested}
 use Rattle.tocmark_write_emphasis.specs.Facts.{IsNode, Readings, tag_at}
 use Rattle.tocmark_write_emphasis.specs.declared.facts.EmphasisEvents.{EmphasisEvents}
 
--- a run without markers, beside which nothing stands
+-- a run without markers, beside which nothing is
 abbrev pub no_run : Run
 no_run = record { before = None; after = None; literal_before = None; literal_after = None; width = 0 }
 
--- at this place starts a container of emphasis or strong emphasis, behind whose Start these events stand
+-- at this place starts a container of emphasis or strong emphasis, after whose Start these events are
 pub record Begins (es : List SourcedEvent) (i : ℕ) (t : TagView) (rest : List SourcedEvent) : Type 0 where
   pub at : drop i es ≡ Start t ∷ rest
   pub delimits : is_emphasis_or_strong t ≡ true

@@ -35,7 +35,7 @@ fn finds_emphasis(events: &[(Event<'static>, (usize, usize))]) -> bool
     false
 }
 
-/// Whether the reader opens emphasis behind a character.
+/// Whether the reader opens emphasis after a character.
 fn opens_behind<R: Reader>(alloc: Global, reader: &R, character: char) -> Result<bool, AllocError>
     ensures { (o : OptionsView) (flags : ParserOptions) (label : Option (List ℕ))
         → IfOk result (λ opens.

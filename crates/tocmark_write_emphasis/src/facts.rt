@@ -15,9 +15,9 @@ pub struct EmphasisEvents {
     pub strong: bool,
     /// Whether the event before it ends emphasis or strong emphasis.
     pub follows_closing: bool,
-    /// The first character of the event behind it, beyond the unit's end too.
+    /// The first character of the event after it, beyond the unit's end too.
     pub next: Option<char>,
-    /// The runs in which its Start and its End stand.
+    /// The runs in which its Start and its End are.
     pub opening: Run,
     pub closing: Run,
     /// How many markers it opens with, those of its first children included.
@@ -33,7 +33,7 @@ pub struct Parent {
     pub marker: char,
     /// Whether nothing was written since its opening.
     pub same_start: bool,
-    /// Whether its End is the event behind the node.
+    /// Whether its End is the event after the node.
     pub same_finish: bool,
     /// Where the layout asks for runs: how long the run of its marker is in the text round the end
     /// of its opening, in bytes.

@@ -110,7 +110,7 @@ fn in_sharing<R: Reader>(
 ///
 /// The facts may be those of any unit, text and open containers. In a layout that chooses among single
 /// bytes the answer is the definition's where all bytes that may be chosen are ASCII. Whether `_` may
-/// stand beside a character past ASCII is asked of the reader.
+/// are beside a character past ASCII is asked of the reader.
 #[tactic(auto, unfolding(tocmark_spelling::specs::Marker::marker))]
 pub fn marker<R: Reader>(
     alloc: Global,

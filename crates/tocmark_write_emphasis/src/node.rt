@@ -96,7 +96,7 @@ fn edge_after(event: Option<&OwnedEvent>) -> Option<char>
     }
 }
 
-/// The event behind a place, or else the one after the unit.
+/// The event after a place, or else the one after the unit.
 pub fn following<'e>(
     events: &'e [BufferedEvent],
     place: usize,
@@ -139,7 +139,7 @@ impl Columns {
     }
 }
 
-/// The event in the unit just behind the container that starts at this place. `ends` says where the
+/// The event in the unit just after the container that starts at this place. `ends` says where the
 /// containers end.
 pub fn next_in_unit<'e>(
     events: &'e [BufferedEvent],

@@ -48,7 +48,7 @@ fn marker_here<R: Reader>(
 /// Opens a node of emphasis or strong emphasis, whose tag this is: the marker is chosen by what the
 /// unit's events say of it, by what is written, and by the open containers.
 ///
-/// `next` is the event in the unit just behind the node.
+/// `next` is the event in the unit just after the node.
 pub fn open_emphasis<'a, R: Reader>(
     renderer: &mut Renderer<'a>,
     task: &Task<'_, '_, '_, R>,

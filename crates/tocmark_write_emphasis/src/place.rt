@@ -24,7 +24,7 @@ use tocmark_write_containers::frame::Frame;
 use tocmark_write_pending::edges::last_character;
 use tocmark_write_renderer::renderer::Renderer;
 
-/// What stands before the body of a delimited container.
+/// What is before the body of a delimited container.
 fn opening_token(content: &OpeningChoice) -> &str
     ensures { result.now ≡ opening_token (content_view content.now) }
 {
@@ -104,7 +104,7 @@ struct Neighbour {
     marker: u8,
     /// Where its opening ended, in bytes.
     start: usize,
-    /// Whether its End is the event behind the node.
+    /// Whether its End is the event after the node.
     same_finish: bool,
 }
 
@@ -169,7 +169,7 @@ fn is_opened_with(
 /// What the written text and the open containers say of this place, as far as the layout of these
 /// delimiters asks.
 ///
-/// `next` is the event in the unit just behind the node that opens here.
+/// `next` is the event in the unit just after the node that opens here.
 pub fn place_of(
     renderer: &mut Renderer<'_>,
     alloc: Global,

@@ -44,9 +44,9 @@ fn closes_between(before: Option<char>, at_before: bool, at_first: bool, at_afte
 struct Characters {
     /// The one before its start.
     before: Option<char>,
-    /// The one behind its start.
+    /// The one after its start.
     first: Option<char>,
-    /// The one behind its end.
+    /// The one after its end.
     after: Option<char>,
 }
 
@@ -85,7 +85,7 @@ fn before_run(run: Option<Run>) -> Option<char>
     }
 }
 
-/// The character behind a run, if one is given.
+/// The character after a run, if one is given.
 fn behind_run(run: Option<Run>) -> Option<char>
     ensures { (r : spelled.Run) → option_map run_view run ≡ Some r → result ≡ r.after }
 {
@@ -109,7 +109,7 @@ fn before_starts(event: &BufferedEvent, unit: &Pending, place: usize) -> Option<
     }
 }
 
-/// The character behind the run of starts that begins with the event at a place of a unit, or that of
+/// The character after the run of starts that begins with the event at a place of a unit, or that of
 /// the event.
 fn behind_starts(event: &BufferedEvent, unit: &Pending, place: usize) -> Option<char>
     ensures { let e = buffered_view event.now in (rest : List SourcedEvent)
@@ -122,7 +122,7 @@ fn behind_starts(event: &BufferedEvent, unit: &Pending, place: usize) -> Option<
     }
 }
 
-/// The character behind the run of ends that begins with the event at a place of a unit, or that of the
+/// The character after the run of ends that begins with the event at a place of a unit, or that of the
 /// event.
 fn behind_ends(event: &BufferedEvent, unit: &Pending, place: usize) -> Option<char>
     ensures { let e = buffered_view event.now in (rest : List SourcedEvent)
@@ -148,7 +148,7 @@ fn beyond_before(unit: &Pending, place: usize) -> Option<char>
     }
 }
 
-/// The character behind the run of starts that goes on just behind a place.
+/// The character after the run of starts that goes on just after a place.
 fn beyond_starts(unit: &Pending, place: usize) -> Option<char>
     ensures { result ≡ run_after start_width (drop (place + 1) unit.now.events) }
 {
@@ -160,7 +160,7 @@ fn beyond_starts(unit: &Pending, place: usize) -> Option<char>
     }
 }
 
-/// The character behind the run of ends that goes on just behind a place.
+/// The character after the run of ends that goes on just after a place.
 fn beyond_ends(unit: &Pending, place: usize) -> Option<char>
     ensures { result ≡ run_after close_width (drop (place + 1) unit.now.events) }
 {
@@ -344,7 +344,7 @@ fn nearer(is_marked: bool, place: usize, nearest: Option<usize>) -> Option<usize
     if is_marked { Some(place) } else { nearest }
 }
 
-/// For each place whether one behind it and before its end is marked, or one behind it where it
+/// For each place whether one after it and before its end is marked, or one after it where it
 /// has no end.
 ///
 /// Where the marks are at the starts that would need asterisks that could close what is round them,

@@ -27,7 +27,7 @@ fn other_token(marker: char) -> &'static str
     if is_star(marker) { "_" } else { "*" }
 }
 
-/// The marker of emphasis: `_` if it is preferred and may stand here, else the one asked for, but not
+/// The marker of emphasis: `_` if it is preferred and may be here, else the one asked for, but not
 /// the one of the emphasis round it.
 pub fn preferred_marker<R: Reader>(
     alloc: Global,

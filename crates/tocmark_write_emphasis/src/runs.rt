@@ -14,7 +14,7 @@ use crate::facts::{EmphasisEvents, NodeSurroundings, Parent, other_marker};
 use std::alloc::{AllocError, Global};
 use tocmark_event::reader::Reader;
 
-/// Whether `_` may stand between these characters.
+/// Whether `_` may be between these characters.
 pub fn fits_underscore<R: Reader>(
     alloc: Global,
     reader: &R,
@@ -93,7 +93,7 @@ fn beside_parent<R: Reader>(
     }
 }
 
-/// The marker by runs: `*` where `_` couldn't stand; behind a closing the one that wasn't written
+/// The marker by runs: `*` where `_` couldn't be; after a closing the one that wasn't written
 /// last; `_` where it is preferred; else that asked for, or another than the parent's.
 pub fn marker_by_runs<R: Reader>(
     alloc: Global,

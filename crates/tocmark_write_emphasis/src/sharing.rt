@@ -190,7 +190,7 @@ fn by_sharing<R: Reader>(
     }
 }
 
-/// With literal texts: the marker that stands in a text before or behind the node.
+/// With literal texts: the marker that is in a text before or after the node.
 fn literal_marker(text: TextSpelling, node: &EmphasisEvents) -> Option<char>
     ensures marker { (l : Look) → IsNode node.now l
         → result ≡ literal_marker text l }
@@ -203,7 +203,7 @@ fn literal_marker(text: TextSpelling, node: &EmphasisEvents) -> Option<char>
     }
 }
 
-/// The marker by shared runs or the rule of three: one that stands beside the node in a literal text,
+/// The marker by shared runs or the rule of three: one that is beside the node in a literal text,
 /// else by what was written and by the parent.
 pub fn shared_marker<R: Reader>(
     alloc: Global,

@@ -6,7 +6,7 @@ use tocmark_write_renderer::job::{Job, Manner};
 #[derive(Drop)]
 pub struct Task<'t, 'o, 'm, R> {
     pub job: Job<'t, 'o>,
-    /// The reader that is asked where `_` may stand.
+    /// The reader that is asked where `_` may be.
     pub reader: &'o R,
     pub manner: Manner<'m>,
 }

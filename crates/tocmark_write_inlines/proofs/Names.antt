@@ -1,4 +1,4 @@
--- For which links and images the id stands in place of the body.
+-- For which links and images the id is in place of the body.
 use Rattle.std.proofs.Common.{◌≡◌, ◌∙◌, sym, ap, refl, ℕ, zero, suc, ◌+◌, ◌-◌, ◌<◌, ◌≤◌, Bool, true, false, List, [], ◌∷◌, ◌++◌, Option, length, map, drop, take, slice_index_or, arith, append-nil, append_assoc, get_or, Result, Ok, Err, IfOk}
 use Rattle.std.specs.Prelude.{◌&&◌, ◌||◌, codes}
 use Rattle.std.specs.List.{list_any}
@@ -22,7 +22,7 @@ use Rattle.tocmark_spelling.specs.Spelling.{id_of}
 use Rattle.tocmark_spelling.specs.declared.buffered.BufferedEvent.{BufferedEvent}
 use Rattle.tocmark_write_inlines.specs.Named.{asks_reader, begins_link, is_named, mark_of, may_be_named, starts_paragraph}
 
--- what stands behind the body
+-- what is after the body
 text-ended : (t : List ℕ) (k : TagEnd) (es : List EventView) → after_text t (es ++ End k ∷ End end.Paragraph ∷ []) ≡ after_text t es ++ End k ∷ End end.Paragraph ∷ []
 text-ended t k [] = refl
 text-ended t k (Leaf (Text u) ∷ es) = refl
@@ -182,7 +182,7 @@ body-is bs t rest i width end at q w =
     ∙ ap (take width) (place-rest (map buffered_view bs) rest i (Start t) at)
     ∙ ap (λ n. take n rest) wide
 
--- what stands at a place
+-- what is at a place
 pub place-at : (bs : List BufferedEvent) (i : ℕ) (b : BufferedEvent) → i < length bs → b ≡ get_or bs i b → drop i (map buffered_view bs) ≡ buffered_view b ∷ drop (i + 1) (map buffered_view bs)
 place-at bs i b lt is =
     drop-map buffered_view i bs

@@ -28,7 +28,7 @@ module _ {X Y : Type 0} (result : Result X Y) (w mid : Rendering) (o : OptionsVi
       let T : Bool → Type 0 = λ b. OnOk result (StandsAt w (held_or_shown b o flags text source whole e next path p)) in
       subst T (sym last) (subst R same (subst Q stands.page_is (subst P stands.path_is shows)))
 
-  -- a stretch was written behind its gap, and the nearest cell widened
+  -- a stretch was written after its gap, and the nearest cell widened
   pub shown-wide : (one two : Rendering) (h : Held) → Stands one (levels_of mid) (gap e (levels_of mid) (page_of mid)) → Stands two (levels_of one) (shown o flags text source h next (levels_of one) (page_of one)) → OnOk result (Stands w (widened (length (chars h.text)) (levels_of two)) (page_of two)) → Shows h (levels_of mid) (page_of mid)
   shown-wide one two h gapped written wide =
       on_ok_weaker result (λ k. record {

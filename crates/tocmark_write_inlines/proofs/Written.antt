@@ -1,4 +1,4 @@
--- What is written to a text stands at its end.
+-- What is written to a text is at its end.
 use Rattle.std.proofs.Common.{◌≡◌, ℕ, List, ◌++◌, string_bytes, String}
 use Rattle.std.specs.Fmt.{WritesInCalls}
 use Rattle.std.specs.Global.{Global}

@@ -1,4 +1,4 @@
--- Which containers stand between delimiters that nothing in their bodies decides.
+-- Which containers are between delimiters that nothing in their bodies decides.
 use Rattle.std.specs.Prelude.{Bool, true, false}
 use Rattle.tocmark_event.specs.View.{TagView, Strikethrough, Superscript, Subscript}
 

@@ -15,7 +15,7 @@ use Rattle.tocmark_spelling.specs.declared.trail.Last.TheVariants.{Inline, Other
 use Rattle.tocmark_spelling.specs.declared.plan.TextSpelling.{TextSpelling}
 use Rattle.tocmark_write_renderer.specs.WriterOf.{Rendering, Stands, unheld}
 
--- the renderer stands at this place
+-- the renderer is at this place
 abbrev pub StandsAt : Rendering → Site → Type 0
 StandsAt w here = Stands w here.path here.page
 
@@ -23,7 +23,7 @@ StandsAt w here = Stands w here.path here.page
 abbrev pub spelled_on : EventView → List ℕ → Path → Page → Site
 spelled_on e text path p = record { path = path; page = with_last Inline (written path text (gap e path p)) }
 
--- a code span behind the gap of this event; the nearest cell is wider by its text and two backticks
+-- a code span after the gap of this event; the nearest cell is wider by its text and two backticks
 abbrev pub code_led : EventView → List ℕ → Path → Page → Site
 code_led e text path p =
     record (spelled_on e (code_span (is_in is_table path) text) path p) { path = widened (length (chars text) + 2) path }
@@ -39,11 +39,11 @@ ruled_on o path p = record {
   page = with_owed (max o.newlines_after_rule 1) (with_last Other (written path (rule_text p.trail.last path) p));
 }
 
--- a thematic break behind the gap of this event (CommonMark, section 4.1)
+-- a thematic break after the gap of this event (CommonMark, section 4.1)
 abbrev pub rule_led : OptionsView → EventView → Path → Page → Site
 rule_led o e path p = ruled_on o path (gap e path p)
 
--- a stretch behind the gap of this event; the nearest cell is wider by its characters
+-- a stretch after the gap of this event; the nearest cell is wider by its characters
 abbrev pub shown_on : OptionsView → ParserOptions → TextSpelling → Bool → Held → EventView → Option EventView → Path → Page → Site
 shown_on o flags text source h e next path p = record {
   path = widened (length (chars h.text)) path;

@@ -1,4 +1,4 @@
--- For which links and images the id stands in place of the body.
+-- For which links and images the id is in place of the body.
 use Rattle.std.specs.Prelude.{◌≡◌, ℕ, Bool, true, false, Option, List, [], ◌∷◌, ◌&&◌, codes, slice_index_or, drop}
 use Rattle.tocmark_event.specs.Options.{OptionsView}
 use Rattle.tocmark_event.specs.View.{TagView, Paragraph, Link, Image, SourcedEvent, EventView, Start}
@@ -9,7 +9,7 @@ use Rattle.tocmark_spelling.specs.PlanOf.{setting_of}
 use Rattle.tocmark_write_pending.specs.Ahead.{body_in, is_named_by_id}
 use Rattle.tocmark_write_renderer.specs.JobOf.{Reading}
 
--- a link or image of a type that lets its id stand in place of its body
+-- a link or image of a type that lets its id are in place of its body
 abbrev pub may_be_named : TagView → Bool
 may_be_named (Link k d t i) = goes_by_id k
 may_be_named (Image k d t i) = goes_by_id k
@@ -40,12 +40,12 @@ abbrev pub begins_link : TagView → List EventView → Bool
 begins_link t (p ∷ e ∷ es) = starts_paragraph p && is_same_kind t e
 begins_link t es = false
 
--- what stands before the brackets of an image; nothing for a link
+-- what is before the brackets of an image; nothing for a link
 abbrev pub mark_of : TagView → List ℕ
 mark_of (Image k d t i) = codes "!"
 mark_of t = []
 
--- whether events begin with the Start of a link or image whose id stands in place of its body
+-- whether events begin with the Start of a link or image whose id is in place of its body
 abbrev pub is_named : Setting → List SourcedEvent → Bool
 is_named s (Start t ∷ rest) = is_named_by_id s t (body_in rest)
 is_named s es = false

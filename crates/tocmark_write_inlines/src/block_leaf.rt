@@ -48,7 +48,7 @@ fn rule_text(last: Last, in_hyphen_list: bool) -> &'static str
     }
 }
 
-/// Writes a thematic break that stands behind its gap, and says how many line feeds it owes.
+/// Writes a thematic break that is after its gap, and says how many line feeds it owes.
 fn write_ruled(renderer: &mut Renderer<'_>, options: &Options<'_>) -> Result<(), AllocError>
     ensures stands { OnOk result (StandsAt renderer.new
         (ruled_on (options_view options.now) (levels_of renderer.old) (page_of renderer.old))) }
@@ -61,7 +61,7 @@ fn write_ruled(renderer: &mut Renderer<'_>, options: &Options<'_>) -> Result<(),
     Ok(())
 }
 
-/// Writes a thematic break behind its gap.
+/// Writes a thematic break after its gap.
 pub fn write_rule(
     renderer: &mut Renderer<'_>,
     options: &Options<'_>,

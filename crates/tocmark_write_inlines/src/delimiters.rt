@@ -27,15 +27,15 @@ use tocmark_write_containers::prefix::Prefix;
 use tocmark_write_renderer::job::{Job, Manner};
 use tocmark_write_renderer::renderer::Renderer;
 
-/// What stands before and after the body of a container.
+/// What is before and after the body of a container.
 #[derive(Clone, Copy)]
 pub struct Delimiter {
     pub before: &'static str,
     pub after: &'static str,
 }
 
-/// Writes what stands before the body of a container, and opens the container, which keeps both
-/// what stands before its body and what stands after it.
+/// Writes what is before the body of a container, and opens the container, which keeps both
+/// what is before its body and what is after it.
 pub fn open_between<'a>(
     renderer: &mut Renderer<'a>,
     alloc: Global,
@@ -61,7 +61,7 @@ pub fn open_between<'a>(
     )
 }
 
-/// What stands before and after the body of a strikethrough; it is said whether the nearest
+/// What is before and after the body of a strikethrough; it is said whether the nearest
 /// strikethrough outside is between `~~`.
 fn struck(job: Job<'_, '_>, manner: Manner<'_>, in_double: bool) -> Delimiter
     ensures before { (reading : Reading) (path : Path)
@@ -77,7 +77,7 @@ fn struck(job: Job<'_, '_>, manner: Manner<'_>, in_double: bool) -> Delimiter
     }
 }
 
-/// What stands before and after the body of a strikethrough, superscript or subscript, and nothing
+/// What is before and after the body of a strikethrough, superscript or subscript, and nothing
 /// for another container; it is said whether the nearest strikethrough outside is between `~~`.
 fn delimiter_of(
     job: Job<'_, '_>,
@@ -130,7 +130,7 @@ pub fn close_inline(renderer: &mut Renderer<'_>, text: &str) -> Result<(), Alloc
     Ok(())
 }
 
-/// What stands behind the body of a delimited container; nothing for another one.
+/// What is after the body of a delimited container; nothing for another one.
 fn closing_token(content: &OpeningChoice) -> &str
     ensures { result.now ≡ closing_token (content_view content.now) }
 {
@@ -170,7 +170,7 @@ fn reads_subscripts(flags: ParserOptions) -> bool
     flags.contains(ParserOptions::ENABLE_SUBSCRIPT)
 }
 
-/// What stands before and after a strikethrough: `~~`, but `~` in another layout than the preferred
+/// What is before and after a strikethrough: `~~`, but `~` in another layout than the preferred
 /// one where `~` is no subscript and the nearest strikethrough outside is between `~~`.
 pub fn strikethrough_token(layout: Layout, flags: ParserOptions, in_double: bool) -> &'static str
     ensures { (s : Setting) (m : SpelledManner) (path : Path)
@@ -184,7 +184,7 @@ pub fn strikethrough_token(layout: Layout, flags: ParserOptions, in_double: bool
     }
 }
 
-/// What stands before and after a superscript: HTML if the options ask for it, `^^` in the uniform
+/// What is before and after a superscript: HTML if the options ask for it, `^^` in the uniform
 /// layout, and else `^`.
 pub fn superscript(options: &Options<'_>, layout: Layout) -> Delimiter
     ensures { (s : Setting) (m : SpelledManner) (path : Path) (p : Page)
@@ -209,7 +209,7 @@ pub fn superscript(options: &Options<'_>, layout: Layout) -> Delimiter
     }
 }
 
-/// What stands before and after a subscript: HTML if the options ask for it, and else `~`.
+/// What is before and after a subscript: HTML if the options ask for it, and else `~`.
 pub fn subscript(options: &Options<'_>) -> Delimiter
     ensures { (s : Setting) (path : Path) (p : Page) → s.options ≡ options_view options.now
         → open_subscript s path p ≡ opened_between Subscript result path p }

@@ -17,7 +17,7 @@ use tocmark_spelling::trail::Last;
 use tocmark_write_renderer::renderer::Renderer;
 use tocmark_write_texts::text_modifications::{SpanEnds, few_ticks, in_cell, math_text, span_ends};
 
-/// Writes inline content, which stands behind its gap.
+/// Writes inline content, which is after its gap.
 pub fn write_inline(renderer: &mut Renderer<'_>, text: &str) -> Result<(), AllocError>
     ensures stands { OnOk result (Stands renderer.new (levels_of renderer.old)
         (with_last Inline (written (levels_of renderer.old) text.now (page_of renderer.old)))) }
@@ -28,7 +28,7 @@ pub fn write_inline(renderer: &mut Renderer<'_>, text: &str) -> Result<(), Alloc
     Ok(())
 }
 
-/// Writes an inline leaf with this text, behind its gap.
+/// Writes an inline leaf with this text, after its gap.
 pub fn write_spelled(
     renderer: &mut Renderer<'_>,
     event: &OwnedEvent,
@@ -110,7 +110,7 @@ fn write_some(renderer: &mut Renderer<'_>, text: &str) -> Result<(), AllocError>
     renderer.write(text)
 }
 
-/// Writes what stands before the text of a code span.
+/// Writes what is before the text of a code span.
 fn write_opening(
     renderer: &mut Renderer<'_>,
     alloc: Global,
@@ -125,7 +125,7 @@ fn write_opening(
     write_some(renderer, ends.padding)
 }
 
-/// Writes what stands behind the text of a code span.
+/// Writes what is after the text of a code span.
 fn write_closing(
     renderer: &mut Renderer<'_>,
     alloc: Global,
@@ -158,7 +158,7 @@ fn write_enclosed(
     write_closing(renderer, alloc, ends)
 }
 
-/// Writes a text as a code span behind its gap.
+/// Writes a text as a code span after its gap.
 fn write_spanned(
     renderer: &mut Renderer<'_>,
     alloc: Global,
@@ -177,7 +177,7 @@ fn write_spanned(
     Ok(())
 }
 
-/// Writes a code span behind its gap, in a table or not.
+/// Writes a code span after its gap, in a table or not.
 #[tactic(auto, unfolding(tocmark_write_texts::specs::Leaves::code_span))]
 fn write_span(
     renderer: &mut Renderer<'_>,
@@ -198,7 +198,7 @@ fn write_span(
     write_spanned(renderer, alloc, event, inside.as_str())
 }
 
-/// Writes a code span behind its gap, and makes the nearest cell wider by its text's characters and two
+/// Writes a code span after its gap, and makes the nearest cell wider by its text's characters and two
 /// backticks. It fails if memory runs out, or if the width would be too large.
 pub fn write_code(
     renderer: &mut Renderer<'_>,
@@ -215,7 +215,7 @@ pub fn write_code(
     widen_by_code(renderer, text)
 }
 
-/// Writes mathematics within a line, behind its gap.
+/// Writes mathematics within a line, after its gap.
 pub fn write_inline_math(
     renderer: &mut Renderer<'_>,
     alloc: Global,
@@ -232,7 +232,7 @@ pub fn write_inline_math(
     write_spelled(renderer, event, math.as_str())
 }
 
-/// Writes mathematics that is shown on its own, behind its gap.
+/// Writes mathematics that is shown on its own, after its gap.
 pub fn write_display_math(
     renderer: &mut Renderer<'_>,
     alloc: Global,
@@ -249,7 +249,7 @@ pub fn write_display_math(
     write_spelled(renderer, event, math.as_str())
 }
 
-/// Writes a reference to the footnote with this label, behind its gap.
+/// Writes a reference to the footnote with this label, after its gap.
 pub fn write_footnote_reference(
     renderer: &mut Renderer<'_>,
     alloc: Global,
@@ -265,7 +265,7 @@ pub fn write_footnote_reference(
     write_spelled(renderer, event, reference.as_str())
 }
 
-/// Writes the box of a task list, checked or not, behind its gap.
+/// Writes the box of a task list, checked or not, after its gap.
 pub fn write_task_marker(
     renderer: &mut Renderer<'_>,
     event: &OwnedEvent,

@@ -1,4 +1,4 @@
-//! A leaf of any kind, and what stands beside it.
+//! A leaf of any kind, and what is beside it.
 
 ghost use Rattle.std.specs.Prelude.{◌≡◌, List, Option, OnOk};
 ghost use Rattle.tocmark_event.specs.View.{EventView, SourcedEvent, SourcedLeaf, Leaf};
@@ -22,7 +22,7 @@ use tocmark_spelling::buffered::BufferedEvent;
 use tocmark_write_renderer::job::{Job, Manner};
 use tocmark_write_renderer::renderer::Renderer;
 
-/// What stands beside a leaf.
+/// What is beside a leaf.
 #[derive(Clone, Copy)]
 pub struct Beside<'e> {
     /// The event before it.
@@ -33,7 +33,7 @@ pub struct Beside<'e> {
     pub next: Option<&'e OwnedEvent>,
 }
 
-/// Writes a leaf behind its gap; HTML has none, and a text is held while a further one follows. No
+/// Writes a leaf after its gap; HTML has none, and a text is held while a further one follows. No
 /// Start and no End is given. It fails if memory runs out, or if a cell would be too wide.
 pub fn write_leaf(
     renderer: &mut Renderer<'_>,

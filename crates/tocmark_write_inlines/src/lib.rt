@@ -1,9 +1,9 @@
-//! What stands in lines: texts, which are held until their stretch ends (`stretch`), leaves with a text of their own,
-//! each behind its gap, the delimiters of strikethrough, super- and subscripts, and links and images.
+//! What is in lines: texts, which are held until their stretch ends (`stretch`), leaves with a text of their own,
+//! each after its gap, the delimiters of strikethrough, super- and subscripts, and links and images.
 //!
-//! Below it stand `tocmark_write_blocks` and `tocmark_write_lists`, above it `tocmark_write_emphasis`,
+//! Below it are `tocmark_write_blocks` and `tocmark_write_lists`, above it `tocmark_write_emphasis`,
 //! `tocmark_write_unit` and the labels. Enter at `leaf`, which takes a leaf of any kind, at `delimiters`, and at
-//! `links`, both with what opens, what closes and what words them. For which links the id stands in place of the body
+//! `links`, both with what opens, what closes and what words them. For which links the id is in place of the body
 //! is found in `named`.
 #![tactic(auto)]
 

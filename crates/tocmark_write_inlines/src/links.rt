@@ -25,7 +25,7 @@ use tocmark_write_renderer::parts::Reference;
 use tocmark_write_renderer::renderer::Renderer;
 use tocmark_write_texts::text_modifications;
 
-/// Writes a mark, and opens a link or image behind it.
+/// Writes a mark, and opens a link or image after it.
 fn open_named<'a>(
     renderer: &mut Renderer<'a>,
     tag: &'a TagOf<String>,
@@ -41,7 +41,7 @@ fn open_named<'a>(
     renderer.push_frame(tag, Prefix::Empty, OpeningChoice::Named(named))
 }
 
-/// Opens a link of this type; `named` says whether its id will stand in place of its body.
+/// Opens a link of this type; `named` says whether its id will be in place of its body.
 pub fn open_link<'a>(
     renderer: &mut Renderer<'a>,
     tag: &'a TagOf<String>,
@@ -56,7 +56,7 @@ pub fn open_link<'a>(
     open_named(renderer, tag, link_mark(kind), named)
 }
 
-/// Opens an image; `named` says whether its id will stand in place of its body.
+/// Opens an image; `named` says whether its id will be in place of its body.
 pub fn open_image<'a>(
     renderer: &mut Renderer<'a>,
     tag: &'a TagOf<String>,
@@ -187,7 +187,7 @@ fn label_from(renderer: &Renderer<'_>, alloc: Global, start: usize) -> Result<St
     String::from_str(alloc, renderer.text_from(start))
 }
 
-/// The end, with this text, of a link or image whose label is what stands behind its opening, unless
+/// The end, with this text, of a link or image whose label is what is after its opening, unless
 /// its id is needed.
 fn close_with_body(
     renderer: &mut Renderer<'_>,
@@ -285,7 +285,7 @@ pub fn close_named(
     }
 }
 
-/// What stands before the body of a link of this type.
+/// What is before the body of a link of this type.
 pub fn link_mark(kind: LinkType) -> &'static str
     ensures { result.now ≡ link_mark kind }
 {

@@ -1,4 +1,4 @@
-//! For which links and images the id stands in place of the body.
+//! For which links and images the id is in place of the body.
 
 ghost use Rattle.std.specs.Prelude.{◌≡◌, ◌<◌, ◌-◌, ◌+◌, ◌++◌, ◌∷◌, [], ℕ, List, Option, codes, drop, length, map, string_bytes, take, IfOk};
 ghost use Rattle.std.specs.List.{list_any};
@@ -24,7 +24,7 @@ use tocmark_event::reader::Reader;
 use tocmark_spelling::buffered::BufferedEvent;
 use tocmark_write_pending::ends::body_end;
 
-/// Whether the id of a link or image of this type may stand in place of its body.
+/// Whether the id of a link or image of this type may be in place of its body.
 fn goes_by_id(kind: LinkType) -> bool
     ensures { result ≡ goes_by_id kind }
 {
@@ -54,7 +54,7 @@ fn asks_reader(event: &BufferedEvent) -> bool
     }
 }
 
-/// Whether some event starts a link or image whose id may stand in place of its body.
+/// Whether some event starts a link or image whose id may be in place of its body.
 fn ask_reader(events: &[BufferedEvent]) -> bool
     ensures { result ≡ list_any asks_reader (map buffered_view events.now) }
 {
@@ -95,7 +95,7 @@ fn is_same_kind(tag: &TagOf<String>, event: &Event<'_>) -> bool
     }
 }
 
-/// Whether what was found behind the start of a link or image is this body, and the ends of the link
+/// Whether what was found after the start of a link or image is this body, and the ends of the link
 /// or image and of a paragraph.
 fn ends_link(
     found: &[(Event<'_>, (usize, usize))],
@@ -140,7 +140,7 @@ fn is_one_link(
     ends_link(&found[2..], tag, body)
 }
 
-/// What stands before the brackets of an image; nothing for a link.
+/// What is before the brackets of an image; nothing for a link.
 fn mark_of(tag: &TagOf<String>) -> &'static str
     ensures { result.now ≡ mark_of (tag_view string_bytes tag.now) }
 {
@@ -180,7 +180,7 @@ fn reads_back<R: Reader>(
     Ok(is_one_link(&reading.events, tag, body))
 }
 
-/// Whether the id of a container stands in place of this body. Only one that may be named asks the
+/// Whether the id of a container is in place of this body. Only one that may be named asks the
 /// reader.
 fn is_named_by_id<R: Reader>(
     alloc: Global,
@@ -200,7 +200,7 @@ fn is_named_by_id<R: Reader>(
     }
 }
 
-/// Whether an event starts a link or image whose id stands in place of its body, which is this.
+/// Whether an event starts a link or image whose id is in place of its body, which is this.
 fn is_named<R: Reader>(
     alloc: Global,
     reader: &R,
@@ -258,7 +258,7 @@ fn body_behind<'e>(
     first_of(rest_of(events, i + 1), width)
 }
 
-/// Whether at a place of a unit a link or image starts whose id stands in place of its body.
+/// Whether at a place of a unit a link or image starts whose id is in place of its body.
 fn is_named_at<R: Reader>(
     alloc: Global,
     reader: &R,
@@ -277,7 +277,7 @@ fn is_named_at<R: Reader>(
     is_named(alloc, reader, flags, &events[i], body)
 }
 
-/// For each event whether it starts a link or image whose id stands in place of its body, given where
+/// For each event whether it starts a link or image whose id is in place of its body, given where
 /// the containers end. It is empty where the reader needn't be asked.
 ///
 /// It fails if memory runs out, here or in the reader.

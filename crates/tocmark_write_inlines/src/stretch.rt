@@ -27,7 +27,7 @@ use tocmark_write_renderer::parts::Held;
 use tocmark_write_renderer::renderer::Renderer;
 use tocmark_write_texts::escape::EscapeSurroundings;
 
-/// Where a stretch of texts stands.
+/// Where a stretch of texts is.
 fn place<'b>(
     renderer: &Renderer<'_>,
     job: Job<'_, '_>,
@@ -97,7 +97,7 @@ fn lent(held: &Held) -> Stretch<'_>
     }
 }
 
-/// Writes a whole stretch that stands behind its gap: as it is where nothing is read in it, from the
+/// Writes a whole stretch that is after its gap: as it is where nothing is read in it, from the
 /// source where that is wanted and known, else escaped.
 fn write_stretch(
     renderer: &mut Renderer<'_>,
@@ -177,7 +177,7 @@ fn going_on(
 }
 
 /// Adds a text to the stretch that is held: it is held while a further text follows, else written
-/// behind its gap, and the nearest cell is wider by its characters.
+/// after its gap, and the nearest cell is wider by its characters.
 pub fn add_text(
     renderer: &mut Renderer<'_>,
     job: Job<'_, '_>,
@@ -246,7 +246,7 @@ fn ends_delimiter(previous: Option<&OwnedEvent>) -> bool
     }
 }
 
-/// Whether emphasis starts behind a place.
+/// Whether emphasis starts after a place.
 fn starts_delimiter(next: Option<&OwnedEvent>) -> bool
     ensures { result ≡ and_is (λ e. starts is_emphasis_or_strong e) (following_view next.entry) }
 {
@@ -270,7 +270,7 @@ fn longer(held: Held, text: &str, source: &Option<String>) -> Result<Held, Alloc
     })
 }
 
-/// How many bytes there is room for behind the first text of a stretch: code is held line by line.
+/// How many bytes there is room for after the first text of a stretch: code is held line by line.
 const ROOM_FOR_MORE: usize = 256;
 
 /// A copy of a text, with room for what joins it.

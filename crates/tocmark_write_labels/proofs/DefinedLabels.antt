@@ -42,7 +42,7 @@ mapped-cond : (b : Bool) (k : Key) (o : Option Key) → option_map key_view (con
 mapped-cond true k o = refl
 mapped-cond false k o = refl
 
--- one more definition, in front of those behind it
+-- one more definition, in front of those after it
 pub definition-before : (defined : List Reference) (p : ℕ) (r : Reference) (k : Key) (f q : List ℕ) (old new : Option Key) → p < length defined → r ≡ get_or defined p r → key_view k ≡ reference_view r → f ≡ folded k.label.now
     → new ≡ cond (bytes_eq f q) (Some k) old → option_map key_view old ≡ definition_for (map reference_view (drop (p + 1) defined)) q
     → option_map key_view new ≡ definition_for (map reference_view (drop p defined)) q

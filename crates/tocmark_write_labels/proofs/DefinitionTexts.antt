@@ -18,7 +18,7 @@ use Rattle.tocmark_write_labels.specs.declared.definitions.Key.{Key}
 pub written-text : (w v : String Global) (bs : List ℕ) → WritesInCalls (λ s bs t. string_bytes t ≡ string_bytes s ++ bs) w bs v → string_bytes v ≡ string_bytes w ++ bs
 written-text w v bs = contents_after_writes _ string_bytes (λ w l v t. t) w bs v
 
--- definitions that are left, behind others or as the first ones
+-- definitions that are left, after others or as the first ones
 abbrev pub lines_left : Bool → List page.Reference → List ℕ
 lines_left true rs = lines_of rs
 lines_left false [] = []

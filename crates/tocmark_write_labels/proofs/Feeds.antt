@@ -45,7 +45,7 @@ trimmed r (Some n, found, none) = absurd (one-zero n found.ends none)
 pub trimmed-is : (s r : List ℕ) → IsTrimStartMatches (FindsCharPrefix 10) s r → r ≡ bare s
 trimmed-is s r h = sym (cuts s h.0.0 r h.0.1 ∙ trimmed r h.1)
 
--- a text may be cut behind them
+-- a text may be cut after them
 pub feeds-boundary : (text rest : List ℕ) → rest ≡ bare text → IsUtf8 rest → IsCharBoundary text (length text - length rest)
 feeds-boundary text rest is utf8 =
     let fits = prefix_len-le-length (λ b. b == 10) text in

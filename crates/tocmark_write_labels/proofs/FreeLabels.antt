@@ -106,7 +106,7 @@ among-member (u ∷ us) f =
 used-member : (used : List (List ℕ)) (n : ℕ) → n < 10 ^ 64 → is_among used (numbered_label n) ≡ is_member bytes_eq used (numbered_label n)
 used-member used n h = among-member used (folded (numbered_label n)) ∙ ap (is_member bytes_eq used) (small-folded (numbered_label n) (small-label n h))
 
--- from a number on, up to one before which so many stand, all are used
+-- from a number on, up to one before which so many are, all are used
 AllUsed : List (List ℕ) → ℕ → ℕ → Type 0
 AllUsed used n k = (m : ℕ) → n ≤ m → m < n + k → is_among used (numbered_label m) ≡ true
 

@@ -31,6 +31,6 @@ abbrev pub known_unless : Bool → List (List ℕ) → DocumentView → Document
 known_unless true labels d = d
 known_unless false labels d = record d { known = with_labels d.known labels }
 
--- the document behind which a unit is written: before the first unit the labels of these definitions become known
+-- the document after which a unit is written: before the first unit the labels of these definitions become known
 abbrev pub behind : List Reference → DocumentView → DocumentView
 behind defined d = known_unless d.flushed (map (λ r. r.label) defined) d

@@ -8,7 +8,7 @@ use Rattle.tocmark_write_texts.specs.Destination.{definition_closing}
 abbrev pub same_reference : Reference → Reference → Bool
 same_reference a b = bytes_eq a.label b.label && bytes_eq a.destination b.destination && bytes_eq a.title b.title
 
--- the references without those that stand among the earlier ones or come again
+-- the references without those that are among the earlier ones or come again
 abbrev pub distinct_after : List Reference → List Reference → List Reference
 distinct_after earlier [] = []
 distinct_after earlier (r ∷ rs) =
@@ -28,7 +28,7 @@ lines_of [] = []
 lines_of (r ∷ []) = definition r
 lines_of (r ∷ q ∷ rs) = definition r ++ codes "\n" ++ lines_of (q ∷ rs)
 
--- the definitions of references, after line feeds of which two stand; nothing for no references
+-- the definitions of references, after line feeds of which two are; nothing for no references
 unfoldable pub definitions_text : List Reference → ℕ → List ℕ
 definitions_text [] feeds = []
 definitions_text (r ∷ rs) feeds = replicate (2 - feeds) 10 ++ lines_of (distinct (r ∷ rs))

@@ -12,7 +12,7 @@ key_view k = record { label = k.label.now; destination = k.destination.now; titl
 abbrev pub same_key : Key → Key → Bool
 same_key a b = bytes_eq a.label.now b.label.now && (bytes_eq a.destination.now b.destination.now && bytes_eq a.title.now b.title.now)
 
--- definitions, one a line, after line feeds of which two stand; nothing for none
+-- definitions, one a line, after line feeds of which two are; nothing for none
 abbrev pub lines_behind : List Reference → ℕ → List ℕ
 lines_behind [] feeds = []
 lines_behind (r ∷ rs) feeds = replicate (2 - feeds) 10 ++ lines_of (r ∷ rs)

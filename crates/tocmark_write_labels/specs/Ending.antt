@@ -1,4 +1,4 @@
--- How the definitions that are left come to stand at the end.
+-- How the definitions that are left come to be at the end.
 use Rattle.std.specs.Prelude.{ℕ, Bool, true, false, ◌==◌, List, [], ◌∷◌, ◌++◌, drop, take, codes}
 use Rattle.std.specs.List.{list_any, prefix_len}
 use Rattle.tocmark_event.specs.View.{TagView, CodeBlock, HtmlBlock, SourcedEvent, Start}
@@ -22,7 +22,7 @@ holds_raw_block unit = list_any starts_raw_block unit
 abbrev pub leading_feeds : List ℕ → ℕ
 leading_feeds text = prefix_len (λ b. b == 10) text
 
--- definitions behind a text's leading line feeds, without their own, and then a blank line
+-- definitions after a text's leading line feeds, without their own, and then a blank line
 abbrev pub with_definitions_in_front : List ℕ → List ℕ → List ℕ
 with_definitions_in_front defs text =
     take (leading_feeds text) text ++ drop (leading_feeds defs) defs ++ codes "\n\n" ++ drop (leading_feeds text) text
@@ -32,7 +32,7 @@ abbrev pub unless_empty : List ℕ → List (List ℕ)
 unless_empty [] = []
 unless_empty (b ∷ bs) = (b ∷ bs) ∷ []
 
--- the texts at the end: the last unit's, and the definitions that are left, which stand in the former where it holds raw text,
+-- the texts at the end: the last unit's, and the definitions that are left, which are in the former where it holds raw text,
 -- since they couldn't follow it
 abbrev pub last_texts : Bool → List ℕ → List ℕ → List (List ℕ)
 last_texts raw [] text = unless_empty text

@@ -18,14 +18,14 @@ use std::alloc::{AllocError, Global};
 use std::collections::HashMap;
 use tocmark_write_renderer::parts::Reference;
 
-/// A definition of a link that stands in a document already: `[label]: destination "title"`.
+/// A definition of a link that is in a document already: `[label]: destination "title"`.
 #[derive(Clone, Copy, Debug)]
 pub struct DefinedLabel<'a> {
     /// The label, without brackets. It is compared in Unicode's case folding, and else as it is.
     pub label: &'a str,
     /// The destination, without escapes.
     pub destination: &'a str,
-    /// The title, without escapes and what stands round it; empty where there is none.
+    /// The title, without escapes and what is round it; empty where there is none.
     pub title: &'a str,
 }
 
@@ -136,7 +136,7 @@ fn undefined_keys<'r>(
     Ok(keys)
 }
 
-/// Definitions, one a line, after line feeds of which so many stand; nothing for none.
+/// Definitions, one a line, after line feeds of which so many are; nothing for none.
 fn text_of(alloc: Global, keys: &[Key<'_>], feeds: usize) -> Result<String, AllocError>
     ensures { IfOk result (λ text. string_bytes text ≡ lines_behind (map key_view keys.now) feeds) }
 {

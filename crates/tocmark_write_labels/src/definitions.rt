@@ -92,7 +92,7 @@ fn push_definition(
     push_closing(text, destination, title)
 }
 
-/// One more definition, on a line of its own behind others.
+/// One more definition, on a line of its own after others.
 fn push_line(text: &mut String, is_first: bool, key: &Key<'_>) -> Result<(), AllocError>
     ensures { OnOk result (string_bytes text.new
         ≡ (if is_first then string_bytes text.old else string_bytes text.old ++ codes "\n")
@@ -133,7 +133,7 @@ fn push_distinct(
     push_lines(text, keys.as_slice())
 }
 
-/// Line feeds, so that two stand where so many do already.
+/// Line feeds, so that two are where so many do already.
 pub(crate) fn push_feeds(text: &mut String, feeds: usize) -> Result<(), AllocError>
     ensures { OnOk result (string_bytes text.new
         ≡ string_bytes text.old ++ replicate (2 - feeds) 10) }

@@ -1,4 +1,4 @@
-//! How the definitions that are left come to stand at the end.
+//! How the definitions that are left come to be at the end.
 
 ghost use Rattle.std.specs.Prelude.{◌≡◌, drop, take, map, string_bytes, IfOk};
 ghost use Rattle.tocmark_spelling.specs.Buffered.{buffered_view};
@@ -43,7 +43,7 @@ fn leading_feeds(text: &str) -> &str
     &text[..text.len() - rest.len()]
 }
 
-/// A unit's text with definitions in front of it: they stand behind the line feeds with which the text
+/// A unit's text with definitions in front of it: they are after the line feeds with which the text
 /// begins, without their own, and a blank line follows them.
 pub fn with_definitions_in_front(
     alloc: Global,

@@ -1,6 +1,6 @@
 //! The labels of links, and the definitions that are left at the end.
 //!
-//! Below it stand `tocmark_write_inlines` and `tocmark_write_pending`, above it `tocmark_render` and `tocmark_state`.
+//! Below it are `tocmark_write_inlines` and `tocmark_write_pending`, above it `tocmark_choose` and `tocmark_state`.
 //! Enter at `labels` and `taken`: the labels that are defined and taken. `reserved_label` is the one that is free for
 //! lists; `definitions` and `ending` have what is written at the end.
 #![tactic(auto)]

@@ -97,7 +97,7 @@ fn is_used(
     ids.contains(alloc, label)
 }
 
-/// The first of so many numbered labels that isn't among those of three sets, or the one behind them.
+/// The first of so many numbered labels that isn't among those of three sets, or the one after them.
 fn free_label(
     alloc: Global,
     known: &Labels,

@@ -1,4 +1,4 @@
--- What an item asks of the list that it stands in, and what follows a list.
+-- What an item asks of the list that it is in, and what follows a list.
 use Rattle.std.specs.Prelude.{ℕ, Bool, ◌&&◌, ◌||◌, nat_le, Option, Some, None, List, [], ◌∷◌, length, replicate}
 use Rattle.tocmark_write_texts.specs.Characters.{space}
 use Rattle.tocmark_event.specs.View.{EventView, Item}

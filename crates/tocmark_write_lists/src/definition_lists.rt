@@ -26,7 +26,7 @@ use tocmark_write_containers::prefix::Prefix;
 use tocmark_write_pending::body_facts::BodyFacts;
 use tocmark_write_renderer::renderer::Renderer;
 
-/// Begins a line for a title where none begins here, but not at the front of a unit or right behind
+/// Begins a line for a title where none begins here, but not at the front of a unit or right after
 /// an item's marker.
 fn begin_title(renderer: &mut Renderer<'_>) -> Result<(), AllocError>
     ensures stands { OnOk result (Stands renderer.new (levels_of renderer.old)
@@ -44,7 +44,7 @@ fn begin_title(renderer: &mut Renderer<'_>) -> Result<(), AllocError>
     }
 }
 
-/// Opens a title in a definition list, on a line of its own, but behind an item's marker.
+/// Opens a title in a definition list, on a line of its own, but after an item's marker.
 pub fn open_title<'a>(renderer: &mut Renderer<'a>, tag: &'a TagOf<String>) -> Result<(), AllocError>
     requires tag { tag_view string_bytes tag.now ≡ DefinitionListTitle }
     ensures stands { OnOk result (Arrives renderer.new
@@ -65,7 +65,7 @@ fn fill_if(renderer: &mut Renderer<'_>, needed: bool) -> Result<(), AllocError>
     if needed { renderer.fill(2) } else { Ok(()) }
 }
 
-/// Opens a definition in a definition list, whose body is like this: a blank line stands before it
+/// Opens a definition in a definition list, whose body is like this: a blank line is before it
 /// if the body begins with a paragraph.
 pub fn open_definition<'a>(
     renderer: &mut Renderer<'a>,
@@ -161,7 +161,7 @@ pub fn close_definition(renderer: &mut Renderer<'_>) -> Result<(), AllocError>
     Ok(())
 }
 
-/// What stands before a definition in a definition list.
+/// What is before a definition in a definition list.
 pub fn definition_mark() -> &'static str
     ensures { result.now ≡ codes ": " }
 {

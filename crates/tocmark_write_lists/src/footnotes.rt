@@ -40,7 +40,7 @@ pub fn close_footnote(renderer: &mut Renderer<'_>)
     renderer.set_last(Last::BlockEnd(TagEnd::FootnoteDefinition));
 }
 
-/// What stands before the definition of the footnote with this label.
+/// What is before the definition of the footnote with this label.
 pub fn footnote_mark(alloc: Global, label: &str) -> Result<String, AllocError>
     ensures { IfOk result (λ mark. string_bytes mark ≡ codes "[^" ++ label.now ++ codes "]: ") }
 {

@@ -79,7 +79,7 @@ fn owed_after_label(empty_inner: bool) -> usize
     if empty_inner { 1 } else { 2 }
 }
 
-/// Writes the definition of this label, and owes what stands behind it.
+/// Writes the definition of this label, and owes what is after it.
 fn write_label(
     renderer: &mut Renderer<'_>,
     alloc: Global,
@@ -160,7 +160,7 @@ fn enter_behind<'a>(
     renderer.push_frame(tag, Prefix::Spaces(marker.len()), OpeningChoice::Plain)
 }
 
-/// A bullet of this token with a space behind it; none for another token.
+/// A bullet of this token with a space after it; none for another token.
 fn bullet(token: char) -> Option<&'static str>
     ensures { IfSome result (λ text. text.now ≡ encode_utf8 token ++ codes " ") }
 {
@@ -267,7 +267,7 @@ pub fn open_item<'a>(
     }
 }
 
-/// A quote goes on behind an item only inside another item.
+/// A quote goes on after an item only inside another item.
 fn end_quote_outside(renderer: &mut Renderer<'_>)
     ensures stands { OnPage renderer.old renderer.new with_quote_in_item }
     ensures mark { renderer.new.at_mark ≡ renderer.old.at_mark }
@@ -314,7 +314,7 @@ fn marker_end(wide: bool) -> &'static str
 const ROOM_FOR_MARKER: usize = 24;
 
 /// An item's marker: its number if it has one, the token and a space; if it is wide, three spaces
-/// before these and four behind.
+/// before these and four after.
 pub fn item_marker(alloc: Global, marker: Marker) -> Result<String, AllocError>
     ensures { (c : ListChoice) → IsMarked marker c
         → IfOk result (λ text. string_bytes text ≡ item_marker c) }

@@ -1,7 +1,7 @@
-//! Lists and their items, definition lists and footnotes: what opens, what closes and what words each of them stands in
+//! Lists and their items, definition lists and footnotes: what opens, what closes and what words each of them is in
 //! one file, in this order.
 //!
-//! Below it stands `tocmark_write_blocks`, above it `tocmark_write_unit`. Enter at `lists` and `items`, or at `footnotes` or
+//! Below it is `tocmark_write_blocks`, above it `tocmark_write_unit`. Enter at `lists` and `items`, or at `footnotes` or
 //! `definition_lists`; the texts are made from plain values: tokens and numbers of items, labels.
 #![tactic(auto)]
 

@@ -32,7 +32,7 @@ use tocmark_write_renderer::renderer::Renderer;
 /// What the written text and the open containers say of the place where a list begins.
 #[derive(Clone, Copy)]
 pub struct ListSurroundings {
-    /// Whether nothing but openings stands between an item's marker and this place.
+    /// Whether nothing but openings is between an item's marker and this place.
     pub at_item_start: bool,
     /// The token of the nearest open bullet list.
     pub nearest_bullet: Option<char>,
@@ -180,7 +180,7 @@ pub fn continues_list(
     }
 }
 
-/// The preferred token of a list with this first number, none for bullets; a bullet list right behind
+/// The preferred token of a list with this first number, none for bullets; a bullet list right after
 /// the marker of an item with the same token takes another.
 pub fn first_token(options: &Options<'_>, number: Option<u64>, place: ListSurroundings) -> char
     ensures { (path : Path) (p : Page) → IsListPlace place path p
@@ -200,7 +200,7 @@ pub fn first_token(options: &Options<'_>, number: Option<u64>, place: ListSurrou
 }
 
 /// The token of a list with this first number, none for bullets: the preferred one, but another where
-/// the list would go on with the one that ended last, or where a bullet list stands right behind the
+/// the list would go on with the one that ended last, or where a bullet list is right after the
 /// marker of an item with the same token.
 pub fn list_token(options: &Options<'_>, number: Option<u64>, place: ListSurroundings) -> char
     ensures { (path : Path) (p : Page) → IsListPlace place path p

@@ -21,7 +21,7 @@ use Rattle.tocmark_write_pending.proofs.Gathered.{empty-scan, begins-scan, joine
 use Rattle.tocmark_spelling.proofs.Looks.{leaf-scan}
 use Rattle.tocmark_spelling.proofs.Follows.{kids-flat}
 
--- behind a body
+-- after a body
 
 drop-flat : (f : Trees) (d : ℕ) (r : List SourcedEvent) → drop (suc (span d (flat_onto f r))) (flat_onto f r) ≡ drop (suc (span d r)) r
 drop-flat empty d r = refl
@@ -92,7 +92,7 @@ closing-flat t kids before after next =
 
 -- the width
 
--- what stands behind the innermost container's End, if it has one
+-- what is after the innermost container's End, if it has one
 abbrev right_of : List Trees → Trees
 right_of [] = empty
 right_of (f ∷ fs) = f
@@ -101,7 +101,7 @@ first-node : (t : TagView) (kids : Trees) (fs : List Trees) → (with_node t kid
 first-node t kids [] = refl
 first-node t kids (f ∷ fs) = refl
 
--- the trees behind so many Ends
+-- the trees after so many Ends
 abbrev outer_at : ℕ → List Trees → Trees
 outer_at d [] = empty
 outer_at zero (f ∷ fs) = f
@@ -367,7 +367,7 @@ disturbers-length : (s : Setting) (runs : Bool) (es before : List SourcedEvent) 
 disturbers-length s runs [] before = refl
 disturbers-length s runs (e ∷ es) before = ap suc (disturbers-length s runs es (e ∷ before))
 
--- what stands at a place
+-- what is at a place
 module _ (es rest : List SourcedEvent) (i : ℕ) (e : SourcedEvent) (at : drop i es ≡ e ∷ rest) where
   pub place-within : i < length es
   place-within = omega (arith, sym (length-drop i es) ∙ ap length at)

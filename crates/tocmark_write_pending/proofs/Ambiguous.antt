@@ -15,7 +15,7 @@ use Rattle.tocmark_write_pending.specs.Units.{placeholder_in, trees_of, waits}
 use Rattle.tocmark_write_pending.specs.Waiting.{begins_empty_item, begins_three_ends, begins_only_item, from_end, starts_ambiguous_list, has_ambiguous_list}
 use Rattle.tocmark_write_pending.proofs.Balanced.{flat-of-trees}
 
--- ---- the End of the container in which a forest stands
+-- ---- the End of the container in which a forest is
 
 -- the events from the End of the container that is open with so many others inside it
 abbrev from_end_at : ℕ → List SourcedEvent → List SourcedEvent
@@ -42,7 +42,7 @@ empty-item (node t empty f) k rest = refl
 empty-item (node t (leaf l kids) f) k rest = refl
 empty-item (node t (node u below kids) f) k rest = refl
 
--- behind the End of a tree another tree, or an End
+-- after the End of a tree another tree, or an End
 two-ends : (f g : Trees) (j k l : TagEnd) (rest : List SourcedEvent) → begins_three_ends (End j ∷ flat_onto f (End k ∷ flat_onto g (End l ∷ rest))) ≡ (is_empty f && is_empty g)
 two-ends empty empty j k l rest = refl
 two-ends empty (leaf m g) j k l rest = refl
@@ -94,7 +94,7 @@ or-false : (b : Bool) → b || false ≡ b
 or-false true = refl
 or-false false = refl
 
--- whether inline content stands before these events, the last of those before first
+-- whether inline content is before these events, the last of those before first
 abbrev is_inline : List SourcedEvent → Bool
 is_inline before = and_is is_inline_end_or_leaf (front before)
 
@@ -145,7 +145,7 @@ onto-more (leaf l f) r more = ap (λ es. Leaf l ∷ es) (onto-more f r more)
 onto-more (node t kids f) r more =
     ap (λ es. Start t ∷ es) (onto-more kids (End (end_of t) ∷ flat_onto f r) more ∙ ap (λ es. flat_onto kids (End (end_of t) ∷ es)) (onto-more f r more))
 
--- which lists need a placeholder doesn't depend on what comes behind them
+-- which lists need a placeholder doesn't depend on what comes after them
 needs-before : (f : Trees) (before after later : List SourcedEvent)
     → needs_placeholder_at f (record { before = before; after = after; next = None }) ≡ needs_placeholder_at f (record { before = before; after = later; next = None })
 needs-before empty before after later = refl

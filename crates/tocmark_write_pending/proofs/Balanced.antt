@@ -80,7 +80,7 @@ code-same n = grind (arith, nat_tests)
 pub same-self : (a : TagEnd) → same_end a a ≡ true
 same-self a = code-same (end_code a)
 
--- ---- what was read stood there
+-- ---- what was read was there
 
 abbrev Read : Type 0
 Read = Grown SourcedLeaf
@@ -149,7 +149,7 @@ none-left (o ∷ os) f = not-zero (length (ends_of os))
     not-zero : (n : ℕ) → (suc n == 0) ≡ false
     not-zero n = grind (arith, nat_tests)
 
--- the events are a forest's just where no container is open behind them
+-- the events are a forest's just where no container is open after them
 pub reading-whole : (es : List SourcedEvent) (ends : List TagEnd) → IsReading es ends → (length ends == 0) ≡ is_some (trees_of es)
 unfolding trees_of
 reading-whole es ends (r, h, k) =

@@ -125,11 +125,11 @@ module _ (es rest : List SourcedEvent) (i : ℕ) (t : TagView) (found : Option �
   pub end-place : (end : ℕ) → found ≡ Some end → (end ≡ i + 1 + span 0 rest) × (span 0 rest < length rest)
   end-place end h = some-by (span 0 rest) (length rest) (i + 1) end (sym end-is ∙ h)
 
-  -- none stands there
+  -- none is there
   pub end-missing : found ≡ None → length rest ≤ span 0 rest
   end-missing h = none-by (span 0 rest) (length rest) (i + 1) (sym end-is ∙ h)
 
--- a body's end lies behind what starts it
+-- a body's end lies after what starts it
 pub behind-start : (es : List SourcedEvent) (i len : ℕ) (found : Option ℕ) → found ≡ end_at i es → i < len → i < unwrap_or found len
 behind-start [] i len found is lt = subst (λ o. i < unwrap_or o len) (sym is) lt
 behind-start (Start t ∷ es) i len found is lt = subst (λ o. i < unwrap_or o len) (sym is) (behind-by (span 0 es) (length es) i len lt)

@@ -17,7 +17,7 @@ module _ {V : Type 0} (f : ℕ → List SourcedEvent → V) (none : V) (nothing 
   IsFound es at = (i : ℕ) → at i ≡ f i (drop i es)
 
   module _ (es : List SourcedEvent) (x : SourcedEvent) (last : f (length es) (x ∷ []) ≡ none) where
-    -- behind the others there is nothing
+    -- after the others there is nothing
     behind : (i : ℕ) → length es ≤ i → f i (drop i es) ≡ f i (drop i (es ++ x ∷ []))
     behind i le =
         ap (f i) (drop_all i es le)
@@ -77,12 +77,12 @@ module _ {V : Type 0} (f : ℕ → List SourcedEvent → V) (none : V) (of : IsO
       by (End k ∷ rest) e = ap (f i) (drop-more es i (End k) rest (x ∷ []) e) ∙ of.at_end i k (rest ++ x ∷ []) ∙ sym (of.at_end i k rest) ∙ ap (f i) (sym e)
       by (Leaf l ∷ rest) e = ap (f i) (drop-more es i (Leaf l) rest (x ∷ []) e) ∙ of.at_leaf i l (rest ++ x ∷ []) ∙ sym (of.at_leaf i l rest) ∙ ap (f i) (sym e)
 
--- all but the innermost one stay open behind an End
+-- all but the innermost one stay open after an End
 stays-open : (es : List SourcedEvent) (k : TagEnd) (p i : ℕ) → IsOpenAt es p 0 → i ≢ p → (d : ℕ) → IsOpenAt es i d → (m : ℕ) × (open_after (End k) (Some d) ≡ Some m)
 stays-open es k p i at ne zero a = absurd (ne (innermost es i p a at))
 stays-open es k p i at ne (suc d) a = (d, refl)
 
--- the events behind an open container's Start are all the rest
+-- the events after an open container's Start are all the rest
 pub rest-length : (es : List SourcedEvent) (p k : ℕ) (a : IsOpenAt es p k) → p + 1 + length a.rest ≡ length es
 rest-length es p k a = let lt = place-inside es p k a in omega (arith, lt, length-drop p es, ap length a.starts)
 

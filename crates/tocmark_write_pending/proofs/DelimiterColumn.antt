@@ -70,7 +70,7 @@ up-more es x i lt = ap (λ (xs : List SourcedEvent). reverse xs) (take-append-le
 up-last : (es : List SourcedEvent) (x : SourcedEvent) → reverse (take (suc (length es)) (es ++ x ∷ [])) ≡ x ∷ reverse es
 up-last es x = ap (λ (xs : List SourcedEvent). reverse xs) (take_all (suc (length es)) (es ++ x ∷ []) (omega (arith, length-append es (x ∷ [])))) ∙ reverse-append es (x ∷ [])
 
--- behind the last of these numbers no delimiter stood either
+-- after the last of these numbers no delimiter was either
 pub beyond-before : (es : List SourcedEvent) (x : SourcedEvent) (ns : List ℕ) → AreNumbered (es ++ x ∷ []) ns → (i : ℕ) → length ns ≤ i → begins_in_run (drop i es) ≡ false
 beyond-before es x ns held i le =
     ⊎_elim (λ (lt : i < length es). sym (begins-more es x i lt) ∙ held.beyond i le) (λ (ge : length es ≤ i). begins-past es i ge) (cases_lt i (length es))

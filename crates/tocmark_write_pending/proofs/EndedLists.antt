@@ -77,7 +77,7 @@ three-more (x ∷ y ∷ []) e = assoc (is_end x) (is_end y) (is_end e)
     assoc false b c = refl
 three-more (x ∷ y ∷ z ∷ zs) e = sym (or-false (is_end x && is_end y && is_end z))
 
--- from the End on of the container in which events stand
+-- from the End on of the container in which events are
 drop-kept : (n : ℕ) (xs ys : List SourcedEvent) → n < length xs → drop n (xs ++ ys) ≡ drop n xs ++ ys
 drop-kept n [] ys lt = absurd (omega (arith, lt))
 drop-kept zero (x ∷ xs) ys lt = refl
@@ -229,7 +229,7 @@ now-parts inline (x ∷ a ∷ b ∷ es) k =
     swap true false r = refl
     swap false q r = refl
 
--- what is open outside it is open behind it
+-- what is open outside it is open after it
 open-behind : (d a b : ℕ) (es : List SourcedEvent) → b ≡ d + suc a → left_open d es ≡ None → left_open b es ≡ left_open a (drop (suc (span d es)) es)
 open-behind d a b [] e h = absurd (never d (sym h))
 open-behind d a b (Start t ∷ es) e h = open-behind (suc d) a (suc b) es (omega (arith, e)) h
@@ -275,7 +275,7 @@ body-open (a ∷ b ∷ es) h =
     inside es h None e = open-behind 0 1 2 es (omega arith) e ∙ ap (left_open 1) (drop-one (span 0 es) es) ∙ last-end (from_end es) h
     inside es h (Some k) e = absurd (false≢true (sym (ap are_two_ends (drop-some (span 0 es) es (unended 0 es k e))) ∙ h))
 
--- no list that ends now stands where none is open
+-- no list that ends now is where none is open
 not-here : (x : SourcedEvent) (es : List SourcedEvent) (d : ℕ) → left_open d (x ∷ es) ≡ Some 0 → (b : Bool) → ends_only_item x es ≡ b → ends_only_item x es ≡ false
 not-here x es d h false e = e
 not-here x es d h true e =
@@ -344,7 +344,7 @@ first-item-last (x ∷ a ∷ b ∷ es) =
     let n : length es ≡ length (x ∷ a ∷ b ∷ es) - 3 = omega arith in
     first-last false x a b es ∙ ap (λ n. begins_first_item (drop n (x ∷ a ∷ b ∷ es))) n
 
--- where a body has ended an End stands
+-- where a body has ended an End is
 body-ends : (d : ℕ) (es : List SourcedEvent) (x : SourcedEvent) (zs : List SourcedEvent) → drop (span d es) es ≡ x ∷ zs → is_end x ≡ true
 body-ends d [] x zs h = absurd (empty-not x zs h)
 body-ends d (Start t ∷ es) x zs h = body-ends (suc d) es x zs h
@@ -359,7 +359,7 @@ last-of-two n es x y h =
     ap (λ (zs : List SourcedEvent). begins_end (reverse zs)) (sym (take-append-drop n es) ∙ ap (λ zs. take n es ++ zs) h)
     ∙ ap begins_end (reverse-append (take n es) (x ∷ y ∷ []))
 
--- the events behind the Start of a Paragraph, which stand from a place on
+-- the events after the Start of a Paragraph, which are from a place on
 module _ (all : List SourcedEvent) (base : ℕ) (es : List SourcedEvent) (at : drop base all ≡ es) (le : base ≤ length all) where
   abbrev found : Bool
   found = is_last_but_one (end_from 0 base es) (length all)

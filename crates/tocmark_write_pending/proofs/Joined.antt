@@ -57,11 +57,11 @@ module _ (p : PendingView) (e : EventView) (source : Option (List ℕ)) where
   event-refused h =
       ap (behind p (sourced e source)) (ap (nested p.open_tags) (unsourced-sourced e source) ∙ nested-wrong p.open_tags e h)
 
-  -- an event that can come stands behind the others
+  -- an event that can come is after the others
   pub event-joined : (os : List TagEnd) → nested p.open_tags e ≡ Ok os → one_more p (sourced e source) ≡ Ok (record { events = p.events ++ sourced e source ∷ []; open_tags = os })
   event-joined os h = ap (behind p (sourced e source)) (ap (nested p.open_tags) (unsourced-sourced e source) ∙ h)
 
--- the item behind others is found at their count
+-- the item after others is found at their count
 pub put-there : {A : Type 0} (xs all : List A) (b d : A) (n : ℕ) → all ≡ xs ++ b ∷ [] → n ≡ length xs → d ≡ slice_index_or all n d → d ≡ b
 put-there xs all b d n is at h =
     h

@@ -107,7 +107,7 @@ last-numbered n r rs e = pick-true (n == suc (length rs)) (Some r) (run_numbered
 pub inner-numbered : (n : ℕ) (r : Run) (rs : List Run) → n ≤ length rs → run_numbered n (r ∷ rs) ≡ run_numbered n rs
 inner-numbered n r rs le = pick-false (n == suc (length rs)) (Some r) (run_numbered n rs) (grind (arith, nat_tests))
 
--- ---- the events behind a run, with one more at the end
+-- ---- the events after a run, with one more at the end
 
 module _ (c : Counted) where
   abbrev w : SourcedEvent → ℕ
@@ -164,7 +164,7 @@ module _ (c : Counted) where
         width = width-other e (es ++ ys) k ∙ sym (width-other e es k);
       }
 
-  -- the run between what stands before it and a first event behind it
+  -- the run between what is before it and a first event after it
   abbrev run_from : List SourcedEvent → Option EventView → ℕ → Run
   run_from before f width = record {
     before = run_before w before;
@@ -225,7 +225,7 @@ keep runs x (e ∷ back) after h a =
     same c k [] z = absurd (true≢false (sym k ∙ h c z))
     same c k (y ∷ ys) z = run-keep c (width_of c e) back after (x ∷ []) y ys z
 
--- a run that begins behind all of them
+-- a run that begins after all of them
 deepen : (r : Run) (runs : List Run) (back after : List SourcedEvent) → runs_begun back ≤ length runs → AreRuns runs back after → AreRuns (r ∷ runs) back after
 deepen r runs [] after le a = a
 deepen r runs (e ∷ back) after le a =
@@ -269,7 +269,7 @@ trailing c x r rs (e ∷ back) after h b g a = (at, rest (λ k. trailing c x r r
         let fewer : runs_begun back ≤ length rs = omega (arith, g, begun-new e back (in-of c e h) (off-of c e back k h)) in
         deepen (mended c x r) rs back ((e ∷ after) ++ x ∷ []) fewer (keep rs x back (e ∷ after) (closed k) (shallow r rs back (e ∷ after) fewer a.1))
 
--- a run behind which nothing stands, by the events before it
+-- a run after which nothing is, by the events before it
 abbrev open_run : List SourcedEvent → ℕ → Run
 open_run zs n = record {
   before = edge_before (front zs);
@@ -344,7 +344,7 @@ abbrev pub with_first : (Run → Run) → List Run → List Run
 with_first f [] = []
 with_first f (r ∷ rs) = f r ∷ rs
 
--- the runs, the last one first, as an event behind these changes them
+-- the runs, the last one first, as an event after these changes them
 abbrev pub runs_changed : SourcedEvent → List SourcedEvent → List Run → List Run
 runs_changed e back runs =
     if goes_on e back then with_first (wider (own_width e)) runs else (if ends_run back then with_first (bordered e) runs else runs)
@@ -382,7 +382,7 @@ module _ (x : SourcedEvent) (back : List SourcedEvent) (runs : List Run) (h : Ho
           by true t = absurd (true≢false (sym (on-of c x back i t) ∙ k))
           by false t = t
 
-  -- behind no run nothing changes
+  -- after no run nothing changes
   pub unchanged : ends_run back ≡ false → AreRuns runs back (x ∷ [])
   unchanged e = keep runs x back [] (λ d i. no-end back e d) h.are
 

@@ -83,7 +83,7 @@ last-begun b first old new run t n h =
 pub none-begun : (b : Bool) (first : Run) (rs : List Run) → b ≡ false → rs ≡ (if b then first ∷ rs else rs)
 none-begun b first rs f = ap (λ b. if b then first ∷ rs else rs) (sym f)
 
--- an event in no run, behind a run or behind none
+-- an event in no run, after a run or after none
 pub quiet-joined : (e : SourcedEvent) (back : List SourcedEvent) (old new : List declared.Run) → HoldRuns back (reverse (map run_view old)) → in_run e ≡ false → length new ≡ length old → AreRuns (reverse (map run_view new)) back (e ∷ [])
     → HoldRuns (e ∷ back) (reverse (map run_view new))
 quiet-joined e back old new held out count are = runs-quiet e back (reverse (map run_view new)) out (turned-count new ∙ count ∙ sym (turned-count old) ∙ held.count) are

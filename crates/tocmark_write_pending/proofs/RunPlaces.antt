@@ -45,7 +45,7 @@ up-to es i e rest at =
     ap reverse (more ∙ ap (λ (x : SourcedEvent). take i es ++ x ∷ []) this) ∙ reverse-append (take i es) (e ∷ [])
 
 module _ (es : List SourcedEvent) (runs : List Run) (ns : List ℕ) (i : ℕ) (held : HoldRuns (reverse es) runs) (numbered : AreNumbered es ns) where
-  -- the delimiter at a place stands in the run with its number
+  -- the delimiter at a place is in the run with its number
   run-there : (c : Counted) (e : SourcedEvent) (rest : List SourcedEvent) → drop i es ≡ e ∷ rest → is_counted c e ≡ true → run_numbered (get_or ns i 0) runs ≡ Some (run_at (width_of c) (width_of c e) (reverse (take i es)) rest)
   run-there c e rest at k =
       let events : take i es ++ e ∷ rest ≡ es = ap (λ (xs : List SourcedEvent). take i es ++ xs) (sym at) ∙ take-append-drop i es in
@@ -69,7 +69,7 @@ module _ (es : List SourcedEvent) (runs : List Run) (ns : List ℕ) (i : ℕ) (h
           ∙ sym (pick-true (is_counted Ends (End x)) (Some (run_at close_width (end_width x) (reverse (take i es)) rest)) None counted)
       by (Leaf l ∷ rest) at k = absurd (false≢true k)
 
--- another event stands in none
+-- another event is in none
 pub here-none : (back es : List SourcedEvent) → begins_in_run es ≡ false → None ≡ run_here back es
 here-none back [] h = refl
 here-none back (Start t ∷ rest) h = sym (pick-false (is_counted Starts (Start t)) (Some (run_at start_width (tag_width t) back rest)) None (or_parts (is_counted Starts (Start t)) false h).0)

@@ -19,7 +19,7 @@ use Rattle.tocmark_write_pending.proofs.OpenContainers.{drop-behind, drop-more, 
 
 -- ---- what the first event of a body adds
 
--- the events behind a body that has ended
+-- the events after a body that has ended
 pub body-kept : (d : ℕ) (es ys : List SourcedEvent) → left_open d es ≡ None → drop (suc (span d (es ++ ys))) (es ++ ys) ≡ drop (suc (span d es)) es ++ ys
 body-kept d [] ys h = absurd (never d (sym h))
 body-kept d (Start t ∷ es) ys h = body-kept (suc d) es ys h
@@ -28,7 +28,7 @@ body-kept (suc d) (End k ∷ es) ys h = body-kept d es ys h
 body-kept zero (Leaf l ∷ es) ys h = body-kept zero es ys h
 body-kept (suc d) (Leaf l ∷ es) ys h = body-kept (suc d) es ys h
 
--- what is open outside it is open behind it
+-- what is open outside it is open after it
 pub open-behind : (d a b : ℕ) (es : List SourcedEvent) → b ≡ d + suc a → left_open d es ≡ None → left_open b es ≡ left_open a (drop (suc (span d es)) es)
 open-behind d a b [] e h = absurd (never d (sym h))
 open-behind d a b (Start t ∷ es) e h = open-behind (suc d) a (suc b) es (omega (arith, e)) h
@@ -118,7 +118,7 @@ widths-of = record {
   at_leaf = λ i l rest. refl;
 }
 
--- ---- behind the last delimiter
+-- ---- after the last delimiter
 
 -- no width is added where no delimiter begins
 none-added : (x : SourcedEvent) (es : List SourcedEvent) → in_run x ≡ false → added_by x (is_none_left (behind_body es)) (width_at (x ∷ es)) ≡ 0
@@ -143,7 +143,7 @@ none-now : (es : List SourcedEvent) → begins_in_run es ≡ false → begins_in
 none-now [] h k = refl
 none-now (x ∷ rest) h k = omega (arith, none-started x h, none-first rest k)
 
--- where no delimiter stands at a place, nor behind it, no container opens with one
+-- where no delimiter is at a place, nor after it, no container opens with one
 pub no-width : (es : List SourcedEvent) (p : ℕ) → begins_in_run (drop p es) ≡ false → begins_in_run (drop (p + 1) es) ≡ false → width_now (drop p es) ≡ 0
 no-width es p h k = none-now (drop p es) h (ap begins_in_run (drop-drop 1 p es) ∙ k)
 

@@ -1,5 +1,5 @@
 -- What the spelling of a container asks of the events round it, as functions of the flat list: of the events before its
--- Start, the last one first, and of those behind it.
+-- Start, the last one first, and of those after it.
 use Rattle.std.specs.Prelude.{◌≡◌, ℕ, zero, suc, ◌+◌, ◌==◌, Bool, true, false, not, ◌&&◌, ◌||◌, if◌then◌else◌, Option, List, [], ◌∷◌, ◌++◌, map, codes, take, drop, reverse, length, nat_lt, slice_index_or, ◌-◌, ◌<◌, None, Some, unwrap_or}
 use Rattle.std.specs.List.{list_any}
 use Rattle.tocmark_event.specs.View.{TagView, Link, Image, unsourced, SourcedEvent, EventView, LeafView, Start, End, Leaf, end_of}
@@ -17,11 +17,11 @@ use Rattle.tocmark_spelling.specs.Page.{front}
 use Rattle.tocmark_spelling.specs.Words.{or_else}
 use Rattle.tocmark_spelling.specs.Scans.{span, is_leaf}
 
--- the body of the container behind whose Start these events stand
+-- the body of the container after whose Start these events are
 abbrev pub body_in : List SourcedEvent → List SourcedEvent
 body_in rest = take (span 0 rest) rest
 
--- the events behind its End
+-- the events after its End
 abbrev pub behind_body : List SourcedEvent → List SourcedEvent
 behind_body rest = drop (suc (span 0 rest)) rest
 
@@ -29,11 +29,11 @@ behind_body rest = drop (suc (span 0 rest)) rest
 abbrev pub up_to_end : List SourcedEvent → List SourcedEvent → List SourcedEvent
 up_to_end before rest = reverse (body_in rest) ++ before
 
--- behind the Start of a container stand its children's events and its End
+-- after the Start of a container are its children's events and its End
 abbrev pub IsNested : TagView → List SourcedEvent → Type 0
 IsNested t rest = rest ≡ flat_onto (kids_of rest) (End (end_of t) ∷ behind_body rest)
 
--- so it is behind each Start of a list
+-- so it is after each Start of a list
 abbrev pub AreNested : List SourcedEvent → Type 0
 AreNested [] = Unit {0}
 AreNested (Start t ∷ es) = IsNested t es × AreNested es
@@ -47,7 +47,7 @@ opening_ahead t before rest = run_at start_width (tag_width t) before rest
 abbrev pub closing_ahead : TagView → List SourcedEvent → List SourcedEvent → Run
 closing_ahead t before rest = run_at close_width (tag_width t) (up_to_end (Start t ∷ before) rest) (behind_body rest)
 
--- whether no further tree stands before the next End
+-- whether no further tree is before the next End
 abbrev pub ends_here : List SourcedEvent → Bool
 ends_here [] = true
 ends_here (End k ∷ es) = true
@@ -73,7 +73,7 @@ abbrev pub character_before : Bool → List SourcedEvent → Option ℕ
 character_before true before = run_before start_width before
 character_before false before = edge_before (front before)
 
--- the character behind an event likewise, its run that of Starts or of Ends
+-- the character after an event likewise, its run that of Starts or of Ends
 abbrev pub character_after : Bool → (SourcedEvent → ℕ) → List SourcedEvent → Option ℕ
 character_after true width after = run_after width after
 character_after false width after = edge_after (front after)
@@ -104,7 +104,7 @@ begins_with_paragraph [] = false
 begins_with_paragraph (Start t ∷ es) = is_paragraph t
 begins_with_paragraph (e ∷ es) = false
 
--- whether a container with such a tag stands directly in the container that is open with so many others inside it
+-- whether a container with such a tag is directly in the container that is open with so many others inside it
 abbrev pub has_start : (TagView → Bool) → ℕ → List SourcedEvent → Bool
 has_start test d [] = false
 has_start test d (Leaf l ∷ es) = has_start test d es
@@ -113,7 +113,7 @@ has_start test (suc d) (Start t ∷ es) = has_start test (suc (suc d)) es
 has_start test zero (End k ∷ es) = false
 has_start test (suc d) (End k ∷ es) = has_start test d es
 
--- whether something inline stands directly in the container that is open with so many others inside it
+-- whether something inline is directly in the container that is open with so many others inside it
 abbrev pub has_inline_event : ℕ → List SourcedEvent → Bool
 has_inline_event d [] = false
 has_inline_event zero (Leaf l ∷ es) = is_inline_leaf l.leaf || has_inline_event 0 es
@@ -123,7 +123,7 @@ has_inline_event (suc d) (Start t ∷ es) = has_inline_event (suc (suc d)) es
 has_inline_event zero (End k ∷ es) = false
 has_inline_event (suc d) (End k ∷ es) = has_inline_event d es
 
--- whether what follows some Start that stands directly in that container passes a test
+-- whether what follows some Start that is directly in that container passes a test
 abbrev pub some_start : (List SourcedEvent → Bool) → ℕ → List SourcedEvent → Bool
 some_start test d [] = false
 some_start test d (Leaf l ∷ es) = some_start test d es
@@ -136,7 +136,7 @@ some_start test (suc d) (End k ∷ es) = some_start test d es
 abbrev pub is_tight_body : List SourcedEvent → Bool
 is_tight_body rest = some_start (has_inline_event 0) 0 rest && not (some_start (has_start is_paragraph 0) 0 rest)
 
--- a number for each Start that stands directly in that container, by its tag and what follows it, added up
+-- a number for each Start that is directly in that container, by its tag and what follows it, added up
 abbrev pub sum_starts : (TagView → List SourcedEvent → ℕ) → ℕ → List SourcedEvent → ℕ
 sum_starts count d [] = 0
 sum_starts count d (Leaf l ∷ es) = sum_starts count d es
@@ -145,11 +145,11 @@ sum_starts count (suc d) (Start t ∷ es) = sum_starts count (suc (suc d)) es
 sum_starts count zero (End k ∷ es) = 0
 sum_starts count (suc d) (End k ∷ es) = sum_starts count d es
 
--- how many containers with such a tag stand directly in a body
+-- how many containers with such a tag are directly in a body
 abbrev pub count_starts : (TagView → Bool) → List SourcedEvent → ℕ
 count_starts test es = sum_starts (λ t rest. if test t then 1 else 0) 0 es
 
--- whether a list with this body has one Item, in which stands one block, a Paragraph
+-- whether a list with this body has one Item, in which is one block, a Paragraph
 abbrev pub is_lone_paragraph : List SourcedEvent → Bool
 is_lone_paragraph rest =
     (count_starts is_item rest == 1) && (sum_starts (λ t es. count_starts (λ t. not (is_inline_tag t)) es) 0 rest == 1)
@@ -172,13 +172,13 @@ abbrev pub reads_back : Setting → List ℕ → TagView → List ℕ → List S
 reads_back s mark t id body =
     is_one_link t (merged (map unsourced body)) (merged (events_of (s.reading (mark ++ codes "[" ++ id ++ codes "](cmark-label)") s.flags)))
 
--- whether a container is a Collapsed or Shortcut link or image whose id stands in place of this body
+-- whether a container is a Collapsed or Shortcut link or image whose id is in place of this body
 abbrev pub is_named_by_id : Setting → TagView → List SourcedEvent → Bool
 is_named_by_id s (Link k d t i) body = goes_by_id k && reads_back s [] (Link k d t i) i body
 is_named_by_id s (Image k d t i) body = goes_by_id k && reads_back s (codes "!") (Image k d t i) i body
 is_named_by_id s t body = false
 
--- what an opening is told is what stands in the flat list round its container
+-- what an opening is told is what is in the flat list round its container
 pub record IsSeen (s : Setting) (m : Manner) (t : TagView) (before rest : List SourcedEvent) (next : Option EventView) (l : Look) : Type 0 where
   pub previous : l.previous ≡ front before
   pub next_in_unit : l.next_in_unit ≡ front (behind_body rest)
@@ -215,7 +215,7 @@ comes_before None end = false
 comes_before (Some place) None = true
 comes_before (Some place) (Some end) = nat_lt place end
 
--- for each place whether one behind it and before its end is marked, or one behind it where it has no end
+-- for each place whether one after it and before its end is marked, or one after it where it has no end
 pub record HoldMarks (marks : List Bool) (ends : List (Option ℕ)) (found : List Bool) : Type 0 where
   pub len : length found ≡ length marks
   pub at : (i : ℕ) → i < length marks

@@ -102,7 +102,7 @@ with_event (Leaf l) x = record { inner = with_leaf l.leaf x.inner; outer = x.out
 with_event (Start t) x = behind_start t x.inner x.outer
 with_event (End k) x = record { inner = no_facts; outer = x.inner ∷ x.outer }
 
--- for each event what the trees behind it are like; at a Start they are its body
+-- for each event what the trees after it are like; at a Start they are its body
 pub record AreFacts (es : List SourcedEvent) (facts : List BodyFacts) : Type 0 where
   pub at : (i : ℕ) → slice_index_or facts i no_facts ≡ facts_of (kids_of (drop (i + 1) es))
 

@@ -12,7 +12,7 @@ numbers_of ds = map (λ (d : Delimiter). d.run) ds
 abbrev pub widths_of : List Delimiter → List ℕ
 widths_of ds = map (λ (d : Delimiter). d.width) ds
 
--- what is kept of the events up to a place, where the delimiter stands of which the run with this number is known
+-- what is kept of the events up to a place, where the delimiter is of which the run with this number is known
 abbrev pub noted : ℕ → ℕ → List Delimiter → List Delimiter
 noted place number ds = ds ++ replicate (suc place - length ds) (record { run = number; width = 0 })
 

@@ -5,15 +5,15 @@ use Rattle.tocmark_spelling.specs.Kinds.{is_item, is_list, is_paragraph, starts}
 use Rattle.tocmark_write_pending.specs.Placeholder.{is_inline_end_or_leaf}
 use Rattle.tocmark_write_pending.specs.Waiting.{from_end, is_end}
 
--- the Starts of a list and of its first item come behind inline content
+-- the Starts of a list and of its first item come after inline content
 abbrev pub begins_first_item : List SourcedEvent → Bool
 begins_first_item [] = false
 begins_first_item (x ∷ []) = false
 begins_first_item (x ∷ a ∷ []) = false
 begins_first_item (x ∷ a ∷ b ∷ es) = starts is_list (unsourced a) && starts is_item (unsourced b) && is_inline_end_or_leaf (unsourced x)
 
--- whether events end with the Starts of a list and of its first item, behind inline content, given whether inline content
--- stands before them
+-- whether events end with the Starts of a list and of its first item, after inline content, given whether inline content
+-- is before them
 abbrev pub ends_in_first_item : Bool → List SourcedEvent → Bool
 ends_in_first_item inline [] = false
 ends_in_first_item inline (x ∷ []) = false
@@ -37,7 +37,7 @@ is_only_item_body (a ∷ b ∷ es) = starts is_item (unsourced a) && starts is_p
 abbrev pub ends_only_item : SourcedEvent → List SourcedEvent → Bool
 ends_only_item x rest = starts is_list (unsourced x) && is_only_item_body rest
 
--- the same of the first of some events and those behind it
+-- the same of the first of some events and those after it
 abbrev pub ends_only_item_from : List SourcedEvent → Bool
 ends_only_item_from [] = false
 ends_only_item_from (x ∷ rest) = ends_only_item x rest

@@ -1,8 +1,8 @@
--- Which containers are open behind events, and where those end that aren't, as one event more joins them.
+-- Which containers are open after events, and where those end that aren't, as one event more joins them.
 use Rattle.std.specs.Prelude.{◌≡◌, ℕ, zero, suc, Option, Some, None, List, [], ◌∷◌, ◌++◌, drop, length, set}
 use Rattle.tocmark_event.specs.View.{EventView, SourcedEvent, TagView, Start, End, Leaf}
 
--- how many containers are open behind these events, those aside in which the container stands that is open with so many
+-- how many containers are open after these events, those aside in which the container is that is open with so many
 -- others inside it; none where that one is ended among them
 abbrev pub left_open : ℕ → List SourcedEvent → Option ℕ
 left_open d [] = Some d
@@ -23,7 +23,7 @@ abbrev pub AreOpenFrom : List SourcedEvent → ℕ → List ℕ → Type 0
 AreOpenFrom es k [] = Unit {0}
 AreOpenFrom es k (i ∷ is) = IsOpenAt es i k × AreOpenFrom es (suc k) is
 
--- the places of the open containers, innermost first, once an event joins that stands at a place
+-- the places of the open containers, innermost first, once an event joins that is at a place
 abbrev pub opened : EventView → ℕ → List ℕ → List ℕ
 opened (Start t) i is = i ∷ is
 opened (End k) i [] = []
@@ -41,7 +41,7 @@ ended_by (Start t) is = None
 ended_by (End k) is = innermost_of is
 ended_by (Leaf l) is = None
 
--- an event behind others ends the container at this place, the innermost one; where it is no End there is no place
+-- an event after others ends the container at this place, the innermost one; where it is no End there is no place
 abbrev pub EndsAt : List SourcedEvent → SourcedEvent → Option ℕ → Type 0
 EndsAt es (End k) (Some p) = IsOpenAt es p 0
 EndsAt es (End k) None = ⊥

@@ -1,4 +1,4 @@
--- Events that wait for their unit, with the containers that are open behind them.
+-- Events that wait for their unit, with the containers that are open after them.
 use Rattle.std.specs.Prelude.{◌≡◌, ℕ, if◌then◌else◌, Option, Result, Ok, Err, List, [], ◌∷◌, ◌++◌, option_map}
 use Rattle.std.specs.Borrow.{Bor}
 use Rattle.tocmark_event.specs.Ends.{same_end}
@@ -18,7 +18,7 @@ nested os (Start t) = Ok (end_of t ∷ os)
 nested os (End k) = closed os k
 nested os (Leaf l) = Ok os
 
--- the events that wait, and the Ends of the containers that are open behind them, innermost first
+-- the events that wait, and the Ends of the containers that are open after them, innermost first
 pub record PendingView : Type 0 where
   pub events : List SourcedEvent
   pub open_tags : List TagEnd
@@ -27,7 +27,7 @@ pub record PendingView : Type 0 where
 abbrev pub nothing_pending : PendingView
 nothing_pending = record { events = []; open_tags = [] }
 
--- an event behind those that wait, with these containers open then, or the refusal
+-- an event after those that wait, with these containers open then, or the refusal
 abbrev pub behind : PendingView → SourcedEvent → Result (List TagEnd) Error → Result PendingView Error
 behind p e (Ok os) = Ok (record { events = p.events ++ e ∷ []; open_tags = os })
 behind p e (Err x) = Err x

@@ -30,7 +30,7 @@ abbrev pub is_only_item : Trees → Bool
 is_only_item (node t kids f) = is_item t && is_only_paragraph kids && is_empty f
 is_only_item f = false
 
--- a list that would be read otherwise without a placeholder: its empty first item stands behind inline content, where it
+-- a list that would be read otherwise without a placeholder: its empty first item is after inline content, where it
 -- can't begin a list, or its only item would be tight (CommonMark, sections 5.2 and 5.3)
 abbrev pub is_ambiguous_list : TagView → Trees → Around → Bool
 is_ambiguous_list t kids a =

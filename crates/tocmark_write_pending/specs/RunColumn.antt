@@ -57,11 +57,11 @@ abbrev pub run_numbered : ℕ → List Run → Option Run
 run_numbered n [] = None
 run_numbered n (r ∷ rs) = if n == suc (length rs) then Some r else run_numbered n rs
 
--- the run in which a delimiter stands is the one whose number is how many runs begin up to it
+-- the run in which a delimiter is, is the one whose number is how many runs begin up to it
 pub record IsRunAt (runs : List Run) (e : SourcedEvent) (back after : List SourcedEvent) : Type 0 where
   pub run : (c : Counted) → is_counted c e ≡ true → run_numbered (runs_begun (e ∷ back)) runs ≡ Some (run_at (width_of c) (width_of c e) back after)
 
--- so it is of each of these events, the last one first, behind which others come
+-- so it is of each of these events, the last one first, after which others come
 abbrev pub AreRuns : List Run → List SourcedEvent → List SourcedEvent → Type 0
 AreRuns runs [] after = Unit {0}
 AreRuns runs (e ∷ back) after = IsRunAt runs e back after × AreRuns runs back (e ∷ after)
@@ -74,14 +74,14 @@ own_width e = start_width e + close_width e
 abbrev pub wider : ℕ → Run → Run
 wider w r = record r { width = r.width + w }
 
--- a run behind which an event stands
+-- a run after which an event is
 abbrev pub bordered : SourcedEvent → Run → Run
 bordered e r = record r {
   after = edge_after (Some (unsourced e));
   literal_after = marker_only (edge_after (text_only (Some (unsourced e))));
 }
 
--- the run that begins with an event behind these, the last one first
+-- the run that begins with an event after these, the last one first
 abbrev pub begun_by : SourcedEvent → List SourcedEvent → Run
 begun_by e back = record {
   before = edge_before (front back);
@@ -101,7 +101,7 @@ abbrev pub begins_in_run : List SourcedEvent → Bool
 begins_in_run [] = false
 begins_in_run (e ∷ es) = in_run e
 
--- the run in which the first of some events stands, behind these, the last one first; none where it stands in none
+-- the run in which the first of some events is, after these, the last one first; none where it is in none
 abbrev pub run_here : List SourcedEvent → List SourcedEvent → Option Run
 run_here back [] = None
 run_here back (Start t ∷ after) = if is_counted Starts (Start t) then Some (run_at start_width (tag_width t) back after) else None

@@ -24,7 +24,7 @@ begins_three_ends (e ∷ []) = false
 begins_three_ends (e ∷ f ∷ []) = false
 begins_three_ends (e ∷ f ∷ g ∷ es) = is_end e && is_end f && is_end g
 
--- the events from the End of the container in which these stand
+-- the events from the End of the container in which these are
 abbrev pub from_end : List SourcedEvent → List SourcedEvent
 from_end es = drop (span 0 es) es
 
@@ -34,13 +34,13 @@ begins_only_item [] behind = false
 begins_only_item (e ∷ []) behind = false
 begins_only_item (e ∷ f ∷ es) behind = starts is_item (unsourced e) && starts is_paragraph (unsourced f) && begins_three_ends behind
 
--- a list starts that would be read otherwise without a placeholder, given whether inline content stands before it,
--- the events behind its Start, and those from the End of the container that the second of them may start
+-- a list starts that would be read otherwise without a placeholder, given whether inline content is before it,
+-- the events after its Start, and those from the End of the container that the second of them may start
 abbrev pub starts_ambiguous_list : Bool → SourcedEvent → List SourcedEvent → List SourcedEvent → Bool
 starts_ambiguous_list inline e es behind =
     starts is_list (unsourced e) && ((begins_empty_item es && inline) || begins_only_item es behind)
 
--- some list among these events would, given whether inline content stands before them
+-- some list among these events would, given whether inline content is before them
 abbrev pub has_ambiguous_list : Bool → List SourcedEvent → Bool
 has_ambiguous_list inline [] = false
 has_ambiguous_list inline (e ∷ es) =

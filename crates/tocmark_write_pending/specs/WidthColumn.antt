@@ -5,7 +5,7 @@ use Rattle.tocmark_spelling.specs.Runs.{start_width}
 use Rattle.tocmark_write_pending.specs.Ahead.{behind_body, width_ahead_of}
 use Rattle.tocmark_write_pending.specs.OpenContainers.{left_open}
 
--- whether the container has ended behind whose Start these events stand
+-- whether the container has ended after whose Start these events are
 abbrev pub is_ended : List SourcedEvent → Bool
 is_ended rest = is_none (left_open 0 rest)
 
@@ -16,11 +16,11 @@ width_at [] = 0
 width_at (Start t ∷ rest) = if is_ended rest then width_ahead_of t rest else 0
 width_at (e ∷ rest) = 0
 
--- so it is at each place, and behind the last of these widths there are none
+-- so it is at each place, and after the last of these widths there are none
 pub record AreWidths (es : List SourcedEvent) (widths : List ℕ) : Type 0 where
   pub at : (i : ℕ) → slice_index_or widths i 0 ≡ width_at (drop i es)
 
--- what a first child adds to the container that ends behind it, given whether it is its only child, and its own width
+-- what a first child adds to the container that ends after it, given whether it is its only child, and its own width
 abbrev pub added_by : SourcedEvent → Bool → ℕ → ℕ
 added_by (Start Emphasis) only width = if only then 0 else width
 added_by (Start Strong) only width = width
@@ -41,7 +41,7 @@ abbrev pub width_now : List SourcedEvent → ℕ
 width_now [] = 0
 width_now (x ∷ rest) = start_width x + first_added rest
 
--- how many markers the container opens with that an event behind these ends, whose Start is at a place, if it ends one
+-- how many markers the container opens with that an event after these ends, whose Start is at a place, if it ends one
 abbrev pub width_ended : List SourcedEvent → Option ℕ → ℕ
 width_ended es None = 0
 width_ended es (Some p) = width_now (drop p es)

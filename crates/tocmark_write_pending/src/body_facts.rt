@@ -190,7 +190,7 @@ fn with_event(
     }
 }
 
-/// For each event what the trees behind it are like, up to the end of the container that is innermost
+/// For each event what the trees after it are like, up to the end of the container that is innermost
 /// there: at a start, its body.
 pub fn body_facts(alloc: Global, events: &[BufferedEvent]) -> Result<Vec<BodyFacts>, AllocError>
     ensures { IfOk result (λ facts. AreFacts (map buffered_view events.now) facts.items) }
@@ -207,7 +207,7 @@ pub fn body_facts(alloc: Global, events: &[BufferedEvent]) -> Result<Vec<BodyFac
     Ok(facts)
 }
 
-/// What the body behind an event is like.
+/// What the body after an event is like.
 pub fn facts_at(facts: &[BodyFacts], i: usize) -> BodyFacts
     ensures { result ≡ slice_index_or facts.now i no_facts }
 {

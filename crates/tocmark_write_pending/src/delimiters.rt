@@ -6,13 +6,13 @@ ghost use Rattle.tocmark_write_pending.specs.DelimiterColumn.{noted, numbers_of,
 /// What is kept of an event.
 #[derive(Clone, Copy)]
 pub struct Delimiter {
-    /// How many runs begin up to it: for a delimiter, the number of the run in which it stands.
+    /// How many runs begin up to it: for a delimiter, the number of the run in which it is.
     pub run: usize,
     /// How many markers the container opens with that it starts, if that has ended; 0 for others.
     pub width: usize,
 }
 
-/// The number of the run in which the delimiter at a place stands.
+/// The number of the run in which the delimiter at a place is.
 pub(crate) fn number_at(delimiters: &[Delimiter], place: usize) -> usize
     ensures { result ≡ slice_index_or (numbers_of delimiters.now) place 0 }
 {
@@ -44,7 +44,7 @@ pub(crate) fn note_run(delimiters: &mut Vec<Delimiter>, place: usize, run: usize
     let _room = delimiters.resize(place + 1, delimiter);
 }
 
-/// Notes how many markers a container opens with whose start is at a place, if one ends. Behind the last
+/// Notes how many markers a container opens with whose start is at a place, if one ends. After the last
 /// delimiter nothing is noted.
 #[inline(always)]
 pub(crate) fn note_width(delimiters: &mut Vec<Delimiter>, ended: Option<usize>, width: usize)

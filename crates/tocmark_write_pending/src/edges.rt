@@ -29,7 +29,7 @@ pub fn first_character(text: &str) -> Option<char>
     text.chars().next()
 }
 
-/// What stands at the edge of an event of inlines, `*`, or of blocks, nothing.
+/// What is at the edge of an event of inlines, `*`, or of blocks, nothing.
 pub fn inline_edge(inline: bool) -> Option<char>
     ensures { result ≡ (if inline then Some asterisk else None) }
 {
@@ -51,7 +51,7 @@ pub fn first_edge(event: &BufferedEvent) -> Option<char>
     }
 }
 
-/// The last character of an event, as its neighbour behind it sees it.
+/// The last character of an event, as its neighbour after it sees it.
 pub fn last_edge(event: &BufferedEvent) -> Option<char>
     ensures { result ≡ event_edge last_character (unsourced (buffered_view event.now)) }
 {

@@ -62,8 +62,8 @@ pub fn end_at(ends: &[Option<usize>], place: usize) -> Option<usize>
     }
 }
 
-/// The place behind the body of the container that starts at a place: that of its end, or else
-/// the one behind the last event.
+/// The place after the body of the container that starts at a place: that of its end, or else
+/// the one after the last event.
 pub fn body_end(ends: &[Option<usize>], place: usize) -> usize
     ensures start { (es : List SourcedEvent) (t : TagView) (rest : List SourcedEvent)
         → AreEnds es ends.now → drop place es ≡ Start t ∷ rest

@@ -1,4 +1,4 @@
-//! Which containers are open behind the events that wait, and where the others end.
+//! Which containers are open after the events that wait, and where the others end.
 
 ghost use Rattle.std.specs.Prelude.{◌≡◌, ◌<◌, ℕ, is_ok, length, string_bytes, true, vec_capacity, Ok, Some};
 ghost use Rattle.tocmark_event.specs.Text.{text_of};
@@ -40,7 +40,7 @@ pub(crate) fn can_come(containers: &[OpenContainer], event: &Event<'_>) -> bool
     }
 }
 
-/// Opens or ends a container, with an event that can come, and that stands at a place. There is room
+/// Opens or ends a container, with an event that can come, and that is at a place. There is room
 /// for one more.
 #[inline(always)]
 pub(crate) fn nest(containers: &mut Vec<OpenContainer>, event: &OwnedEvent, place: usize)

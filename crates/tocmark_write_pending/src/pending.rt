@@ -64,7 +64,7 @@ fn copied_source(alloc: Global, source: Option<&str>) -> Result<Option<String>, 
     }
 }
 
-/// Puts an event with texts of its own behind others, with a copy of its spelling in the source where
+/// Puts an event with texts of its own after others, with a copy of its spelling in the source where
 /// that is known. There is room for it.
 fn push_event<E: Incoming + Drop>(
     events: &mut Vec<BufferedEvent>,
@@ -84,7 +84,7 @@ fn push_event<E: Incoming + Drop>(
     Ok(())
 }
 
-/// Adds an event behind others, and to their runs. There is room for it. At an `Err` all is as it was.
+/// Adds an event after others, and to their runs. There is room for it. At an `Err` all is as it was.
 fn add<E: Incoming + Drop>(
     events: &mut Vec<BufferedEvent>,
     runs: &mut Vec<Run>,
@@ -179,7 +179,7 @@ impl Pending {
         self.ends.as_slice()
     }
 
-    /// The run of delimiters in which the event at a place stands: the longest stretch of starts of
+    /// The run of delimiters in which the event at a place is: the longest stretch of starts of
     /// emphasis and strong emphasis round it, or of their ends. `None` for other events.
     ///
     /// ```
@@ -230,7 +230,7 @@ impl Pending {
     /// Whether the unit waits for a label that only the end of the events can give: a list in it needs
     /// a placeholder, since it would be read otherwise without one.
     ///
-    /// A list does whose first item is empty and which stands just behind inline content, and one with
+    /// A list is whose first item is empty and which is just after inline content, and one with
     /// a single item that holds a single paragraph and nothing else. A unit in which a container is
     /// open waits for nothing.
     pub fn needs_placeholder(&self) -> bool

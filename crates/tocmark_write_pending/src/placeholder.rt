@@ -15,7 +15,7 @@ use tocmark_event::event::{EventOf, TagOf};
 use tocmark_spelling::buffered::BufferedEvent;
 use tocmark_spelling::kinds::is_inline_end;
 
-/// Whether inline content stands before what follows the event.
+/// Whether inline content is before what follows the event.
 fn is_inline_end_or_leaf(event: &BufferedEvent) -> bool
     ensures { result ≡ is_inline_end_or_leaf (unsourced (buffered_view event.now)) }
 {
@@ -63,7 +63,7 @@ pub(crate) fn rest_of(events: &[BufferedEvent], start: usize) -> &[BufferedEvent
     }
 }
 
-/// Whether the starts of a list and of its first item come behind inline content.
+/// Whether the starts of a list and of its first item come after inline content.
 fn begins_first_item(events: &[BufferedEvent]) -> bool
     ensures { result ≡ begins_first_item (map buffered_view events.now) }
 {
@@ -75,7 +75,7 @@ fn begins_first_item(events: &[BufferedEvent]) -> bool
     }
 }
 
-/// Whether events end with the starts of a list and of its first item, behind inline content.
+/// Whether events end with the starts of a list and of its first item, after inline content.
 fn ends_in_first_item(events: &[BufferedEvent]) -> bool
     ensures { result ≡ ends_in_first_item false (map buffered_view events.now) }
 {
@@ -115,7 +115,7 @@ fn is_last_but_one(end: Option<usize>, count: usize) -> bool
 }
 
 /// Whether the list whose start is at a place, and that an End ends now, has one item alone, in which a
-/// paragraph stands alone.
+/// paragraph is alone.
 fn ends_only_item(events: &[BufferedEvent], ends: &[Option<usize>], start: usize) -> bool
     requires ends { AreEnds (map buffered_view events.now) ends.now }
     ensures { result ≡ ends_only_item_from (drop start (map buffered_view events.now)) }

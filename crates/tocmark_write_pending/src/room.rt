@@ -15,7 +15,7 @@ pub(crate) fn make_room<T>(items: &mut Vec<T>) -> Result<(), AllocError>
     items.reserve(1)
 }
 
-/// Makes room up to the place of an item behind these.
+/// Makes room up to the place of an item after these.
 pub(crate) fn make_room_up_to<T>(items: &mut Vec<T>, place: usize) -> Result<(), AllocError>
     requires { length items.old.items ≤ place }
     ensures items { items.new.items ≡ items.old.items }

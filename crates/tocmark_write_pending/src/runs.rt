@@ -110,7 +110,7 @@ fn wider(run: Run, width: usize) -> Result<Run, AllocError>
     Ok(Run { width, ..run })
 }
 
-/// A run behind which an event stands.
+/// A run after which an event is.
 fn bordered(run: Run, event: &BufferedEvent) -> Run
     ensures { run_view result ≡ bordered (buffered_view event.now) (run_view run) }
 {
@@ -140,7 +140,7 @@ fn literal_of_last(events: &[BufferedEvent]) -> Option<char>
     }
 }
 
-/// The run that begins with an event behind others.
+/// The run that begins with an event after others.
 fn begun_by(event: &BufferedEvent, events: &[BufferedEvent]) -> Run
     ensures { run_view result
         ≡ begun_by (buffered_view event.now) (reverse (map buffered_view events.now)) }
@@ -163,7 +163,7 @@ fn put(runs: &mut Vec<Run>, run: Run)
     let _room = runs.push(run);
 }
 
-/// The last run, as an event behind others changes it. An `Err` says that it is as long as no text can
+/// The last run, as an event after others changes it. An `Err` says that it is as long as no text can
 /// be.
 fn changed(run: Run, event: &BufferedEvent, events: &[BufferedEvent]) -> Result<Run, AllocError>
     ensures { let e = buffered_view event.now in
@@ -181,7 +181,7 @@ fn changed(run: Run, event: &BufferedEvent, events: &[BufferedEvent]) -> Result<
     }
 }
 
-/// Changes the last run, if there is one, now that an event stands behind the others. At an `Err` all is
+/// Changes the last run, if there is one, now that an event is after the others. At an `Err` all is
 /// as it was.
 fn change_last(
     runs: &mut Vec<Run>,
@@ -212,7 +212,7 @@ fn begins_run(event: &BufferedEvent, events: &[BufferedEvent]) -> bool
     in_run(event) && !goes_on(event, events)
 }
 
-/// Begins a run with an event behind others, if it begins one. The last run has been changed.
+/// Begins a run with an event after others, if it begins one. The last run has been changed.
 fn begin_run(runs: &mut Vec<Run>, event: &BufferedEvent, events: &[BufferedEvent])
     requires room { length runs.old.items < vec_capacity runs.old }
     ensures { let e = buffered_view event.now in
@@ -226,7 +226,7 @@ fn begin_run(runs: &mut Vec<Run>, event: &BufferedEvent, events: &[BufferedEvent
     }
 }
 
-/// Adds a delimiter behind other events to the runs. At an `Err` they are as they were.
+/// Adds a delimiter after other events to the runs. At an `Err` they are as they were.
 fn join_delimiter(
     runs: &mut Vec<Run>,
     delimiters: &mut Vec<Delimiter>,
@@ -266,7 +266,7 @@ fn ends_known_run(delimiters: &[Delimiter], events: &[BufferedEvent]) -> bool
     !delimiters.is_empty() && ends_run(events)
 }
 
-/// Adds an event behind others to the runs, and what is kept of it. At an `Err` all is as it was.
+/// Adds an event after others to the runs, and what is kept of it. At an `Err` all is as it was.
 pub(crate) fn join_runs(
     runs: &mut Vec<Run>,
     delimiters: &mut Vec<Delimiter>,
@@ -325,7 +325,7 @@ fn is_in_run(events: &[BufferedEvent], place: usize) -> bool
     }
 }
 
-/// The run in which the event at a place stands, if it stands in one.
+/// The run in which the event at a place is, if it is in one.
 pub(crate) fn run_at(
     events: &[BufferedEvent],
     runs: &[Run],

@@ -26,7 +26,7 @@ fn start_width(event: &BufferedEvent) -> usize
     }
 }
 
-/// What a first child adds to the container that ends behind it, given how many markers it opens with.
+/// What a first child adds to the container that ends after it, given how many markers it opens with.
 fn added_by(event: &BufferedEvent, is_only: bool, width: usize) -> usize
     ensures { result ≡ added_by (buffered_view event.now) is_only width }
 {
@@ -47,7 +47,7 @@ fn is_last(end: Option<usize>, count: usize) -> bool
     }
 }
 
-/// How many markers open a container that ends behind these events, the first of which is its start;
+/// How many markers open a container that ends after these events, the first of which is its start;
 /// given whether its first child is its only one, and how many markers that opens with.
 fn width_by(events: &[BufferedEvent], is_only: bool, width: usize) -> Result<usize, AllocError>
     ensures { IfOk result (λ all. all ≡ width_by (map buffered_view events.now) is_only width) }
@@ -64,7 +64,7 @@ fn width_by(events: &[BufferedEvent], is_only: bool, width: usize) -> Result<usi
 }
 
 /// How many markers the container opens with whose start is at a place, and which one more event ends;
-/// none where no delimiter stands at its start or behind that.
+/// none where no delimiter is at its start or after that.
 fn width_of_start(
     events: &[BufferedEvent],
     ends: &[Option<usize>],

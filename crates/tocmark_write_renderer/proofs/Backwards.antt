@@ -11,7 +11,7 @@ use Rattle.tocmark_spelling.specs.Runs.{run_around}
 abbrev pub front_run : ℕ → List ℕ → ℕ
 front_run c bs = prefix_len (λ b. b == c) bs
 
--- how long it is in front of the place behind so many bytes
+-- how long it is in front of the place after so many bytes
 abbrev pub back_run : ℕ → ℕ → List ℕ → ℕ
 back_run c k bs = front_run c (reverse (take k bs))
 
@@ -62,7 +62,7 @@ whole-back c zero bs le = sym (le-leb 0 (front_run c bs) (omega arith))
 whole-back c (suc k) [] le = absurd (omega (arith, le))
 whole-back c (suc k) (b ∷ bs) le = let less : k ≤ length bs = omega (arith, le) in whole-more c k b bs less (whole-back c k bs less)
 
--- the run round the place behind so many bytes
+-- the run round the place after so many bytes
 abbrev pub round_back : ℕ → ℕ → List ℕ → ℕ
 round_back c zero bs = front_run c bs
 round_back c (suc k) [] = 0
@@ -82,11 +82,11 @@ module _ {X : Type 0} (xs : List X) (place k : ℕ) (sum : place + k ≡ length 
   behind : length (reverse (drop place xs)) ≡ k
   behind = length-reverse (drop place xs) ∙ length-drop place xs ∙ omega (arith, sum)
 
-  -- what stands before a place, backwards
+  -- what is before a place, backwards
   pub drop-turned : drop k (reverse xs) ≡ reverse (take place xs)
   drop-turned = ap (drop k) turned ∙ drop_at (reverse (drop place xs)) (reverse (take place xs)) k behind
 
-  -- what stands behind it
+  -- what is after it
   take-turned : reverse (take k (reverse xs)) ≡ drop place xs
   take-turned =
       ap (λ x. reverse (take k x)) turned

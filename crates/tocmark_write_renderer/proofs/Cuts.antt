@@ -6,18 +6,18 @@ use Rattle.tocmark_write_renderer.specs.RunsOf.{AreInOrder, begun, cut_at, ends_
 use Rattle.tocmark_write_renderer.specs.declared.marker_runs.MarkerRun.{MarkerRun}
 use Rattle.tocmark_write_renderer.proofs.Order.{runs-order}
 
--- what stands of the first of some runs, or of the others
+-- what is of the first of some runs, or of the others
 abbrev cut_if : Bool → ℕ → MarkerRun → List MarkerRun → List MarkerRun
 cut_if b place r rs = if b then part_before place r ∷ rs else cut_at place rs
 
--- all of them stand before the place where they end
+-- all of them are before the place where they end
 pub cut-none : (n : ℕ) (rs : List MarkerRun) → AreInOrder n rs → cut_at n rs ≡ rs
 cut-none n [] h = refl
 cut-none n (r ∷ rs) h =
     let whole : min r.length (n - r.start) ≡ r.length = omega (arith, h.0, h.1) in
     ap (λ b. cut_if b n r rs) (lt-ltb r.start n (omega (arith, h.0, h.1))) ∙ ap (λ m. record { marker = r.marker; start = r.start; length = m } ∷ rs) whole
 
--- a marker behind a place
+-- a marker after a place
 cut-with : (b n place : ℕ) (rs : List MarkerRun) → place ≤ n → cut_at place (with_marker b n rs) ≡ cut_at place rs
 cut-with b n place [] le = ap (λ x. cut_if x place (begun b n) []) (le-ltb n place le)
 cut-with b n place (r ∷ rs) le = by (ends_at b n r) refl

@@ -1,4 +1,4 @@
--- What an escape is like: no line feed stands in it, and it is empty where its text is.
+-- What an escape is like: no line feed is in it, and it is empty where its text is.
 use Rattle.std.proofs.Common.{◌≡◌, ℕ, suc, ◌<◌, ◌≤◌, Bool, true, false, List, [], ◌∷◌, ◌++◌, codes, chars, decimal, encode_utf8, encode_utf8_all, get_or, length, length-append, IsUtf8, refl, sym, ap, ◌∙◌, subst, inl, inr, arith, ne_eqb}
 use Rattle.std.specs.Prelude.{◌==◌, ◌&&◌, not}
 use Rattle.std.specs.Char.{char_set_contains}

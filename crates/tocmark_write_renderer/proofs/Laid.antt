@@ -113,7 +113,7 @@ at-feed (b ∷ bs) h = by_case (is_feed b) refl h (λ h. at-feed bs h)
         let n = rw (e, one-more (position_or_len is_feed bs)) at h in
         rw (e, one-more (position_or_len is_feed bs)) (ih (omega (arith, n)))
 
--- what stands behind a line feed is text
+-- what is after a line feed is text
 pub after-text : (bs : List ℕ) → IsUtf8 bs → position_or_len is_feed bs < length bs → IsUtf8 (after_first is_feed bs)
 after-text bs u h =
     let e : get_or bs (position_or_len is_feed bs) 0 ≡ 10 = at-feed bs h in
@@ -167,7 +167,7 @@ laid-bare (b ∷ bs) s =
     ∙ ap (λ t. sheet t (feeds_behind bs (feeds_after b s.feeds))) (append_assoc (s.text ++ []) (b ∷ []) bs ∙ ap (λ t. t ++ b ∷ bs) (append-nil s.text))
     ∙ ap (λ n. sheet (s.text ++ b ∷ bs) n) (feeds-more b bs s.feeds)
 
--- ---- where a unit stands
+-- ---- where a unit is
 
 -- such a text was laid
 pub bare-laid : (text : List ℕ) (n : ℕ) (here one two : Site) → n ≡ feeds_behind text here.page.sheet.feeds → one ≡ on_sheet (with_more text) here → two ≡ on_sheet (with_feeds n) one → two ≡ on_sheet (laid [] text) here
@@ -185,7 +185,7 @@ nothing (b ∷ bs) e = absurd (omega arith)
 pub unprefixed : (prefix shown text : List ℕ) (w : Rendering) (path : Path) (page : Page) → shown ≡ prefix → length shown ≡ 0 → Stands w path (laid_on [] text page) → Stands w path (laid_on prefix text page)
 unprefixed prefix shown text w path page e none h = subst (λ p. Stands w path (laid_on p text page)) (sym (nothing shown none) ∙ e) h
 
--- a renderer whose place is this one stands there
+-- a renderer whose place is this one is there
 pub stands-as : (w : Rendering) (here : Site) → site_of w ≡ here → Stands w here.path here.page
 stands-as w here e = record {
   path_is = ap (λ (x : Site). x.path) e;

@@ -33,7 +33,7 @@ text-grows a s more (Some m) u e f = record {
   starts = subst (λ t. AreCut t (unwrap_or a.containers.at_mark [])) (sym (ap (take m.text) e ∙ take-append-le m.text (string_bytes a.text) more f.cut.0)) f.starts;
 }
 
--- a renderer with this text, at whose end no line feed stands
+-- a renderer with this text, at whose end no line feed is
 abbrev pub with_text : Inside → String Global → Inside
 with_text a s = record a { text = s; newlines = 0 }
 
@@ -45,7 +45,7 @@ line-grows a s more u e f = text-grows (record a { newlines = 0 }) s more a.mark
     by None h = h
     by (Some m) h = record { cut = h.cut; references = h.references; starts = h.starts }
 
--- where it stands then
+-- where it is then
 pub line-stands : (a : Inside) (s : String Global) (more : List ℕ) (w : Rendering) → string_bytes s ≡ string_bytes a.text ++ more → rendering_of a ≡ w → site_of (rendering_of (with_text a s)) ≡ on_sheet (with_feeds 0) (on_sheet (with_more more) (site_of w))
 line-stands a s more w e is =
     ap (λ t. on_sheet (λ _. record { text = t; feeds = 0 }) (site_now a)) e

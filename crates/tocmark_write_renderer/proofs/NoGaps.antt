@@ -34,7 +34,7 @@ module _ (list : Option LastList) (raw : Bool) (path : Path) (p : Page) where
   abbrev HasNoGap : EventView → Last → Type 0
   HasNoGap e l = gap e path (here l) ≡ there l
 
-  -- the gap by what stands before the event
+  -- the gap by what is before the event
   behind : (e : EventView) (l : Last) → before_event e path (here l) ≡ there l → separated e path (with_trail (raised_before e path (there l).trail) (there l)) ≡ there l → HasNoGap e l
   behind e l before last = ap (λ (q : Page). separated e path (with_trail (raised_before e path q.trail) q)) before ∙ last
 

@@ -54,7 +54,7 @@ last-cut runs n place r some e at less =
     last-set runs n (part_before place r) some e
     ∙ sym (ap (cut_at place) turned ∙ ap (λ b. if b then part_before place r ∷ rest else cut_at place rest) (lt-ltb r.start place less))
 
--- after the others behind the place were dropped
+-- after the others after the place were dropped
 pub cut-here : (runs short : List MarkerRun) (n place m : ℕ) (run r : MarkerRun) → 0 < n → n ≤ length runs → short ≡ take n runs → run ≡ get_or runs (n - 1) run
     → r ≡ get_or short (n - 1) r → run.start < place → m ≡ min run.length (place - run.start)
     → reverse (set short (n - 1) (record { marker = r.marker; start = r.start; length = m })) ≡ cut_at place (reverse (take n runs))
@@ -66,7 +66,7 @@ cut-here runs short n place m run r some le cut read at less part =
     ∙ last-cut short n place r some count at (subst (λ (x : MarkerRun). x.start < place) same less)
     ∙ ap (λ x. cut_at place (reverse x)) cut
 
--- one that starts there, or behind it, is passed
+-- one that starts there, or after it, is passed
 pub last-passed : (runs : List MarkerRun) (n place : ℕ) (r : MarkerRun) → 0 < n → n ≤ length runs → r ≡ get_or runs (n - 1) r → place ≤ r.start
     → cut_at place (reverse (take (n - 1) runs)) ≡ cut_at place (reverse (take n runs))
 last-passed runs n place r some le at later =
@@ -135,7 +135,7 @@ cut-noted m new text h l cut =
           ∙ ap (λ x. runs_of (reverse x)) (take-take n m.read text (omega (arith, l)) ∙ sym (take_all n (take n text) (omega (arith, length-take-le n text fits))));
     }
 
--- or behind it
+-- or after it
 pub stay-noted : (m : MarkerRuns) (n : ℕ) (text : List ℕ) → AreNoted m text → m.read ≤ n → AreNoted m (take n text)
 stay-noted m n text h le = record {
   within = omega (arith, length-take n text, h.within, le);
@@ -167,7 +167,7 @@ none-read m text items same none h =
 pub order-noted : (m : MarkerRuns) (text : List ℕ) → AreWhole m text → AreInOrder (length (reverse text)) (reverse m.runs.items)
 order-noted m text h = subst (AreInOrder (length (reverse text))) (sym (whole-noted m text h)) (runs-order (reverse text))
 
--- the run round a place that may stand behind the end
+-- the run round a place that may be after the end
 pub round-noted : (m : MarkerRuns) (text : List ℕ) (c place : ℕ) → AreWhole m text → is_marker c ≡ true
     → length_round c (min place (length text)) (reverse m.runs.items) ≡ run_around c place text
 round-noted m text c place h marker =

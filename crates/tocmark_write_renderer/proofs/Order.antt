@@ -1,4 +1,4 @@
--- The runs of a text stand in order.
+-- The runs of a text are in order.
 use Rattle.std.proofs.Common.{◌≤◌, ℕ, zero, suc, Bool, true, false, if◌then◌else◌, List, [], ◌∷◌, arith, drop, length}
 use Rattle.tocmark_spelling.specs.Runs.{is_marker}
 use Rattle.tocmark_write_renderer.specs.RunsOf.{AreInOrder, begun, ends_at, longer, runs_of, with_marker}

@@ -1,4 +1,4 @@
--- The last run that starts by a place is the one that stands there, if one does.
+-- The last run that starts by a place is the one that is there, if one is.
 use Rattle.std.proofs.Common.{◌≡◌, ◌==◌, ◌≤◌, ◌<◌, ◌+◌, ◌-◌, inl, inr, ℕ, zero, suc, true, false, List, [], ◌∷◌, refl, sym, ap, ◌∙◌, arith, drop, get_or, leb, length, ltb, reverse, subst, take}
 use Rattle.std.specs.List.Sorted.{IsPartitionPoint, IsPartitionedBy}
 use Rattle.std.proofs.lemmas.Bool.{and_from, and_parts, both_ways, cases_lt, cond-false, cond-true, eq-eqb, eqb-true, false_from_ne_true, leb-true, le-leb, lt-ltb, ltb-true, or_cases, or_left, or_right}
@@ -66,7 +66,7 @@ skip c place (suc m) (r ∷ rs) h =
     cond-false (covers c place r) r.length (length_round c place rs) (false_from_ne_true (covers c place r) (λ q. both_ways (is_reached c place r) (h 0 r (omega arith) (omega arith)) (covers-reached c place r q)))
     ∙ skip c place m rs (λ k d l in_range. h (suc k) d (omega (arith, l)) (omega (arith, in_range)))
 
--- the last one that is reached doesn't stand there: none does
+-- the last one that is reached isn't there: none is
 passed : (c place limit : ℕ) (r : MarkerRun) (rs : List MarkerRun) → AreInOrder limit (r ∷ rs) → is_reached c place r ≡ true → covers c place r ≡ false → length_round c place rs ≡ 0
 passed c place limit r rs h reached free = elim (or_cases (ltb r.start place) _ reached) [
   | inl less ↦ far c r.start place rs h.2 (ltb-true r.start place less)
@@ -82,7 +82,7 @@ module _ (c place limit n : ℕ) (runs : List MarkerRun) (order : AreInOrder lim
   sum : n + (length runs - n) ≡ length runs
   sum = omega (arith, within)
 
-  -- those behind aren't reached
+  -- those after aren't reached
   later : (k : ℕ) (d : MarkerRun) → k < length runs - n → k < length (reverse runs) → is_reached c place (get_or (reverse runs) k d) ≡ false
   later k d l in_range =
       let inside : k < length runs = omega (arith, l) in
@@ -102,7 +102,7 @@ module _ (c place limit n : ℕ) (runs : List MarkerRun) (order : AreInOrder lim
     by-last : length_round c place (reverse runs) ≡ length_round c place (get_or runs (n - 1) d ∷ reverse (take (n - 1) runs))
     by-last = reached-only ∙ ap (length_round c place) last-first
 
-    -- where the last one that is reached stands there
+    -- where the last one that is reached is there
     pub last-covers : covers c place (get_or runs (n - 1) d) ≡ true → length_round c place (reverse runs) ≡ (get_or runs (n - 1) d).length
     last-covers e = by-last ∙ cond-true (covers c place (get_or runs (n - 1) d)) _ _ e
 

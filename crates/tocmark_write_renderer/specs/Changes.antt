@@ -1,4 +1,4 @@
--- What a change makes of where a unit stands.
+-- What a change makes of where a unit is.
 use Rattle.std.specs.Prelude.{ℕ, Option, List, [], ◌∷◌, ◌++◌}
 use Rattle.tocmark_spelling.specs.Page.{Held, Page, Path, Reference, Sheet, Site, with_trail}
 use Rattle.tocmark_spelling.specs.TrailOf.{trail_of}

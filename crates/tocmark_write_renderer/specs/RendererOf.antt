@@ -32,15 +32,15 @@ page_at a m = record {
   held = noted held_view a.old_held a.held;
 }
 
--- where it stands now
+-- where it is now
 abbrev pub site_now : Inside → Site
 site_now a = record { path = a.containers.path; page = page_now a }
 
--- where it stood at the mark
+-- where it was at the mark
 abbrev pub site_at : Inside → Snapshot → Site
 site_at a m = record { path = unwrap_or a.containers.at_mark []; page = page_at a m }
 
--- where it stands, and where it stood at the mark, if one is set
+-- where it is, and where it was at the mark, if one is set
 abbrev pub rendering_of : Inside → Rendering
 rendering_of a = record { site = site_now a; at_mark = option_map (site_at a) a.mark }
 

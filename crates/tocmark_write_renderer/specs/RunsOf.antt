@@ -16,7 +16,7 @@ longer r = record r { length = r.length + 1 }
 abbrev pub begun : ℕ → ℕ → MarkerRun
 begun marker place = record { marker = marker; start = place; length = 1 }
 
--- the runs before a place, the last one first, and a marker that stands there
+-- the runs before a place, the last one first, and a marker that is there
 abbrev pub with_marker : ℕ → ℕ → List MarkerRun → List MarkerRun
 with_marker marker place [] = begun marker place ∷ []
 with_marker marker place (r ∷ rs) = if ends_at marker place r then longer r ∷ rs else begun marker place ∷ r ∷ rs
@@ -26,16 +26,16 @@ abbrev pub runs_of : List ℕ → List MarkerRun
 runs_of [] = []
 runs_of (b ∷ bs) = if is_marker b then with_marker b (length bs) (runs_of bs) else runs_of bs
 
--- the part of a run that stands before a place
+-- the part of a run that is before a place
 abbrev pub part_before : ℕ → MarkerRun → MarkerRun
 part_before place r = record r { length = min r.length (place - r.start) }
 
--- what stands of runs before a place; the last one comes first
+-- what is of runs before a place; the last one comes first
 abbrev pub cut_at : ℕ → List MarkerRun → List MarkerRun
 cut_at place [] = []
 cut_at place (r ∷ rs) = if nat_lt r.start place then part_before place r ∷ rs else cut_at place rs
 
--- whether a run of this marker stands round a place, or ends or starts there
+-- whether a run of this marker is round a place, or ends or starts there
 abbrev pub covers : ℕ → ℕ → MarkerRun → Bool
 covers marker place r = (r.marker == marker) && (nat_le r.start place && nat_le (place - r.start) r.length)
 
@@ -48,7 +48,7 @@ length_round marker place (r ∷ rs) = if covers marker place r then r.length el
 abbrev pub is_reached : ℕ → ℕ → MarkerRun → Bool
 is_reached marker place r = nat_lt r.start place || ((r.start == place) && (r.marker == marker))
 
--- no run is empty, and each ends where the one behind it starts, or before, and the last one ends by this place; the last
+-- no run is empty, and each ends where the one after it starts, or before, and the last one ends by this place; the last
 -- one comes first
 abbrev pub AreInOrder : ℕ → List MarkerRun → Type 0
 AreInOrder place [] = Unit {0}

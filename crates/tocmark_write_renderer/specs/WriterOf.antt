@@ -11,12 +11,12 @@ use Rattle.tocmark_spelling.specs.Page.{Sheet, Trail, Path, Page, Site}
 use Rattle.tocmark_write_renderer.specs.declared.parts.Reference.{Reference}
 use Rattle.tocmark_write_renderer.specs.declared.parts.Held.{Held}
 
--- where a renderer stands, and where it stood at the mark, if one is set
+-- where a renderer is, and where it was at the mark, if one is set
 pub record Rendering : Type 0 where
   pub site : Site
   pub at_mark : Option Site
 
--- where it stands: its open containers and its page
+-- where it is: its open containers and its page
 abbrev pub site_of : Rendering → Site
 site_of w = w.site
 
@@ -32,7 +32,7 @@ page_of w = w.site.page
 abbrev pub sheet_of : Rendering → Sheet
 sheet_of w = w.site.page.sheet
 
--- the empty page behind so many line feeds, which finds this trail
+-- the empty page after so many line feeds, which finds this trail
 abbrev pub blank_page : ℕ → Trail → Page
 blank_page feeds trail = record { sheet = record { text = []; feeds = feeds }; trail = trail; references = []; held = None }
 
@@ -40,7 +40,7 @@ blank_page feeds trail = record { sheet = record { text = []; feeds = feeds }; t
 abbrev pub blank : ℕ → Trail → Site
 blank feeds trail = record { path = []; page = blank_page feeds trail }
 
--- no line feed stands in a text
+-- no line feed is in a text
 abbrev pub HasNoFeed : List ℕ → Type 0
 HasNoFeed [] = Unit {0}
 HasNoFeed (b ∷ bs) = (b == 10 ≡ false) × HasNoFeed bs
@@ -57,7 +57,7 @@ held_view h = record { text = string_bytes h.text; source = option_map string_by
 abbrev pub longer : page.Held → List ℕ → Option (List ℕ) → page.Held
 longer h text source = record { text = h.text ++ text; source = both h.source source; after_close = h.after_close }
 
--- a stretch that begins behind this event
+-- a stretch that begins after this event
 abbrev pub begun : List ℕ → Option (List ℕ) → Option EventView → page.Held
 begun text source previous = record { text = text; source = source; after_close = ends_delimiter previous }
 
@@ -75,7 +75,7 @@ pub record Stands (w : Rendering) (path : Path) (page : Page) : Type 0 where
   pub path_is : levels_of w ≡ path
   pub page_is : page_of w ≡ page
 
--- the renderer stands where the definition does; never so where the definition refuses
+-- the renderer is where the definition is; never so where the definition refuses
 abbrev pub Arrives : Rendering → Option Site → Type 0
 Arrives w (Some here) = Stands w here.path here.page
 Arrives w None = ⊥

@@ -159,7 +159,7 @@ impl<'a> Renderer<'a> {
         self.close_up_where_close(event)
     }
 
-    /// Writes the gap before an event, wherever it stands.
+    /// Writes the gap before an event, wherever it is.
     #[inline(never)]
     fn write_any_gap(&mut self, event: &OwnedEvent) -> Result<(), AllocError>
         ensures stands { OnOk result

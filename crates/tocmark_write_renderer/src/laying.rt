@@ -23,7 +23,7 @@ fn ending_feeds(text: &str) -> usize
         .count()
 }
 
-/// How many line feeds stand at the end of a text that is laid behind so many of them. An `Err` says that they would be
+/// How many line feeds are at the end of a text that is laid after so many of them. An `Err` says that they would be
 /// too many for a `usize`.
 fn feeds_behind(text: &str, feeds: usize) -> Result<usize, AllocError>
     ensures { IfOk result (λ count. count ≡ feeds_behind text.now feeds) }
@@ -90,7 +90,7 @@ impl<'a> Renderer<'a> {
         Ok(())
     }
 
-    /// A text line by line, each behind the prefix.
+    /// A text line by line, each after the prefix.
     fn lay_lines(&mut self, text: &str) -> Result<(), AllocError>
         ensures site { OnOk result (site_of self.new
             ≡ on_sheet (laid (prefix_of (levels_of self.old)) text.now) (site_of self.old)) }
@@ -105,7 +105,7 @@ impl<'a> Renderer<'a> {
         self.write_part(rest)
     }
 
-    /// Writes a text inside the open containers, each of its lines behind the prefix.
+    /// Writes a text inside the open containers, each of its lines after the prefix.
     pub fn write(&mut self, text: &str) -> Result<(), AllocError>
         ensures written { OnOk result
             (Stands self.new (levels_of self.old)
@@ -119,7 +119,7 @@ impl<'a> Renderer<'a> {
         }
     }
 
-    /// So many line feeds, each behind the prefix.
+    /// So many line feeds, each after the prefix.
     fn lay_feed_lines(&mut self, count: usize) -> Result<(), AllocError>
         ensures site { OnOk result (site_of self.new
             ≡ on_sheet (laid (prefix_of (levels_of self.old)) (replicate count 10))
@@ -146,7 +146,7 @@ impl<'a> Renderer<'a> {
         }
     }
 
-    /// So many line feeds, each behind the prefix, if there is one.
+    /// So many line feeds, each after the prefix, if there is one.
     fn lay_feeds(&mut self, count: usize) -> Result<(), AllocError>
         ensures written { OnOk result (Stands self.new (levels_of self.old)
             (written (levels_of self.old) (replicate count 10) (page_of self.old))) }
@@ -159,7 +159,7 @@ impl<'a> Renderer<'a> {
         }
     }
 
-    /// Writes line feeds until so many stand. Room for all of them is made before the first is written; an `Err` says
+    /// Writes line feeds until so many are. Room for all of them is made before the first is written; an `Err` says
     /// that there was none.
     pub fn fill(&mut self, lines: usize) -> Result<(), AllocError>
         ensures filled { OnOk result

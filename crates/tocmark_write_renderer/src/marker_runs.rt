@@ -80,7 +80,7 @@ impl MarkerRuns {
         }
     }
 
-    /// Forgets what stands behind a length, to which the text is cut. It takes no memory.
+    /// Forgets what is after a length, to which the text is cut. It takes no memory.
     pub fn truncate(&mut self, length: usize)
         ensures { (text : List ℕ) → AreNoted self.old text → AreNoted self.new (take length text) }
     {
@@ -111,14 +111,14 @@ fn is_reached(run: MarkerRun, marker: u8, place: usize) -> bool
     run.start < place || run.start == place && run.marker == marker
 }
 
-/// Whether a run of this marker stands round a place, or ends or starts there.
+/// Whether a run of this marker is round a place, or ends or starts there.
 fn covers(run: MarkerRun, marker: u8, place: usize) -> bool
     ensures { result ≡ covers marker place run }
 {
     run.marker == marker && run.start <= place && place - run.start <= run.length
 }
 
-/// One more marker, behind all that was read. If memory runs out, nothing is changed.
+/// One more marker, after all that was read. If memory runs out, nothing is changed.
 fn put_marker(runs: &mut Vec<MarkerRun>, marker: u8, place: usize) -> Result<(), AllocError>
     requires { place < usize.MAX }
     ensures more { OnOk result (reverse runs.new.items
@@ -138,7 +138,7 @@ fn put_marker(runs: &mut Vec<MarkerRun>, marker: u8, place: usize) -> Result<(),
     Ok(())
 }
 
-/// Leaves what stands before a place.
+/// Leaves what is before a place.
 fn cut(runs: &mut Vec<MarkerRun>, place: usize)
     ensures { reverse runs.new.items ≡ cut_at place (reverse runs.old.items) }
 {
@@ -155,7 +155,7 @@ fn cut(runs: &mut Vec<MarkerRun>, place: usize)
     runs.clear();
 }
 
-/// How long the run of a marker is round a place, which is none behind the text's end.
+/// How long the run of a marker is round a place, which is none after the text's end.
 fn length_round(runs: &[MarkerRun], place: usize, marker: u8) -> usize
     requires { (limit : ℕ) × AreInOrder limit (reverse runs.now) }
     ensures { result ≡ length_round marker place (reverse runs.now) }
@@ -172,14 +172,14 @@ fn length_round(runs: &[MarkerRun], place: usize, marker: u8) -> usize
     }
 }
 
-/// How often a byte stands at the front of a text.
+/// How often a byte is at the front of a text.
 fn front_run(bytes: &[u8], byte: u8) -> usize
     ensures { result ≡ prefix_len (λ b. b == byte) bytes.now }
 {
     bytes.iter().take_while(|b| **b == byte).count()
 }
 
-/// How often it stands at the end.
+/// How often it is at the end.
 fn back_run(bytes: &[u8], byte: u8) -> usize
     ensures { result ≡ prefix_len (λ b. b == byte) (reverse bytes.now) }
 {

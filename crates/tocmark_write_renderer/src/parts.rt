@@ -21,7 +21,7 @@ pub struct Held {
     pub text: String,
     /// Their joined sources, where each is known.
     pub source: Option<String>,
-    /// Whether an end of emphasis stands before them.
+    /// Whether an end of emphasis is before them.
     pub after_close: bool,
 }
 

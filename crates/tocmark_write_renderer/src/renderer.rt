@@ -83,7 +83,7 @@ impl<'a> Model for Renderer<'a> {
 }
 
 impl<'a> Renderer<'a> {
-    /// An empty unit behind so many line feeds, which finds this trail. What `room` holds is forgotten;
+    /// An empty unit after so many line feeds, which finds this trail. What `room` holds is forgotten;
     /// the unit's text is written in its memory.
     pub fn resume(alloc: Global, mut room: String, newlines: usize, trail: Trail) -> Renderer<'a>
         ensures site { site_of result ≡ blank newlines (trail_view trail) }
@@ -206,7 +206,7 @@ impl<'a> Renderer<'a> {
         self.containers.depth()
     }
 
-    /// What stands before each line: the prefixes of the open containers, joined.
+    /// What is before each line: the prefixes of the open containers, joined.
     pub fn prefix(&self) -> &str
         ensures { result.now ≡ prefix_of (levels_of self.now) }
     {
@@ -258,14 +258,14 @@ impl<'a> Renderer<'a> {
         begins || self.is_after_opening()
     }
 
-    /// Whether nothing but openings stand between an item's opening and this place.
+    /// Whether nothing but openings is between an item's opening and this place.
     pub fn at_item_start(&self) -> bool
         ensures { result ≡ at_item_start (levels_of self.now) (page_of self.now) }
     {
         self.containers.is_item_start(self.text.len())
     }
 
-    /// Whether no blank lines stand between the children of the innermost container.
+    /// Whether no blank lines are between the children of the innermost container.
     pub fn is_close(&self) -> bool
         ensures { result ≡ is_close (levels_of self.now) }
     {

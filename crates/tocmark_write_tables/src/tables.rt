@@ -77,7 +77,7 @@ fn enter_cell<'a>(renderer: &mut Renderer<'a>, tag: &'a TagOf<String>) -> Result
     renderer.push_frame(tag, Prefix::Empty, OpeningChoice::Width(0))
 }
 
-/// Opens a cell, behind the bar before it.
+/// Opens a cell, after the bar before it.
 ///
 /// It fails if memory runs out, or if no table is open.
 pub fn open_cell<'a>(renderer: &mut Renderer<'a>, tag: &'a TagOf<String>) -> Result<(), Error>
@@ -202,7 +202,7 @@ fn push_hyphens(row: &mut String, count: usize) -> Result<(), AllocError>
     Ok(())
 }
 
-/// Puts so many dashes behind a row, with a colon in place of one at each end that the alignment
+/// Puts so many dashes after a row, with a colon in place of one at each end that the alignment
 /// names.
 pub fn push_dashes(row: &mut String, alignment: Alignment, count: usize) -> Result<(), AllocError>
     ensures { Grows result row.old row.new (dashes alignment count) }

@@ -30,7 +30,7 @@ either : {A : Type 0} (b : Bool) (x y z : A) → x ≡ z → y ≡ z → (if b t
 either true x y z e f = e
 either false x y z e f = f
 
--- no block begins behind another character
+-- no block begins after another character
 no_block : (p : Surroundings) (s : Spot) → is_none s.before ≡ false → is_marker p s ≡ false
 unfolding is_marker
 no_block p s b =
@@ -77,7 +77,7 @@ not_encoded p s b l =
     and_left ((is_first s && p.first_encoded) || (is_last s && p.last_encoded)) (not (is_white_space s.character))
     (or_from (is_first s && p.first_encoded) (is_last s && p.last_encoded) (and_left (is_first s) p.first_encoded b) (and_right (is_last s) p.last_encoded l))
 
--- behind another character, and not behind digits alone
+-- after another character, and not after digits alone
 pub itself : (p : Surroundings) (s : Spot) → is_bare s.character ≡ true → is_mark p.token ≡ true → is_none s.before ≡ false → s.after_digits ≡ false → p.last_encoded ≡ false
     → written p s ≡ s.character ∷ []
 unfolding written

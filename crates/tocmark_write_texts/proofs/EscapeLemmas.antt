@@ -90,7 +90,7 @@ none_from_some None false e = cc
 none_from_some (Some x) true e = cc
 none_from_some (Some x) false e = refl
 
--- what stands round a character, part by part
+-- what is round a character, part by part
 pub spot_from_parts : (before : Option ℕ) (only_digits : Bool) (c : ℕ) (after : List ℕ) (digits : Bool) (first second : Option ℕ) (none : Bool)
     → digits ≡ (is_some before && only_digits) → first ≡ slice_get after 0 → second ≡ slice_get after 1 → is_some second ≡ not none
     → (let s : Spot = record { character = c; before = before; after_digits = digits; after = first; before_last = none } in s ≡ spot_from before only_digits c after)

@@ -1,4 +1,4 @@
--- Texts that begin with what stood there, and escaped stretches as texts.
+-- Texts that begin with what was there, and escaped stretches as texts.
 use Rattle.std.proofs.Common.{◌≡◌, ℕ, ◌≤◌, List, [], ◌∷◌, ◌++◌, true, length, length-append, append-nil, take, chars, IsUtf8, encode_utf8, encode_utf8_all, refl, sym, ap, ◌∙◌, subst, arith}
 use Rattle.std.specs.Str.{all_scalars}
 use Rattle.std.proofs.lemmas.Bool.{and_parts}
@@ -9,7 +9,7 @@ use Rattle.tocmark_write_texts.specs.Escape.{Surroundings, escape_after, escaped
 use Rattle.tocmark_write_texts.specs.Texts.{Begins}
 use Rattle.tocmark_write_texts.proofs.TextLaws.{scalars-escape_after}
 
--- a front of a text and what is written behind it begins with that text
+-- a front of a text and what is written after it begins with that text
 pub begins : (old now rest piece : List ℕ) → now ++ rest ≡ old ++ piece → length old ≤ length now → IsUtf8 piece → Begins old now
 begins old now rest piece e l u =
     let seam = IsCharBoundary-at_seam (now ++ rest) old piece e u in (

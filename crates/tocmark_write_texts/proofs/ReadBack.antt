@@ -162,7 +162,7 @@ marker_at_backslash : (p : Surroundings) (s : Spot) → s.character ≡ 92 → i
 unfolding is_read_as_marker
 marker_at_backslash p s e = rw e refl
 
--- without a backslash stands a backslash that would escape nothing
+-- without a backslash is a backslash that would escape nothing
 bare_escapes_nothing : (p : Surroundings) (s : Spot) → s.character ≡ 92 → needs_backslash p s ≡ false → doubles_backslash p s ≡ false
 unfolding needs_backslash
 bare_escapes_nothing p s e n =
@@ -222,7 +222,7 @@ not_front : (b c : Bool) → (b && false && c) ≡ false
 not_front true c = refl
 not_front false c = refl
 
--- what a bare backslash stands before is written as it is
+-- what a bare backslash is before is written as it is
 written_behind : (p : Surroundings) (c d : ℕ) (before ds : List ℕ) → IsStandard p → doubles_backslash p (spot before c (d ∷ ds)) ≡ false
     → (is_ascii_punctuation d ≡ false) × (written p (spot (c ∷ before) d ds) ≡ d ∷ [])
 unfolding doubles_backslash written reference with_backslash

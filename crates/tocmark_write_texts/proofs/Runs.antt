@@ -25,7 +25,7 @@ past_ascii b h =
     (or_from _ _ (or_from _ _ (is_none_of is_ascii (codes "*[]<~`") b low refl) (is_none_of is_ascii (codes "\\^${_|#!") b low refl))
     (is_none_of is_ascii (38 ∷ 10 ∷ 13 ∷ []) b low refl))
 
--- a text may be cut behind what stands for itself
+-- a text may be cut after what stands for itself
 bare_boundary : (bs : List ℕ) → IsCharBoundary bs (prefix_len is_bare bs)
 bare_boundary bs =
     (prefix_len-le-length is_bare bs, λ inside high. absurd (both_ways _ (prefix_len_stops is_bare bs 0 inside) (past_ascii _ high)))
@@ -77,7 +77,7 @@ chars_pass test (c ∷ cs) past h =
     (sym (list_all-append test (encode_utf8 c) (encode_utf8_all cs)) ∙ h) in
     and_from (test c) (list_all test cs) (char_passes test c past parts.0 (cases_lt c 128)) (chars_pass test cs past parts.1)
 
--- characters that stand for themselves, behind another one and not behind digits alone
+-- characters that stand for themselves, after another one and not after digits alone
 run_written : (p : Surroundings) (b : ℕ) (cs ds : List ℕ) → p.last_encoded ≡ false → is_mark p.token ≡ true → list_all is_bare cs ≡ true
     → escape_on p (Some b) false (cs ++ ds) ≡ cs ++ escape_on p (Some (last_of b cs)) false ds
 run_written p b [] ds l t h = refl
@@ -117,7 +117,7 @@ copied p b false bs u =
     by_test (IsCopied p b false bs) (p.last_encoded || not (char_set_contains (codes "*_") p.token)) 0 (prefix_len is_bare bs)
     (λ e. none_copied p b false bs) (λ e. run_copied p b bs u (looked p false e))
 
--- a run is written behind a character
+-- a run is written after a character
 pub escape_on-run : (p : Surroundings) (c last : ℕ) (only_digits : Bool) (bs run tail old new whole : List ℕ) → IsUtf8 bs
     → run ≡ take (bare_size p only_digits bs) bs → tail ≡ drop (bare_size p only_digits bs) bs → last ≡ last_of c (chars run) → new ≡ old ++ run
     → old ++ encode_utf8_all (escape_on p (Some c) only_digits (chars bs)) ≡ whole
@@ -130,7 +130,7 @@ pub run_rest : (p : Surroundings) (only_digits : Bool) (bs tail : List ℕ) → 
 run_rest p only_digits bs tail u e =
     subst IsUtf8 (sym e) (IsUtf8-drop bs (bare_size p only_digits bs) u (size_boundary p only_digits bs u))
 
--- the last one of a character and those of a text behind it
+-- the last one of a character and those of a text after it
 last_at : (c : ℕ) (cs : List ℕ) (d : ℕ) → last_of c (cs ++ d ∷ []) ≡ d
 last_at c [] d = refl
 last_at c (x ∷ cs) d = last_at x cs d

@@ -50,7 +50,7 @@ pub longest_run-chars-le : (s : ℕ) (bs : List ℕ) → IsUtf8 bs → longest_r
 longest_run-chars-le s bs u =
     omega (arith, longest_run-le s (chars bs), length-le-encodes (chars bs), ap length (encodes-chars bs u))
 
--- what stands before has none of the character
+-- what is before has none of the character
 longest_run_after : (s : ℕ) (xs ys : List ℕ) → ((k : ℕ) → k < length xs → get_or xs k 0 ≡ s → ⊥) → longest_run s (xs ++ ys) ≡ longest_run s ys
 longest_run_after s [] ys none = refl
 longest_run_after s (x ∷ xs) ys none =
@@ -103,7 +103,7 @@ run_goes_on_in longest current s c new whole bs rest u e same n h =
     let seen = ap (λ x. max longest (max (current + run_length s x) (longest_run s x))) (chars_past_char bs rest c u e) in
     (omega arith, rw is_max (run_goes_on longest current s c (chars rest) same ∙ sym seen ∙ h))
 
--- and behind one
+-- and after one
 pub run_ends_in : (longest current s c whole : ℕ) (bs rest : List ℕ) → IsUtf8 bs → bs ≡ encode_utf8 c ++ rest → (c ≡ s → ⊥) → current ≤ longest
     → max longest (max (current + run_length s (chars bs)) (longest_run s (chars bs))) ≡ whole
     → max longest (max (0 + run_length s (chars rest)) (longest_run s (chars rest))) ≡ whole
@@ -127,7 +127,7 @@ all_to_read s bs text e =
     let whole : max 0 (max (0 + run_length s (chars bs)) (longest_run s (chars bs))) ≡ longest_run s (chars bs) = omega arith in
     whole ∙ ap (λ x. longest_run s (chars x)) e
 
--- where no character is a backtick, no run of them stands
+-- where no character is a backtick, no run of them is
 pub no_run : (bs : List ℕ) → list_any (λ b. b == 96) bs ≡ false → 0 ≡ longest_run 96 bs
 no_run [] e = refl
 no_run (b ∷ bs) e =

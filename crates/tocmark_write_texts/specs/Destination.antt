@@ -35,7 +35,7 @@ is_unbalanced open_ones (c ∷ cs) =
     else if c == closing_parenthesis then open_ones == 0 || is_unbalanced (open_ones - 1) cs
     else is_unbalanced open_ones cs
 
--- whether a destination stands in `<` and `>`; the empty one does in a definition
+-- whether a destination is in `<` and `>`; the empty one is, in a definition
 abbrev pub needs_brackets : Bool → List ℕ → Bool
 needs_brackets in_definition text =
     (in_definition && length text == 0) || list_any ends_destination text || is_unbalanced 0 text
@@ -56,7 +56,7 @@ title_character c =
 abbrev pub is_escaped_in_title : ℕ → Bool
 is_escaped_in_title c = c == ampersand || c == quotation_mark || c == backslash
 
--- what stands between the quotes of a title
+-- what is between the quotes of a title
 abbrev pub title_text : List ℕ → List ℕ
 title_text text = flat_map title_character text
 
@@ -68,11 +68,11 @@ title text = if length text == 0 then [] else codes " \"" ++ title_text text ++ 
 abbrev pub inline_closing : List ℕ → List ℕ → List ℕ
 inline_closing dest title_of = codes "](" ++ destination false dest ++ title title_of ++ codes ")"
 
--- what stands behind the label of a link's definition
+-- what is after the label of a link's definition
 abbrev pub definition_closing : List ℕ → List ℕ → List ℕ
 definition_closing dest title_of = codes "]: " ++ destination true dest ++ title title_of
 
--- what closes a link of this type behind its text or label; a `Shortcut` is closed as a definition
+-- what closes a link of this type after its text or label; a `Shortcut` is closed as a definition
 abbrev pub link_closing : LinkType → List ℕ → List ℕ → List ℕ
 link_closing Shortcut dest title_of = definition_closing dest title_of
 link_closing k dest title_of = inline_closing dest title_of

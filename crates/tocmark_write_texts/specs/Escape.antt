@@ -9,7 +9,7 @@ use Rattle.tocmark_write_texts.specs.Characters.{is_alphanumeric, is_white_space
 use Rattle.tocmark_write_texts.specs.declared.escape.EscapeSurroundings.{EscapeSurroundings}
 use Rattle.tocmark_write_texts.specs.declared.escape.Spot.{Spot}
 
--- where a stretch of text stands
+-- where a stretch of text is
 pub record Surroundings : Type 0 where
   pub flags : ParserOptions
   -- the marker of emphasis
@@ -19,7 +19,7 @@ pub record Surroundings : Type 0 where
   -- whether the first and the last character are written as references
   pub first_encoded : Bool
   pub last_encoded : Bool
-  -- whether it stands at the front of a line or of a container
+  -- whether it is at the front of a line or of a container
   pub at_front : Bool
   pub in_table : Bool
   pub in_heading : Bool
@@ -100,7 +100,7 @@ ends_line (Some (Leaf SoftBreak)) = true
 ends_line (Some (Leaf HardBreak)) = true
 ends_line (Some e) = false
 
--- whether a character may stand after the marker of a block
+-- whether a character may be after the marker of a block
 abbrev pub goes_on_marker : ℕ → Bool
 goes_on_marker c = is_ascii_white_space c || char_set_contains (codes "-+=") c
 
@@ -150,7 +150,7 @@ opens_cell p s = is_first s || p.in_table || has p 0x2
 abbrev pub opens_heading : Surroundings → Spot → Bool
 opens_heading p s = (is_first s && not p.in_table) || p.in_heading
 
--- `.` and `)`: behind the number of a list
+-- `.` and `)`: after the number of a list
 abbrev pub ends_number : Surroundings → Spot → Bool
 ends_number p s = not p.in_table && s.after_digits
 

@@ -52,7 +52,7 @@ ticks text = replicate (longest_run backtick text + 1) backtick
 abbrev pub enclosed : List ℕ → List ℕ → List ℕ → List ℕ
 enclosed run space_of text = run ++ (space_of ++ (text ++ (space_of ++ run)))
 
--- spaces alone stand between single backticks, anything else between runs one longer than the longest inside
+-- spaces alone are between single backticks, anything else between runs one longer than the longest inside
 unfoldable pub span : List ℕ → List ℕ
 span text =
     if is_blank text then codes "`" ++ (text ++ codes "`")
@@ -72,7 +72,7 @@ abbrev pub without_spaces : List ℕ → List ℕ
 without_spaces text =
     if first_is space text && last_is space text && not (is_blank text) then take (length text - 2) (drop 1 text) else text
 
--- what stands between a text's first n and last n characters
+-- what is between a text's first n and last n characters
 abbrev pub between_ends : ℕ → List ℕ → List ℕ
 between_ends n text = take (length text - n - n) (drop n text)
 
@@ -81,7 +81,7 @@ abbrev pub ends_with_run : ℕ → List ℕ → Bool
 ends_with_run n text = list_all (λ c. c == backtick) (drop (length text - n) text)
 
 -- what a code span without line endings is read as, if the text is one (CommonMark, section 6.1): between two
--- runs of backticks of one length stands no such run
+-- runs of backticks of one length is no such run
 abbrev pub unspan : List ℕ → Option (List ℕ)
 unspan text =
     let n = run_length backtick text in

@@ -35,19 +35,19 @@ by_name text =
     else if starts_with nat_eq text (codes "quot;") then Some (record { character = 34; more = 5 })
     else None
 
--- a character reference, from what stands behind its ampersand
+-- a character reference, from what is after its ampersand
 unfoldable pub referred : List ℕ → Option Spelled
 referred text =
     if starts_with nat_eq text (codes "#x") || starts_with nat_eq text (codes "#X") then by_number 16 6 2 (drop 2 text)
     else if starts_with nat_eq text (codes "#") then by_number 10 7 1 (drop 1 text)
     else by_name text
 
--- an escape, from what stands behind its backslash
+-- an escape, from what is after its backslash
 abbrev pub escaped_by : List ℕ → Option Spelled
 escaped_by [] = None
 escaped_by (c ∷ cs) = if is_ascii_punctuation c then Some (record { character = c; more = 1 }) else None
 
--- what a character and those behind it begin with
+-- what a character and those after it begin with
 abbrev pub spelled : ℕ → List ℕ → Spelled
 spelled c text =
     let itself : Spelled = record { character = c; more = 0 } in

@@ -16,7 +16,7 @@ use tocmark_event::event::{EventOf, OwnedEvent, ParserOptions, TagOf};
 use ucd_category::{GeneralCategory, GeneralCategoryGroup};
 use ucd_derived::is_alphabetic;
 
-/// Where a stretch of text stands, and what stands round it.
+/// Where a stretch of text is, and what is round it.
 #[derive(Clone, Copy)]
 pub struct EscapeSurroundings<'a> {
     /// The extensions that are read.
@@ -29,27 +29,27 @@ pub struct EscapeSurroundings<'a> {
     pub first_encoded: bool,
     /// Whether the last character is written as a reference, if it is no white space.
     pub last_encoded: bool,
-    /// Whether the stretch stands at the front of a line or of a container.
+    /// Whether the stretch is at the front of a line or of a container.
     pub at_front: bool,
-    /// Whether it stands in a table.
+    /// Whether it is in a table.
     pub in_table: bool,
-    /// Whether it stands in a heading.
+    /// Whether it is in a heading.
     pub in_heading: bool,
     /// The event after it.
     pub next: Option<&'a OwnedEvent>,
 }
 
-/// A character of a stretch, and what stands round it there.
+/// A character of a stretch, and what is round it there.
 #[derive(Clone, Copy)]
 pub struct Spot {
     pub character: char,
     /// The character before it; none at the first.
     pub before: Option<char>,
-    /// Whether ASCII digits, one or more, and nothing else stand before it.
+    /// Whether ASCII digits, one or more, and nothing else are before it.
     pub after_digits: bool,
     /// The character after it; none at the last.
     pub after: Option<char>,
-    /// Whether at most one character stands after it.
+    /// Whether at most one character is after it.
     pub before_last: bool,
 }
 
@@ -107,7 +107,7 @@ fn opens_label(next: Option<&OwnedEvent>) -> bool
     }
 }
 
-/// Whether a character may stand after the marker of a block.
+/// Whether a character may be after the marker of a block.
 fn goes_on_marker(c: char) -> bool
     ensures { result ≡ goes_on_marker c }
 {
@@ -245,7 +245,7 @@ fn push_code(to: &mut String, c: char) -> Result<(), AllocError>
     to.push_str(reference.as_str())
 }
 
-/// Writes a character behind a backslash.
+/// Writes a character after a backslash.
 fn push_behind_backslash(to: &mut String, c: char) -> Result<(), AllocError>
     ensures { Pushes result (string_bytes to.old)
         (encode_utf8_all (backslash ∷ c ∷ [])) (string_bytes to.new) }
@@ -296,7 +296,7 @@ fn push_character(
     }
 }
 
-// Each mark stands at its own place, and a comma at every other place.
+// Each mark is at its own place, and a comma at every other place.
 static MARKS: [u8; 256] = *b"\
     ,,,,,,,,,,\n,,\r,,,,,,,,,,,,,,,,,,\
     ,!,#$,&,,,*,,,,,,,,,,,,,,,,,<,,,\
@@ -307,7 +307,7 @@ static MARKS: [u8; 256] = *b"\
     ,,,,,,,,,,,,,,,,,,,,,,,,,,,,,,,,\
     ,,,,,,,,,,,,,,,,,,,,,,,,,,,,,,,,";
 
-/// Whether a byte behind another character could be part of a marker, or is written as a reference.
+/// Whether a byte after another character could be part of a marker, or is written as a reference.
 fn is_mark(byte: u8) -> bool
     ensures { result ≡ is_mark byte }
 {
@@ -321,7 +321,7 @@ fn bare_front(bytes: &[u8]) -> usize
     bytes.iter().take_while(|byte| !is_mark(**byte)).count()
 }
 
-/// How many bytes at the front of a text stand for themselves behind another character: none behind
+/// How many bytes at the front of a text stand for themselves after another character: none after
 /// digits alone, before what may be encoded, or where emphasis has a marker of its own.
 fn bare_size(place: &EscapeSurroundings<'_>, only_digits: bool, text: &str) -> usize
     ensures { result ≡ bare_size (place_of place.now) only_digits text.now }
@@ -347,7 +347,7 @@ fn cut_bare<'a>(
     text.split_at(bare_size(place, only_digits, text))
 }
 
-/// Writes a run as it is; behind most marks there is none.
+/// Writes a run as it is; after most marks there is none.
 fn push_run(to: &mut String, run: &str) -> Result<(), AllocError>
     ensures { Pushes result (string_bytes to.old) run.now (string_bytes to.new) }
 {
@@ -357,7 +357,7 @@ fn push_run(to: &mut String, run: &str) -> Result<(), AllocError>
     to.push_str(run)
 }
 
-/// The last one of a character and those of a text behind it.
+/// The last one of a character and those of a text after it.
 fn last_of(character: char, text: &str) -> char
     ensures { result ≡ last_of character (chars text.now) }
 {

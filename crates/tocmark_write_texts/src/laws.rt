@@ -5,21 +5,21 @@ ghost use Rattle.tocmark_write_texts.specs.Destination.{destination_text, title_
 ghost use Rattle.tocmark_write_texts.specs.Leaves.{code_span, unspan};
 ghost use Rattle.tocmark_write_texts.specs.Unescape.{unescape, EscapesReadBack, EscapedTextsReadBack};
 
-/// An escaped stretch is read as the stretch: with `*` or `_` for emphasis, wherever it stands, each text
+/// An escaped stretch is read as the stretch: with `*` or `_` for emphasis, wherever it is, each text
 /// of characters other than NUL.
 pub fn escapes_read_back()
     ensures characters { EscapesReadBack }
     ensures texts { EscapedTextsReadBack }
 {}
 
-/// What stands in an escaped destination is read as the destination.
+/// What is in an escaped destination is read as the destination.
 pub fn destinations_read_back()
     ensures characters { (text : List ℕ) → unescape (destination_text text) ≡ text }
     ensures texts { (text : List ℕ) → IsUtf8 text → unescape (chars (destination_text text))
         ≡ chars text }
 {}
 
-/// What stands between the quotes of an escaped title is read as the title.
+/// What is between the quotes of an escaped title is read as the title.
 pub fn titles_read_back()
     ensures characters { (text : List ℕ) → unescape (title_text text) ≡ text }
     ensures texts { (text : List ℕ) → IsUtf8 text

@@ -58,7 +58,7 @@ fn write_destination_character<W: fmt::Write>(f: &mut fmt::Formatter<W>, c: char
     }
 }
 
-/// A link's title. `{}` writes it as it has to stand between double quotes to be read back.
+/// A link's title. `{}` writes it as it has to be between double quotes to be read back.
 #[derive(Clone, Copy)]
 pub struct EscapeLinkTitle<'a>(pub &'a str);
 
@@ -164,7 +164,7 @@ impl fmt::Display for Destination<'_> {
     }
 }
 
-/// A title in quotes behind a space, or nothing for the empty one.
+/// A title in quotes after a space, or nothing for the empty one.
 #[derive(Clone, Copy)]
 struct Title<'a>(&'a str);
 
@@ -181,7 +181,7 @@ impl fmt::Display for Title<'_> {
     }
 }
 
-/// Writes what closes a link behind its text or label: destination and title in parentheses, and for a
+/// Writes what closes a link after its text or label: destination and title in parentheses, and for a
 /// `Shortcut` those of a definition. The destination is in brackets where it needs them, an empty title
 /// is left out. An `Err` is the writer's.
 pub fn close_link<F: fmt::Write>(
@@ -325,10 +325,10 @@ pub fn few_ticks(count: usize) -> Option<&'static str>
     Some(&TICKS[..count])
 }
 
-/// What stands at each end of a code span.
+/// What is at each end of a code span.
 #[derive(Clone, Copy)]
 pub struct SpanEnds {
-    /// How many backticks stand in the run at each end.
+    /// How many backticks are in the run at each end.
     pub ticks: usize,
     /// The space between each run and the text, or nothing.
     pub padding: &'static str,
@@ -336,7 +336,7 @@ pub struct SpanEnds {
 
 #[tactic(auto, unfolding(crate::specs::Leaves::span))]
 /// The ends of a code span with this text. The run of backticks is one longer than the longest run in the
-/// text, but one where that holds spaces alone; a space stands at each end where it begins or ends with a
+/// text, but one where that holds spaces alone; a space is at each end where it begins or ends with a
 /// backtick or begins and ends with a space.
 pub fn span_ends(text: &str) -> SpanEnds
     ensures { enclosed (replicate result.ticks backtick) result.padding.now text.now

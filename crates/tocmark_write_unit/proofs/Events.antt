@@ -44,7 +44,7 @@ by-id-found m o flags label reading next f es found is h =
           ∙ sym ((all-seen s m next f i t rest (ap (drop i) is ∙ e)).named);
     }
 
--- a place at which this event stands
+-- a place at which this event is
 module _ (s : Setting) (m : Manner) (next : Option EventView) (es : List SourcedEvent) (i : ℕ) (e : SourcedEvent) (at : drop i es ≡ e ∷ drop (i + 1) es) (here : Site) where
   abbrev from_here : Machine → Option Site
   from_here x = answer_of (run s m next (drop i es) x)

@@ -1,4 +1,4 @@
--- A body that is skipped, since its id stands in its place, can be passed at once.
+-- A body that is skipped, since its id is in its place, can be passed at once.
 use Rattle.std.proofs.Common.{◌≡◌, ℕ, zero, suc, ◌<◌, List, [], ◌∷◌, ◌++◌, Option, refl, sym, ap, ◌∙◌, append_assoc, take, drop, length, reverse, arith}
 use Rattle.std.proofs.lemmas.List.{reverse-append}
 use Rattle.tocmark_event.specs.View.{EventView, SourcedEvent, Start, End, Leaf}

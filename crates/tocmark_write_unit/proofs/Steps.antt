@@ -26,7 +26,7 @@ use Rattle.tocmark_write_blocks.specs.AheadOf.{is_opened}
 use Rattle.tocmark_spelling.proofs.Looks.{behind-span, behind-open}
 use Rattle.tocmark_write_unit.proofs.Jumps.{passes-body}
 
--- where the writer stands
+-- where the writer is
 site-of-stands : (w : Rendering) (path : Path) (page : Page) → Stands w path page → record { path = path; page = page } ≡ site_of w
 site-of-stands w path page h =
     ap (λ x. record { path = x; page = page }) (sym h.path_is) ∙ ap (λ x. record { path = levels_of w; page = x }) (sym h.page_is)
@@ -77,7 +77,7 @@ opened-skips : (o : Option Site) → IsOpened o → SkipsAs false o
 opened-skips None h = tt
 opened-skips (Some here) h = h
 
--- a body is left out where its id stands in its place
+-- a body is left out where its id is in its place
 module _ (s : Setting) (m : Manner) (kids : Trees) (a : Around) (path : Path) (p : Page) where
   opened-as : (t : TagView) → is_opened t ≡ true → SkipsAs false (opening s m t (look s m t kids a) path p)
   opened-as t e = opened-skips (opening s m t (look s m t kids a) path p) (opening-opened s m t (look s m t kids a) path p e)
@@ -108,7 +108,7 @@ module _ (s : Setting) (m : Manner) (kids : Trees) (a : Around) (path : Path) (p
   skips-as (Image k d u i) = refl
   skips-as (MetadataBlock k) = opened-as (MetadataBlock k) refl
 
--- behind an opening the writer stands where the machine does
+-- after an opening the writer is where the machine is
 entered-at : (b : Bool) (t : TagView) (w : Rendering) (o : Option Site) (before : List SourcedEvent) → SkipsAs b o → Arrives w o → started t o before ≡ entered b t (site_of w) before
 entered-at b t w None before skips h = absurd h
 entered-at b t w (Some here) before skips h =
@@ -137,7 +137,7 @@ module _ (s : Setting) (m : Manner) (next : Option EventView) (t : TagView) (res
     pub start-moves : false ≡ by_id s t (kids_of rest) → GoesOn mid s m next stepped rest (Start t ∷ before) 0
     start-moves is = moves-on mid s m next stepped rest (Start t ∷ before) (entered-as false is)
 
-    -- its id stands in place of its body
+    -- its id is in place of its body
     pub start-passes : (w : Rendering) (n : ℕ) → n ≡ span 0 rest → true ≡ by_id s t (kids_of rest) → Arrives w (id_on t (site_of mid)) → GoesOn w s m next stepped rest (Start t ∷ before) n
     start-passes w n width is named =
         let there = site_of w in
@@ -155,7 +155,7 @@ module _ (s : Setting) (m : Manner) (next : Option EventView) (t : TagView) (res
 pub start-refused : (s : Setting) (m : Manner) (next : Option EventView) (t : TagView) (rest before : List SourcedEvent) (here : Site) → length rest ≤ span 0 rest → step s m next (Start t) rest (going here before) ≡ refused
 start-refused s m next t rest before here h = ap (λ o. begun_if s m next t (kids_of rest) o here before) (behind-open rest 0 h)
 
--- what a call did from where the writer stood in between
+-- what a call did from where the writer was in between
 pub comes-at : {X : Type 0} (result : Result X Error) (w mid : Rendering) (f : Path → Page → Option Site) (path : Path) (page : Page) → Stands mid path page → Comes result w (f (levels_of mid) (page_of mid)) → Comes result w (f path page)
 comes-at result w mid f path page h comes =
     let P : Path → Type 0 = λ x. Comes result w (f x (page_of mid)) in

@@ -1,4 +1,4 @@
--- What stands around an event, as plain values.
+-- What is around an event, as plain values.
 use Rattle.std.specs.Prelude.{◌≡◌, ◌<◌, ◌+◌, ℕ, suc, Bool, true, false, ◌∷◌, drop, length, reverse, slice_index_or, take, List, Option, map}
 use Rattle.tocmark_write_emphasis.specs.NodeOf.{look_at}
 use Rattle.tocmark_event.specs.Forest.{flat}
@@ -23,7 +23,7 @@ use Rattle.tocmark_write_unit.specs.declared.turn.Neighbours.{Neighbours}
 abbrev pub unit_in : Neighbours → List SourcedEvent
 unit_in n = map buffered_view n.unit.now
 
--- those behind this one
+-- those after this one
 abbrev pub rest_in : Neighbours → List SourcedEvent
 rest_in n = drop (n.place + 1) (unit_in n)
 
@@ -43,13 +43,13 @@ IsForest f n = flat f ≡ unit_in n
 abbrev pub look_in : Setting → Manner → TagView → Neighbours → Look
 look_in s m t n = look_at s m (unit_in n) n.place t (rest_in n) (next_in n)
 
--- where the opening of a container leads that begins here, before these events and behind those, the last one first
+-- where the opening of a container leads that begins here, before these events and after those, the last one first
 abbrev pub opening_at : Setting → Manner → Option EventView → TagView → List SourcedEvent → List SourcedEvent → Site → Option Site
 opening_at s m next t rest before here =
     opening s m t (look s m t (kids_of rest) (around before (drop (suc (span 0 rest)) rest) next)) here.path
     (gap (Start t) here.path here.page)
 
--- the same of an event and what stands around it
+-- the same of an event and what is around it
 abbrev pub opening_in : Setting → Manner → TagView → Neighbours → Site → Option Site
 opening_in s m t n here = opening_at s m (next_in n) t (rest_in n) (before_in n) here
 
@@ -58,12 +58,12 @@ abbrev pub is_leaf_event : SourcedEvent → Bool
 is_leaf_event (Leaf l) = true
 is_leaf_event e = false
 
--- for each Start whether the id of its container stands in place of its body
+-- for each Start whether the id of its container is in place of its body
 pub record AreById (s : Setting) (es : List SourcedEvent) (named : List Bool) : Type 0 where
   pub at : (i : ℕ) (t : TagView) (rest : List SourcedEvent) → drop i es ≡ Start t ∷ rest
       → slice_index_or named i false ≡ by_id s t (kids_of rest)
 
--- this event stands at the place, the containers end there, and what is found out of the unit's events is so of them
+-- this event is at the place, the containers end there, and what is found out of the unit's events is so of them
 pub record AreFound (reading : Reading) (o : OptionsView) (flags : ParserOptions) (e : SourcedEvent) (n : Neighbours) : Type 0 where
   pub within : n.place < length n.unit.now
   pub at : drop n.place (unit_in n) ≡ e ∷ rest_in n

@@ -10,7 +10,7 @@ use Rattle.tocmark_write_renderer.specs.WriterOf.{Rendering, site_of}
 use Rattle.tocmark_write_unit.specs.NeighboursOf.{before_in, next_in, rest_in}
 use Rattle.tocmark_write_unit.specs.declared.turn.Neighbours.{Neighbours}
 
--- the machine goes on where the renderer stands, behind these events
+-- the machine goes on where the renderer is, after these events
 abbrev pub Goes : Rendering → Machine → List SourcedEvent → Type 0
 Goes w machine before = machine ≡ going (site_of w) before
 
@@ -25,7 +25,7 @@ abbrev pub Moves : {X : Type 0} → Result X Error → Rendering → Machine →
 Moves (Ok x) w machine before = Goes w machine before
 Moves (Err e) w machine before = IsRefused e machine
 
--- the machine stands where the renderer does, and the run of these events comes to what it does from there, behind so
+-- the machine is where the renderer is, and the run of these events comes to what it does from there, after so
 -- many of them
 pub record GoesOn (w : Rendering) (s : Setting) (m : Manner) (next : Option EventView) (machine : Machine) (rest before : List SourcedEvent) (n : ℕ) : Type 0 where
   pub within : n ≤ length rest
@@ -39,7 +39,7 @@ abbrev pub Passes : Result ℕ Error → Rendering → Setting → Manner → Op
 Passes (Ok n) w s m next machine rest before = GoesOn w s m next machine rest before n
 Passes (Err e) w s m next machine rest before = IsRefused e machine
 
--- a turn of the renderer, from where it stood, at this event and what stands around it
+-- a turn of the renderer, from where it was, at this event and what is around it
 abbrev pub Turns : Setting → Manner → SourcedEvent → Neighbours → Result ℕ Error → Rendering → Rendering → Type 0
 Turns s m e n result old new =
     Passes result new s m (next_in n) (step s m (next_in n) e (rest_in n) (going (site_of old) (before_in n)))

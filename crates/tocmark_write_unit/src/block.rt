@@ -34,7 +34,7 @@ pub struct KnownUnit<'u> {
 
 /// Writes a unit.
 ///
-/// An `Err` is `UnexpectedEvent` where the unit has a node that stands where it may not, an End too many or
+/// An `Err` is `UnexpectedEvent` where the unit has a node that is where it may not, an End too many or
 /// a container that isn't closed, and `OutOfMemory` where memory ran out; some of the unit may be written
 /// then.
 pub fn write_unit<'a, R: Reader>(

@@ -26,7 +26,7 @@ use tocmark_write_tables::tables::{close_cell, close_head, close_row, close_tabl
 
 /// The end of a container that is neither a link nor an image, in the containers outside.
 ///
-/// It fails if memory runs out, or if the line feeds behind metadata would be too many for a `usize`.
+/// It fails if memory runs out, or if the line feeds after metadata would be too many for a `usize`.
 pub fn close(
     renderer: &mut Renderer<'_>,
     alloc: Global,

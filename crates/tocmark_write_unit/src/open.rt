@@ -32,7 +32,7 @@ use tocmark_write_tables::tables::{open_cell, open_head, open_table};
 
 /// Opens a block whose opening asks nothing of its body and of what follows.
 ///
-/// It fails if memory runs out, or if the container may not stand here.
+/// It fails if memory runs out, or if the container may not be here.
 fn open_alone<'a>(
     renderer: &mut Renderer<'a>,
     alloc: Global,
@@ -77,7 +77,7 @@ fn open_alone<'a>(
 /// Opens a container that is neither emphasis nor a link or image, given what follows it and, where its
 /// opening asks for it, what its body is like.
 ///
-/// It fails if memory runs out, or if the container may not stand here: a heading in a heading, an item
+/// It fails if memory runs out, or if the container may not be here: a heading in a heading, an item
 /// whose innermost container is no list, a table's head whose innermost container is no table, or a
 /// cell in no table.
 #[tactic(auto, unfolding(tocmark_spelling::specs::Opening::opening))]

@@ -1,4 +1,4 @@
-//! A Start or an End among a unit's events, and what stands beside a leaf.
+//! A Start or an End among a unit's events, and what is beside a leaf.
 
 ghost use Rattle.std.specs.Prelude.{◌≡◌, ◌<◌, ◌≤◌, ◌+◌, ◌-◌, map, drop, take, reverse, length, slice_index_or, string_bytes, true, false, IfOk, OnOk};
 ghost use Rattle.std.specs.Str.{IsCharBoundary};
@@ -48,7 +48,7 @@ use tocmark_write_pending::ends::{body_end, end_at};
 use tocmark_write_pending::pending::Pending;
 use tocmark_write_renderer::renderer::Renderer;
 
-/// What stands around an event of a unit.
+/// What is around an event of a unit.
 #[derive(Clone, Copy)]
 pub struct Neighbours<'e> {
     /// The unit, with what is kept beside its events.
@@ -65,7 +65,7 @@ pub struct Neighbours<'e> {
     pub next: Option<&'e OwnedEvent>,
 }
 
-/// The opening of a link or image; `named` says whether its id will stand in place of its body.
+/// The opening of a link or image; `named` says whether its id will be in place of its body.
 fn open_named<'a>(
     renderer: &mut Renderer<'a>,
     tag: &'a TagOf<String>,
@@ -274,7 +274,7 @@ fn ahead_of<'e>(around: Neighbours<'e>) -> Ahead<'e>
     }
 }
 
-/// A container's start, and how many further events are passed with it: those of its body, if its id stands in its
+/// A container's start, and how many further events are passed with it: those of its body, if its id is in its
 /// place. One that isn't closed is unexpected.
 pub fn start_before<'a, R: Reader>(
     renderer: &mut Renderer<'a>,
@@ -311,7 +311,7 @@ pub fn start_before<'a, R: Reader>(
     }
 }
 
-/// What stands beside a leaf.
+/// What is beside a leaf.
 pub fn beside_of<'e>(around: Neighbours<'e>) -> Beside<'e>
     requires { around.place < length around.unit.now }
     ensures { IsBeside result
@@ -330,7 +330,7 @@ pub fn beside_of<'e>(around: Neighbours<'e>) -> Beside<'e>
     }
 }
 
-/// The events behind this one.
+/// The events after this one.
 fn rest_of<'e>(around: Neighbours<'e>) -> &'e [BufferedEvent]
     requires { around.place < length around.unit.now }
     ensures { result.now ≡ drop (around.entry.place + 1) around.entry.unit.now }
@@ -346,7 +346,7 @@ fn end_of(around: Neighbours<'_>) -> Option<usize>
     end_at(around.ends, around.place)
 }
 
-/// How many events stand between this one and a place behind it.
+/// How many events are between this one and a place after it.
 fn width_before(end: usize, around: Neighbours<'_>) -> usize
     requires { around.place < length around.unit.now }
     ensures { result ≡ end - (around.entry.place + 1) }
@@ -354,7 +354,7 @@ fn width_before(end: usize, around: Neighbours<'_>) -> usize
     end.saturating_sub(around.place + 1)
 }
 
-/// Whether the id of the link or image that starts here stands in place of its body.
+/// Whether the id of the link or image that starts here is in place of its body.
 fn is_named(around: Neighbours<'_>) -> bool
     ensures { result ≡ slice_index_or around.entry.found.now.named.items around.entry.place false }
 {

@@ -51,7 +51,7 @@ members-returns-clause-read t c =
     let over : key l.dumped.rest.now ≡ Some (None, c.key.new.self.rest.now) = grind arith in
     l.invariant.2 ∙ members_over p (members_view l.found.items) n l.dumped.rest.now c.key.new.self.rest.now (omega (arith, l.invariant.1, less)) over
 
--- ---- values one behind the other
+-- ---- values one after the other
 
 pub values-values-init : goal.values-values-init
 values-values-init t c =

@@ -2,7 +2,7 @@ use Rattle.std.proofs.Common.{◌≡◌, ◌∙◌, Some, [], ap, length, refl, 
 use Rattle.std.proofs.lemmas.Result.{IfOk-weaker, err_from_is_err_and}
 use Rattle.tocmark_event.specs.Text.{text_of}
 use Rattle.tocmark_event.specs.View.{event_view}
-use Rattle.tocmark_render.specs.DocumentOf.{document_view, document_flags}
+use Rattle.tocmark_choose.specs.DocumentOf.{document_view, document_flags}
 use Rattle.tocmark_state.specs.Walk.{Standing, Walk, flushed_before, hand_walk}
 use Rattle.tocmark_state.specs.WorkView.{kept_of, rendering_with, standing_of}
 use Rattle.tocmark_state.proofs.Walks.{Makes-at, before_due, before_not_due, before_waiting, due_closed, flushed_ok, flushed_refused, keeping_ok, keeping_refused, sum_by-handed_text}

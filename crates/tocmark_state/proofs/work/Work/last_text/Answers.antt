@@ -1,6 +1,6 @@
 use Rattle.std.proofs.Common.{◌≡◌, ◌∙◌, ap, sym, string_bytes, List, ℕ, None, Ok}
 use Rattle.std.proofs.lemmas.Result.{err_from_is_err_and}
-use Rattle.tocmark_render.specs.DocumentOf.{document_view, document_flags}
+use Rattle.tocmark_choose.specs.DocumentOf.{document_view, document_flags}
 use Rattle.tocmark_state.specs.WorkView.{kept_of, rendering_with}
 use Rattle.tocmark_state.proofs.Walks.{choice_empty, choice_some, keeping_ok, keeping_refused}
 use Rattle.tocmark_state.proofs.work.Work.last_text.Goals as goal

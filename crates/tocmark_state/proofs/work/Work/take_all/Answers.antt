@@ -4,7 +4,7 @@ use Rattle.std.proofs.lemmas.List.{length-append}
 use Rattle.std.proofs.lemmas.Result.{err_from_is_err_and}
 use Rattle.std.specs.List.{FoldsTo}
 use Rattle.tocmark_event.specs.View.{EventView}
-use Rattle.tocmark_render.specs.TrialOf.{Refuses}
+use Rattle.tocmark_choose.specs.TrialOf.{Refuses}
 use Rattle.tocmark_spelling.specs.Buffered.{sourced}
 use Rattle.tocmark_write_pending.specs.Pending.{text_now}
 use Rattle.tocmark_state.specs.WorkView.{standing_of, incoming_pairs, rendering_with}

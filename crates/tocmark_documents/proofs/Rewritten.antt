@@ -1,0 +1,72 @@
+-- The events that are handed to rewriting are those of the JSON text.
+use Rattle.std.proofs.Common.{◌≡◌, ◌≢◌, ℕ, List, Option, Result, map, subst, sym, ap, ◌∙◌}
+use mathlib.Core.List.{map-map}
+use Rattle.std.specs.Borrow.{Bor}
+use Rattle.std.specs.Iterator.{Drains, YieldsFirstBy}
+use Rattle.std.specs.Prelude.{IfErr, IfOk, true}
+use Rattle.std.proofs.lemmas.Result.{IfErr-weaker, IfOk-weaker}
+use Rattle.tocmark_event.specs.Reading.{ReadingView, lent_pair}
+use Rattle.tocmark_event.specs.Text.{ParserEvent, text_of}
+use Rattle.tocmark_event.specs.View.{EventView}
+use Rattle.tocmark_event.specs.declared.event.flags.ParserOptions.{ParserOptions}
+use Rattle.tocmark_compare.specs.Given.{given_events}
+use Rattle.tocmark_json.specs.Json.{pair_view}
+use Rattle.tocmark_laws.proofs.Handed.{drained}
+use Rattle.tocmark_rewrite.specs.Edited.{HasItsCause, IsWrittenFor, edited_events}
+use Rattle.tocmark_rewrite.specs.declared.answer.Rewritten.{Rewritten}
+use Rattle.tocmark_rewrite.specs.declared.fault.Fault.{Fault}
+use Rattle.tocmark_rewrite.specs.declared.fault.Fault.TheVariants as fault
+use Rattle.tocmark_state.specs.Ranges.{Pair, Range}
+use Rattle.tocmark_documents.specs.Document.{without_range}
+use Rattle.tocmark_documents.specs.Interchange.{IsTextOf, in_source, kept, places_left}
+use Rattle.tocmark_documents.specs.Rewriting.{IsOfBlock, IsRewriteCause, IsRewrittenFrom, reading_under}
+use Rattle.tocmark_documents.specs.declared.fault.RewriteError.{RewriteError}
+use Rattle.tocmark_documents.specs.declared.fault.RewriteError.TheVariants as rewrite_error
+use Rattle.tocmark_documents.specs.declared.pairs.EventPairs.{EventPairs}
+use Rattle.tocmark_documents.proofs.FoundAgain.{given_read}
+
+-- all that was lent was handed on
+edited_are : (xs : List (Bor ParserEvent × Option Range)) (it : EventPairs) → Drains (YieldsFirstBy lent_pair places_left) it xs → edited_events xs ≡ without_range (places_left it)
+edited_are xs it (u, (t, gave, last)) =
+    sym (map-map (λ (p : Pair). p.0) lent_pair xs) ∙ ap without_range (drained lent_pair places_left xs it (t, gave, λ _. (u, last)))
+
+-- ranges don't count
+without_kept : (ps : List Pair) → without_range (in_source true ps) ≡ without_range ps
+without_kept ps = map-map (λ (p : Pair). p.0) (λ (p : Pair). (p.0, kept true p.1)) ps
+
+-- the events that were taken from pairs are theirs
+pub events_handed : (xs : List (Bor ParserEvent × Option Range)) (it given : EventPairs) (ps : List (ParserEvent × Option (ℕ × ℕ))) → it ≡ given → places_left given ≡ in_source true (map (pair_view text_of) ps) → Drains (YieldsFirstBy lent_pair places_left) it xs → edited_events xs ≡ given_events ps
+events_handed xs it given ps same left all =
+    edited_are xs it all
+    ∙ ap (λ (s : EventPairs). without_range (places_left s)) same
+    ∙ ap without_range left
+    ∙ without_kept (map (pair_view text_of) ps)
+    ∙ sym (given_read ps)
+
+-- what is written for the events of a JSON text is written from that text
+pub written_from : (flags : ParserOptions) (source input : List ℕ) (ps : List (ParserEvent × Option (ℕ × ℕ))) (r : Result Rewritten RewriteError) → IsTextOf input (map (pair_view text_of) ps) → IfOk r (IsWrittenFor (reading_under flags) source (given_events ps)) → IfOk r (IsRewrittenFrom flags source input)
+written_from flags source input ps r is h =
+    IfOk-weaker r (IsWrittenFor (reading_under flags) source (given_events ps)) (IsRewrittenFrom flags source input) (λ answer w. record {
+      pairs = map (pair_view text_of) ps;
+      is_text = is;
+      is_written = subst (λ (es : List EventView). IsWrittenFor (reading_under flags) source es answer) (given_read ps) w;
+    }) h
+
+of_block : (flags : ParserOptions) (source input : List ℕ) (pairs : List Pair) → IsTextOf input pairs → (e : RewriteError) → IsOfBlock (reading_under flags) source (without_range pairs) e → IsRewriteCause flags source input e
+of_block flags source input pairs is (rewrite_error.NotJson e) h = absurd h
+of_block flags source input pairs is (rewrite_error.NotEvents e) h = absurd h
+of_block flags source input pairs is (rewrite_error.Refused p e) h = (pairs, is, h)
+of_block flags source input pairs is (rewrite_error.ReadOtherwise p) h = (pairs, is, h)
+of_block flags source input pairs is rewrite_error.OutOfMemory h = tt
+
+-- an error that names a block comes from events that were changed
+pub blocks_of : {A : Type 0} (flags : ParserOptions) (source input : List ℕ) (ps : List (ParserEvent × Option (ℕ × ℕ))) (r : Result A RewriteError) → IsTextOf input (map (pair_view text_of) ps) → IfErr r (IsOfBlock (reading_under flags) source (given_events ps)) → IfErr r (IsRewriteCause flags source input)
+blocks_of flags source input ps r is h =
+    IfErr-weaker r (IsOfBlock (reading_under flags) source (given_events ps)) (IsRewriteCause flags source input) (λ e w.
+    of_block flags source input (map (pair_view text_of) ps) is e (subst (λ (es : List EventView). IsOfBlock (reading_under flags) source es e) (given_read ps) w)) h
+
+-- a fault that isn't of memory has its cause, so each has
+pub caused : (reading : List ℕ → ReadingView) (source : List ℕ) (given : List EventView) (f : Fault) → (f ≢ fault.OutOfMemory → HasItsCause reading source given f) → HasItsCause reading source given f
+caused reading source given fault.OutOfMemory h = tt
+caused reading source given (fault.Refused p e) h = h (λ is. absurd (let same = is in cc))
+caused reading source given (fault.ReadOtherwise p) h = h (λ is. absurd (let same = is in cc))

@@ -1,0 +1,7 @@
+use Rattle.tocmark_documents.proofs.document.write_checked.Goals as goal
+
+pub returns-in-Some-clause-cause : goal.returns-in-Some-clause-cause
+returns-in-Some-clause-cause c = rw c.in-Some.is c.checked_over.ensures.cause
+
+pub returns-in-None-clause-cause : goal.returns-in-None-clause-cause
+returns-in-None-clause-cause c = rw c.in-None.is c.checked_over-in-None.ensures.cause

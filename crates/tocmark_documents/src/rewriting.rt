@@ -1,0 +1,131 @@
+//! Rewrites documents to the events of a JSON text.
+
+ghost use Rattle.std.specs.Prelude.{ℕ, IfErr, IfOk, List, map};
+ghost use Rattle.tocmark_event.specs.Reading.{ReadingView};
+ghost use Rattle.tocmark_event.specs.Text.{text_of};
+ghost use Rattle.tocmark_event.specs.View.{EventView};
+ghost use Rattle.tocmark_compare.specs.Given.{given_events};
+ghost use Rattle.tocmark_json.specs.Json.{pair_view};
+ghost use Rattle.tocmark_event.specs.declared.event.flags.ParserOptions.{ParserOptions};
+ghost use Rattle.tocmark_rewrite.specs.Edited.{HasItsCause, IsWrittenFor};
+ghost use Rattle.tocmark_documents.specs.Document.{without_range};
+ghost use Rattle.tocmark_documents.specs.Interchange.{IsNoEvents};
+ghost use Rattle.tocmark_documents.specs.Rewriting.{IsOfBlock, IsRewriteCause, IsRewrittenFrom, reading_under};
+
+use crate::aligning::aligned;
+use crate::fault::{RewriteError, WriteError};
+use crate::pairs::{EventPairs, Placed};
+use crate::refusal::{place_at, unbalanced};
+use crate::writing::{lent, pairs_in};
+use std::alloc::{AllocError, Global};
+use tocmark::event::ParserOptions;
+use tocmark::{Error, Options};
+use tocmark_reader::{ExtendedReader, Names};
+use tocmark_rewrite::{Fault, Place, Rewritten, rewritten};
+
+/// The place of the event that unbalances a list, if one does.
+fn unbalanced_place(
+    alloc: Global,
+    pairs: &[Placed<'_>],
+    source: &str,
+) -> Result<Option<Place>, AllocError> {
+    match unbalanced(alloc, pairs)? {
+        Some(at) => Ok(Some(place_at(alloc, pairs, at, source, true)?)),
+        None => Ok(None),
+    }
+}
+
+/// Why events have no text: if they are unbalanced, the event that makes them so is named.
+fn told(alloc: Global, pairs: &[Placed<'_>], source: &str, fault: Fault) -> RewriteError
+    ensures { (reading : List ℕ → ReadingView) → (given : List EventView)
+        → HasItsCause reading source.now given fault
+        → IsOfBlock reading source.now given result }
+{
+    let Ok(unbalanced) = unbalanced_place(alloc, pairs, source) else {
+        return RewriteError::OutOfMemory;
+    };
+    if let Some(place) = unbalanced {
+        return match fault {
+            Fault::OutOfMemory => RewriteError::OutOfMemory,
+            Fault::Refused(..) => RewriteError::Refused(place, Error::UnexpectedEvent),
+            Fault::ReadOtherwise(_) => RewriteError::Refused(place, Error::UnexpectedEvent),
+        };
+    }
+    match fault {
+        Fault::OutOfMemory => RewriteError::OutOfMemory,
+        Fault::Refused(place, error) => RewriteError::Refused(place, error),
+        Fault::ReadOtherwise(place) => RewriteError::ReadOtherwise(place),
+    }
+}
+
+/// The source, rewritten to these events.
+fn rewritten_pairs(
+    alloc: Global,
+    pairs: Vec<Placed<'static>>,
+    source: &str,
+    flags: ParserOptions,
+    options: Options<'_>,
+) -> Result<Rewritten, RewriteError>
+    ensures edited { IfOk result (IsWrittenFor (reading_under flags) source.now
+        (given_events pairs.entry.items)) }
+    ensures block { IfErr result (IsOfBlock (reading_under flags) source.now
+        (given_events pairs.entry.items)) }
+{
+    let placed = aligned(alloc, pairs, source, flags)?;
+    let given = EventPairs::new(lent(&placed), true);
+    let reader = ExtendedReader { names: Names::All };
+    match rewritten(alloc, source, given, &reader, flags, options) {
+        Ok(answer) => Ok(answer),
+        Err(fault) => Err(told(alloc, lent(&placed), source, fault)),
+    }
+}
+
+/// Why a text is not the JSON of events.
+fn not_events(error: WriteError) -> RewriteError
+    ensures { (flags : ParserOptions) → (source input : List ℕ) → IsNoEvents input error
+        → IsRewriteCause flags source input result }
+{
+    match error {
+        WriteError::NotJson(error) => RewriteError::NotJson(error),
+        WriteError::NotEvents(error) => RewriteError::NotEvents(error),
+        WriteError::Refused(place, error) => RewriteError::Refused(place, error),
+        WriteError::OutOfMemory => RewriteError::OutOfMemory,
+    }
+}
+
+/// Rewrites a source to the events of a JSON text: an array of events, or of pairs of an event and its range or
+/// `null`. All that wasn't edited stays byte for byte. The options say how edited blocks are written.
+///
+/// The events are those of `read_json` over the same source under the same flags; the caller has changed, added or
+/// removed some. If no event has a range, blocks of the source are found by their events. Else a new event has no
+/// range, or the range of what it replaces.
+///
+/// The new text parses to just these events, with neighbouring texts joined. It is the source if nothing was changed.
+///
+/// It fails if the text isn't JSON (`NotJson`), or not the JSON of events (`NotEvents`, with the number of the first
+/// element that is none), if a block has no text (`Refused` and `ReadOtherwise`, with the number of the block's first
+/// event, and with its lines in the source if it stands for a block there), or if memory runs out. A document that
+/// wasn't changed is never refused (`cause`).
+///
+/// ```
+/// let source = "# One\n\n* *a*\n* b\n";
+/// let flags = ParserOptions::empty();
+/// let json = read_json(alloc, source, flags)?.replace(alloc, "H1", "H2")?;
+/// let answer = rewrite_json(alloc, json.as_str(), source, flags, Options::default())?;
+/// assert_eq!(rt; answer.text.as_str(), "## One\n\n* *a*\n* b\n");
+/// ```
+pub fn rewrite_json(
+    alloc: Global,
+    json: &str,
+    source: &str,
+    flags: ParserOptions,
+    options: Options<'_>,
+) -> Result<Rewritten, RewriteError>
+    ensures edited { IfOk result (IsRewrittenFrom flags source.now json.now) }
+    ensures cause { IfErr result (IsRewriteCause flags source.now json.now) }
+{
+    match pairs_in(alloc, json) {
+        Ok(pairs) => rewritten_pairs(alloc, pairs, source, flags, options),
+        Err(error) => Err(not_events(error)),
+    }
+}

@@ -1,6 +1,0 @@
-use Rattle.tocmark_compare.specs.Given.{given_events}
-use Rattle.tocmark_interchange.proofs.Stretches.{IsReached}
-use Rattle.tocmark_interchange.proofs.document.place_of.Given as goal
-
-abbrev pub invariant-loop-place : goal.invariant-loop-place
-invariant-loop-place l = IsReached l.stretch l.left (given_events l.given) l.place

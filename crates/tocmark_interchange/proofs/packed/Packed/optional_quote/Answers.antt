@@ -1,9 +1,0 @@
-use Rattle.tocmark_interchange.specs.Packed.{packed_byte, packed_option, quote_byte, truth_byte}
-use Rattle.tocmark_interchange.proofs.PackedRefusals.{returned}
-use Rattle.tocmark_interchange.proofs.PackedWholes.{option_none}
-use Rattle.tocmark_interchange.proofs.packed.Packed.optional_quote.Goals as goal
-
-pub returns-in_err-truth-clause-refused : goal.returns-in_err-truth-clause-refused
-returns-in_err-truth-clause-refused c =
-    let bytes = c.args.self.now.rest.now in
-    returned c.from_residual.result c.in_err-truth.field-0.0 c.from_residual.ensures.1 (packed_byte truth_byte) (packed_option (packed_byte quote_byte)) bytes bytes (option_none (packed_byte quote_byte) bytes) c.in_err-truth.ensures.refused

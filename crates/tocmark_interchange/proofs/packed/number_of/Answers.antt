@@ -1,6 +1,0 @@
-use Rattle.std.proofs.Common.{rules}
-use Rattle.tocmark_interchange.proofs.PackedCuts.{number_read}
-use Rattle.tocmark_interchange.proofs.packed.number_of.Goals as goal
-
-pub returns : goal.returns
-returns c = number_read c.args.digits c.from_le_bytes.result (search rules) (search rules) c.from_le_bytes.ensures

@@ -1,5 +1,0 @@
-use Rattle.std.proofs.Common.{refl}
-use Rattle.tocmark_render.proofs.document.Document.earlier.Goals as goal
-
-pub returns : goal.returns
-returns c here = refl

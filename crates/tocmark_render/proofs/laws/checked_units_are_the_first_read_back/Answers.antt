@@ -1,5 +1,0 @@
-use Rattle.tocmark_render.proofs.FirstReadBack.{checked-chosen}
-use Rattle.tocmark_render.proofs.laws.checked_units_are_the_first_read_back.Goals as goal
-
-pub returns : goal.returns
-returns c = checked-chosen

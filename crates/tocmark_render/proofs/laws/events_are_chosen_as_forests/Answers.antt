@@ -1,5 +1,0 @@
-use Rattle.tocmark_render.proofs.Chosen.{chosen-flat}
-use Rattle.tocmark_render.proofs.laws.events_are_chosen_as_forests.Goals as goal
-
-pub returns : goal.returns
-returns c = chosen-flat

@@ -1,5 +1,0 @@
-use Rattle.tocmark_render.proofs.Unrepresentable.{at-most-two}
-use Rattle.tocmark_render.proofs.laws.plain_units_have_two_candidates.Goals as goal
-
-pub returns : goal.returns
-returns c = at-most-two

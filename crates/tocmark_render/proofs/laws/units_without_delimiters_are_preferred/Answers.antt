@@ -1,5 +1,0 @@
-use Rattle.tocmark_render.proofs.PlainUnits.{choice-unasked}
-use Rattle.tocmark_render.proofs.laws.units_without_delimiters_are_preferred.Goals as goal
-
-pub returns : goal.returns
-returns c = choice-unasked

@@ -1,0 +1,26 @@
+//! Laws of where the blocks of every text are, and that they nest.
+
+ghost use Rattle.tocmark_text_laws.specs.Nested.{BlocksNest};
+ghost use Rattle.tocmark_text_laws.specs.Ranges.{BlockEventsAreInPlace, BlocksAreInPlace, LinesAreInPlace};
+
+/// The range of each CommonMark block of a text is in order, within the text and on boundaries of characters. So a reader
+/// hands it out as it is, and not as 0..0.
+pub fn blocks_are_in_place()
+    ensures { BlocksAreInPlace }
+{}
+
+/// Of each line of a leaf of a text, the texts that it has as code or HTML are in place, too.
+pub fn lines_are_in_place()
+    ensures { LinesAreInPlace }
+{}
+
+/// So what `CoreReader` reads has the range of each block, and of each line of HTML, as it is: the events of a text are
+/// those of these nodes (`reading_of`).
+pub fn block_events_are_in_place()
+    ensures { BlockEventsAreInPlace }
+{}
+
+/// The range of each CommonMark block of a text lies in those of the blocks that contain it.
+pub fn blocks_nest()
+    ensures { BlocksNest }
+{}

@@ -1,0 +1,15 @@
+//! Laws of what becomes of the bytes of a leaf: from its lines to its text, and from the text to nodes.
+
+ghost use Rattle.tocmark_text_laws.specs.Kept.{LinesAreKept};
+ghost use Rattle.tocmark_text_laws.specs.Said.{NoByteIsLost};
+
+/// The text of a leaf is all bytes of its lines, with a line feed after each, but for white space at the end.
+pub fn lines_are_kept()
+    ensures { LinesAreKept }
+{}
+
+/// No byte of a leaf's text is left out, whatever marks are found in it: each is marked, in the range of a mark, or in a
+/// text.
+pub fn no_byte_is_lost()
+    ensures { NoByteIsLost }
+{}
