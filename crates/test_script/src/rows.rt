@@ -75,7 +75,7 @@ struct Row<'r> {
 }
 
 impl Row<'_> {
-    /// Ends a unit here, if no container is open. Else the event that came belongs to the body, unless it is
+    /// Ends a unit here, if no container is open. Otherwise the event belongs to the body, unless it is
     /// the first one.
     fn end_unit(
         &mut self,

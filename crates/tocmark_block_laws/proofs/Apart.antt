@@ -16,7 +16,7 @@ use Rattle.tocmark_read_lines.specs.Containers.{matched, after_quote, container_
 use Rattle.tocmark_read_lines.specs.DefinitionLists.{definition_start}
 use Rattle.tocmark_read_lines.specs.Html.{html_ends}
 use Rattle.tocmark_read_lines.specs.Marks.{tail_of, is_rule}
-use Rattle.tocmark_read_lines.specs.Notes.{note_start}
+use Rattle.tocmark_read_lines.specs.Footnotes.{note_start}
 use Rattle.tocmark_read_lines.specs.declared.beginnings.Fence.{Fence}
 use Rattle.tocmark_read_lines.specs.declared.beginnings.Heading.{Heading}
 use Rattle.tocmark_read_lines.specs.declared.beginnings.Tail.{Tail}
@@ -400,7 +400,7 @@ abbrev is_core_start : Option ContainerStart → Bool
 is_core_start None = true
 is_core_start (Some begins.Quote) = true
 is_core_start (Some (begins.Item i)) = true
-is_core_start (Some (begins.Note n)) = false
+is_core_start (Some (begins.Footnote n)) = false
 is_core_start (Some (begins.Definition d)) = false
 
 core_start : (cells : List Cell) (tail : Tail) (cursor : Cursor) (p : Bool) → is_core_start (container_in CORE cells tail cursor p) ≡ true
@@ -418,7 +418,7 @@ begun_at_after : (text : List ℕ) (cells : List Cell) (line : Line) (place : Li
 begun_at_after text cells line place ds s None h = refl
 begun_at_after text cells line place ds s (Some begins.Quote) h = ap some_place (quote_after text cells line place ds s)
 begun_at_after text cells line place ds s (Some (begins.Item i)) h = ap some_place (item_after text cells line place i ds s)
-begun_at_after text cells line place ds s (Some (begins.Note n)) h = absurd (true≢false (sym h))
+begun_at_after text cells line place ds s (Some (begins.Footnote n)) h = absurd (true≢false (sym h))
 begun_at_after text cells line place ds s (Some (begins.Definition d)) h = absurd (true≢false (sym h))
 
 once_after : (text : List ℕ) (cells : List Cell) (line : Line) (tail : Tail) (ds : List DefinitionView) (place : LineStart) (s : State) → container_once_in CORE text cells line tail place (after_these ds s) ≡ beside ds (container_once_in CORE text cells line tail place s)

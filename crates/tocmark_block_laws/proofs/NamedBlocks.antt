@@ -10,7 +10,7 @@ use Rattle.tocmark_read_lines.specs.Containers.{container_in, matched}
 use Rattle.tocmark_read_lines.specs.DefinitionLists.{definition_start}
 use Rattle.tocmark_read_lines.specs.Lines.{lines_of}
 use Rattle.tocmark_read_lines.specs.Marks.{tail_of}
-use Rattle.tocmark_read_lines.specs.Notes.{note_start}
+use Rattle.tocmark_read_lines.specs.Footnotes.{note_start}
 use Rattle.tocmark_read_lines.specs.declared.beginnings.Tail.{Tail}
 use Rattle.tocmark_read_lines.specs.declared.cell.Cell.{Cell}
 use Rattle.tocmark_read_lines.specs.declared.cell.Cursor.{Cursor}

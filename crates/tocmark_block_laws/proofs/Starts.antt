@@ -13,7 +13,7 @@ use Rattle.tocmark_read_scan.proofs.PlainTests.{both_false, eq_of, one_of_four}
 use Rattle.tocmark_read_lines.specs.Cells.{ink_from, trimmed, count_of, indent_of, bytes_of, cells_at, cells_of, cell_byte, cell_place, run_of, trailing, first_cursor}
 use Rattle.tocmark_read_lines.specs.Containers.{container_at, container_in, item_at, item_from}
 use Rattle.tocmark_read_lines.specs.DefinitionLists.{definition_start}
-use Rattle.tocmark_read_lines.specs.Notes.{note_start}
+use Rattle.tocmark_read_lines.specs.Footnotes.{note_start}
 use Rattle.tocmark_read_lines.specs.Html.{html_kind}
 use Rattle.tocmark_read_lines.specs.Marks.{level_of, is_behind, heading_at, is_fence_byte, fence_at, tail_of, is_rule_byte, is_rule, is_underline_byte, underline_at, digit_count, bullet_at, ordered_at, marker_at}
 use Rattle.tocmark_read_lines.specs.declared.beginnings.Heading.{Heading}

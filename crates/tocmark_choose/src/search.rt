@@ -64,9 +64,9 @@ impl<'t, R: Reader> Search<'_, '_, 't, '_, R> {
         self.is_checked() && self.trial.tools.options.validate(self.trial.flags).is_ok()
     }
 
-    /// Tries manners in order, up to the first in which the unit is read back: the renderer has written
-    /// it then, after a mark, and what is known of that is handed on. Where there is none, and at an
-    /// `Err`, the renderer has gone back.
+    /// Tries manners in order, up to the first in which the unit reads back. The renderer has then written
+    /// the unit, after a mark, and the answer is what is known of it. If no manner reads back, or at an
+    /// `Err`, the renderer goes back to the mark.
     fn try_all(
         &self,
         renderer: &mut Renderer<'t>,

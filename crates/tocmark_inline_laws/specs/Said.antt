@@ -74,7 +74,7 @@ leaf_said texts depth (leaf.Html s) = (depth, Leaf (InlineHtml (words texts s)))
 leaf_said texts depth leaf.SoftBreak = (depth, Leaf SoftBreak) ∷ []
 leaf_said texts depth leaf.HardBreak = (depth, Leaf HardBreak) ∷ []
 leaf_said texts depth (leaf.Text s) = letters depth (words texts s)
-leaf_said texts depth (leaf.Note s) = (depth, Leaf (FootnoteReference (words texts s))) ∷ []
+leaf_said texts depth (leaf.Footnote s) = (depth, Leaf (FootnoteReference (words texts s))) ∷ []
 leaf_said texts depth (leaf.InlineMath s) = (depth, Leaf (InlineMath (words texts s))) ∷ []
 leaf_said texts depth (leaf.DisplayMath s) = (depth, Leaf (DisplayMath (words texts s))) ∷ []
 

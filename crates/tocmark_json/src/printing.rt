@@ -368,9 +368,10 @@ fn print_footnote<T: Words>(out: &mut Vec<u8>, label: &T) -> Result<(), AllocErr
     push_text(out, b"{\"FootnoteDefinition\":\"", label, b"\"}}")
 }
 
-/// Prints a tag, and the closing brace of the object that it is in. A tag that holds nothing prints as its end does.
+/// Prints a tag, and the closing brace of its object. A tag that holds nothing prints as its end does.
 fn print_tag<T: Words>(out: &mut Vec<u8>, tag: &TagOf<T>) -> Result<(), AllocError>
-    ensures { OnOk result (Closes (tag_json (tag_view T.bytes tag.now)) out.old.items out.new.items) }
+    ensures { OnOk result
+        (Closes (tag_json (tag_view T.bytes tag.now)) out.old.items out.new.items) }
 {
     match tag {
         TagOf::Heading {

@@ -16,7 +16,7 @@ use Rattle.tocmark_read_lines.specs.Cells.{cell, filled, cells_of, cell_byte, ce
 use Rattle.tocmark_read_lines.specs.Containers.{container_at, container_in, item_at, raised_at}
 use Rattle.tocmark_read_lines.specs.DefinitionLists.{definition_start}
 use Rattle.tocmark_read_lines.specs.Marks.{is_rule, is_rule_byte, is_behind, marker_at, bullet_at, ordered_at, heading_at, fence_at, is_fence_byte, closes_fence, tail_of}
-use Rattle.tocmark_read_lines.specs.Notes.{note_start}
+use Rattle.tocmark_read_lines.specs.Footnotes.{note_start}
 use Rattle.tocmark_read_lines.specs.declared.beginnings.Fence.{Fence}
 use Rattle.tocmark_read_lines.specs.declared.cell.Cell.{Cell}
 use Rattle.tocmark_read_lines.specs.declared.cell.Cursor.{Cursor}

@@ -14,10 +14,10 @@ use Rattle.tocmark_read_lines.specs.DefinitionLists.{begins_definition, definiti
 use Rattle.tocmark_read_lines.specs.Html.{html_kind}
 use Rattle.tocmark_read_lines.specs.Lines.{lines_of}
 use Rattle.tocmark_read_lines.specs.Marks.{tail_of}
-use Rattle.tocmark_read_lines.specs.Notes.{note_at, note_start}
+use Rattle.tocmark_read_lines.specs.Footnotes.{note_at, note_start}
 use Rattle.tocmark_read_lines.specs.declared.cell.Cell.{Cell}
 use Rattle.tocmark_read_lines.specs.declared.line.Line.{Line}
-use Rattle.tocmark_read_lines.specs.declared.note.NoteStart.{NoteStart}
+use Rattle.tocmark_read_lines.specs.declared.footnote.FootnoteStart.{FootnoteStart}
 use Rattle.tocmark_read_page.specs.Definitions.{begins_definition as begins_link, definitions_from}
 use Rattle.tocmark_read_page.specs.Leaves.{is_paragraph, is_table}
 use Rattle.tocmark_read_page.specs.Pages.{State, first_page, leaf_opened, leaf_closed, closed_to, times, list_left, begun, loosened, had_marked, list_of, is_apart, leaf_finished, finished, settled, shortened, piece_taken, one_closed}
@@ -78,7 +78,7 @@ pub no_note : (syntax : Syntax) (cells : List Cell) → note_at cells 0 ≡ None
 unfolding note_start
 no_note syntax cells h = rw h (by_test (syntax.footnotes && (not (nat_le (length cells) 0) && true)))
   where
-    by_test : (k : Bool) → if◌then◌else◌ {A = Option NoteStart} k None None ≡ None
+    by_test : (k : Bool) → if◌then◌else◌ {A = Option FootnoteStart} k None None ≡ None
     by_test true = refl
     by_test false = refl
 

@@ -10,12 +10,12 @@ use Rattle.tocmark_read_scan.specs.declared.syntax.Syntax.{Syntax}
 use Rattle.tocmark_read_scan.proofs.PlainContent.{byte_behind}
 use Rattle.tocmark_read_scan.proofs.PlainPieces.{piece_between}
 use Rattle.tocmark_read_scan.proofs.Repeats.{repeated_stop}
-use Rattle.tocmark_read_tokens.specs.Notes.{note_label}
+use Rattle.tocmark_read_tokens.specs.Footnotes.{note_label}
 use Rattle.tocmark_read_lines.specs.Cells.{cells_of, cell_byte, cell_place, first_cursor}
 use Rattle.tocmark_read_lines.specs.Containers.{container_at, container_in, item_at, raised_at}
 use Rattle.tocmark_read_lines.specs.Lines.{ends_here, line_stop, lines_from, lines_of, line}
 use Rattle.tocmark_read_lines.specs.Marks.{tail_of, is_rule, is_rule_byte, marker_at, bullet_at, ordered_at, is_behind}
-use Rattle.tocmark_read_lines.specs.Notes.{note_at}
+use Rattle.tocmark_read_lines.specs.Footnotes.{note_at}
 use Rattle.tocmark_read_lines.specs.declared.cell.Cell.{Cell}
 use Rattle.tocmark_read_lines.specs.declared.line.Line.{Line}
 use Rattle.tocmark_read_page.specs.Leaves.{is_paragraph, is_table}

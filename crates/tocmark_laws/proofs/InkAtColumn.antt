@@ -9,17 +9,17 @@ use Rattle.std.specs.Option.{option_map_or}
 use Rattle.tocmark_read_scan.specs.Basic.{plus, starts_at}
 use Rattle.tocmark_read_scan.specs.declared.syntax.Syntax.{Syntax}
 use Rattle.tocmark_read_scan.proofs.PlainTests.{eq_of}
-use Rattle.tocmark_read_tokens.specs.Notes.{note_label}
+use Rattle.tocmark_read_tokens.specs.Footnotes.{note_label}
 use Rattle.tocmark_read_lines.specs.Cells.{cell, bytes_of, cell_byte, cell_place, run_of, count_of, moved}
 use Rattle.tocmark_read_lines.specs.Containers.{container_at, container_in, item_at}
 use Rattle.tocmark_read_lines.specs.DefinitionLists.{begins_definition, definition_start}
 use Rattle.tocmark_read_lines.specs.Marks.{is_rule, is_rule_byte, marker_at, bullet_at, ordered_at, digit_count, is_behind, heading_at, fence_at, is_fence_byte, underline_at, is_underline_byte, tail_of, tail_length}
-use Rattle.tocmark_read_lines.specs.Notes.{note_at, note_start}
+use Rattle.tocmark_read_lines.specs.Footnotes.{note_at, note_start}
 use Rattle.tocmark_read_lines.specs.declared.beginnings.Tail.{Tail}
 use Rattle.tocmark_read_lines.specs.declared.cell.Cell.{Cell}
 use Rattle.tocmark_read_lines.specs.declared.cell.Cursor.{Cursor}
 use Rattle.tocmark_read_lines.specs.declared.line.Line.{Line}
-use Rattle.tocmark_read_lines.specs.declared.note.NoteStart.{NoteStart}
+use Rattle.tocmark_read_lines.specs.declared.footnote.FootnoteStart.{FootnoteStart}
 use Rattle.tocmark_read_page.specs.Pieces.{piece_of, text_piece, whole_place, is_split}
 use Rattle.tocmark_read_blocks.specs.Leaves.{leaf_at, mark_at, html_at, underline_in, rule_at}
 use Rattle.tocmark_read_blocks.specs.declared.leaf.LeafStart.TheVariants as start
@@ -100,7 +100,7 @@ no_note_here : (cells : List Cell) (c b : ℕ) → StandsAt cells c b → (91 ==
 unfolding note_at note_label starts_at
 no_note_here cells c b h k = rw (h.bytes, k) refl
 
-either_none : (k : Bool) → if◌then◌else◌ {A = Option NoteStart} k None None ≡ None
+either_none : (k : Bool) → if◌then◌else◌ {A = Option FootnoteStart} k None None ≡ None
 either_none true = refl
 either_none false = refl
 

@@ -14,7 +14,7 @@ use Rattle.tocmark_read_lines.specs.Cells.{cells_of, cell_byte, cell_place, firs
 use Rattle.tocmark_read_lines.specs.Containers.{container_at, container_in, going_on, item_goes_on, matched, passed, stopped, raised, raised_at}
 use Rattle.tocmark_read_lines.specs.Lines.{line}
 use Rattle.tocmark_read_lines.specs.Marks.{tail_of}
-use Rattle.tocmark_read_lines.specs.Notes.{note_at}
+use Rattle.tocmark_read_lines.specs.Footnotes.{note_at}
 use Rattle.tocmark_read_lines.specs.declared.cell.Cell.{Cell}
 use Rattle.tocmark_read_lines.specs.declared.cell.Cursor.{Cursor}
 use Rattle.tocmark_read_lines.specs.declared.container.Container.TheVariants as container

@@ -9,20 +9,20 @@ use Rattle.tocmark_read_scan.proofs.PlainContent.{byte_behind}
 use Rattle.tocmark_read_scan.proofs.PlainPieces.{piece_between}
 use Rattle.tocmark_read_scan.proofs.PlainTests.{turned}
 use Rattle.tocmark_read_scan.proofs.Repeats.{repeated_zero, repeated_more, repeated_stop}
-use Rattle.tocmark_read_tokens.specs.Notes.{note_label}
+use Rattle.tocmark_read_tokens.specs.Footnotes.{note_label}
 use Rattle.tocmark_read_tokens.specs.Word.{word}
 use Rattle.tocmark_read_lines.specs.Cells.{bytes_of, cells_of, cell_byte, cell_place, first_cursor, moved, run_of}
 use Rattle.tocmark_read_lines.specs.Containers.{container_in, raised, raised_at}
 use Rattle.tocmark_read_lines.specs.Lines.{line, lines_from}
 use Rattle.tocmark_read_lines.specs.Marks.{tail_of}
-use Rattle.tocmark_read_lines.specs.Notes.{note_at, note_start}
+use Rattle.tocmark_read_lines.specs.Footnotes.{note_at, note_start}
 use Rattle.tocmark_read_lines.specs.declared.cell.Cell.{Cell}
 use Rattle.tocmark_read_lines.specs.declared.cell.Cursor.{Cursor}
 use Rattle.tocmark_read_lines.specs.declared.container.Container.TheVariants as container
 use Rattle.tocmark_read_lines.specs.declared.container.ContainerStart.TheVariants as begins
 use Rattle.tocmark_read_lines.specs.declared.container.Opened.{Opened}
 use Rattle.tocmark_read_lines.specs.declared.line.Line.{Line}
-use Rattle.tocmark_read_lines.specs.declared.note.NoteStart.{NoteStart}
+use Rattle.tocmark_read_lines.specs.declared.footnote.FootnoteStart.{FootnoteStart}
 use Rattle.tocmark_read_page.specs.Definitions.{begins_definition, definitions_from}
 use Rattle.tocmark_read_page.specs.Leaves.{is_paragraph, is_table}
 use Rattle.tocmark_read_page.specs.Pages.{State, first_page, leaf_opened, leaf_closed, closed_to, times, list_left, note_left, begun, loosened, had_marked, list_of, is_apart, leaf_finished, finished, piece_taken, opened_with, is_list, is_quote, some_place, settled, shortened, one_closed, ended}
@@ -137,13 +137,13 @@ first_block end = record { depth = 0; kind = kind.Paragraph; start = 0; end = en
 
 -- a footnote whose name is between two places
 abbrev pub note_block : ℕ → ℕ → ℕ → ℕ → Block
-note_block from to a z = record { depth = 0; kind = kind.Note a z; start = from; end = to; first = 1; last = 1; loose = false; list = None; task = None }
+note_block from to a z = record { depth = 0; kind = kind.Footnote a z; start = from; end = to; first = 1; last = 1; loose = false; list = None; task = None }
 
 abbrev pub note_text : ℕ → ℕ → ℕ → Block
 note_text from to last = record { depth = 1; kind = kind.Paragraph; start = from; end = to; first = 1; last = last; loose = false; list = None; task = None }
 
 abbrev open_note : ℕ → ℕ → Bool → Opened
-open_note end number had = record { container = container.Note; block = 1; end = end; line = number; had = had }
+open_note end number had = record { container = container.Footnote; block = 1; end = end; line = number; had = had }
 
 -- what is in front of a footnote's text
 abbrev pub note_mark : List ℕ → List ℕ
@@ -179,7 +179,7 @@ module _ (known : Known) (text : List ℕ) (x : ℕ) (xs : List ℕ) (inside : A
   abbrev p : Piece
   p = piece_of 0 (from + width) end next
 
-  abbrev note : NoteStart
+  abbrev note : FootnoteStart
   note = record { from = 2; to = 2 + m; next = width }
 
   -- the page in front of it, with it, and with its text
@@ -260,7 +260,7 @@ module _ (known : Known) (text : List ℕ) (x : ℕ) (xs : List ℕ) (inside : A
   unfolding note_start
   note_starts has fits = rw (has, some_columns, note_found fits) refl
 
-  container_found : known.syntax.footnotes ≡ true → length row < 2 ^ 64 → (within : Bool) → container_in known.syntax cells (tail_of cells) front within ≡ Some (begins.Note note)
+  container_found : known.syntax.footnotes ≡ true → length row < 2 ^ 64 → (within : Bool) → container_in known.syntax cells (tail_of cells) front within ≡ Some (begins.Footnote note)
   unfolding container_in
   container_found has fits within = rw (no_definition known.syntax cells refl, note_starts has fits) refl
 
@@ -285,7 +285,7 @@ module _ (known : Known) (text : List ℕ) (x : ℕ) (xs : List ℕ) (inside : A
   unfolding note_opened note_left opened_with begun loosened had_marked list_of is_apart list_left is_list is_quote closed_to leaf_closed times
   opens =
       let opened_at : Cursor → ℕ → ℕ → State × LineStart = λ k a z. (
-      let s : State = opened_with container.Note (kind.Note a z) from l before in
+      let s : State = opened_with container.Footnote (kind.Footnote a z) from l before in
       (s, record { cursor = k; depth = length s.opened })
       ) in
       ap (λ a. opened_at (moved cells front width) a (cell_place cells (2 + m) end)) name_begins

@@ -10,7 +10,7 @@ use Rattle.tocmark_read_scan.proofs.PlainContent.{byte_behind}
 use Rattle.tocmark_read_scan.proofs.PlainPieces.{drop_behind, piece_between}
 use Rattle.tocmark_read_scan.proofs.PlainTests.{both_true, is_not, differs}
 use Rattle.tocmark_read_tokens.specs.Label.{State, collapsed, collapse_step, collapse_start}
-use Rattle.tocmark_read_tokens.specs.Notes.{note_label, on_one_line}
+use Rattle.tocmark_read_tokens.specs.Footnotes.{note_label, on_one_line}
 use Rattle.tocmark_read_tokens.specs.Word.{word, ends_enclosed, stops, escapes, closing_of, enclosed, enclosed_end, character_count, is_label_text, label_from}
 use Rattle.tocmark_read_tokens.specs.declared.word.Enclosure.TheVariants.{Bracketed}
 use Rattle.tocmark_reader.proofs.PlainReading.{IsPrintable}

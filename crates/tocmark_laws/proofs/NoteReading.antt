@@ -21,7 +21,7 @@ use Rattle.tocmark_read_scan.proofs.PlainContent.{places_of, length_places, trim
 use Rattle.tocmark_read_scan.proofs.PlainPieces.{drop_behind, piece_between, AreNoZeros}
 use Rattle.tocmark_read_scan.proofs.PlainTests.{both_true, differs, turned, all_from}
 use Rattle.tocmark_read_tokens.specs.Label.{collapsed}
-use Rattle.tocmark_read_tokens.specs.Notes.{note_label}
+use Rattle.tocmark_read_tokens.specs.Footnotes.{note_label}
 use Rattle.tocmark_read_tokens.specs.Word.{word, label, label_from}
 use Rattle.tocmark_read_tokens.specs.declared.word.Word.{Word}
 use Rattle.tocmark_read_page.specs.Definitions.{replaced}
@@ -33,11 +33,11 @@ use Rattle.tocmark_read_blocks.proofs.PlainLines.{IsWithin}
 use Rattle.tocmark_read_spans.specs.Definitions as defs
 use Rattle.tocmark_read_spans.specs.Emphasis.{emphasized}
 use Rattle.tocmark_read_spans.specs.Link.{inline_target, own_label}
-use Rattle.tocmark_read_spans.specs.Notes.{note_key, label_but_note, own_note, own_sought, label_sought}
+use Rattle.tocmark_read_spans.specs.Footnotes.{note_key, label_but_note, own_note, own_sought, label_sought}
 use Rattle.tocmark_read_spans.specs.Run.{run_at, run_between}
 use Rattle.tocmark_read_spans.specs.declared.definitions.Entry.{Entry}
 use Rattle.tocmark_read_spans.specs.declared.link.Bracket.{Bracket}
-use Rattle.tocmark_read_spans.specs.declared.note.Sought.TheVariants as sought_as
+use Rattle.tocmark_read_spans.specs.declared.footnote.Sought.TheVariants as sought_as
 use Rattle.tocmark_read_spans.specs.declared.role.Leaf.TheVariants as leaf
 use Rattle.tocmark_read_spans.specs.declared.role.Role.{Role}
 use Rattle.tocmark_read_spans.specs.declared.role.Role.TheVariants.{Plain, Single}
@@ -252,7 +252,7 @@ module _ (syntax : Syntax) (has : syntax.footnotes ≡ true) (find : List ℕ �
   name_here : size < 2 ^ 64 → note_label bytes n ≡ Some the_name
   name_here fits = note_here bytes words x xs [] n name_stands refl inside (omega (arith, short)) fits
 
-  sought : size < 2 ^ 64 → label_sought bytes bracket last ≡ Some (sought_as.Note the_name)
+  sought : size < 2 ^ 64 → label_sought bytes bracket last ≡ Some (sought_as.Footnote the_name)
   unfolding label_sought own_sought own_note
   sought fits =
       let next : plus last 1 ≡ last + 1 = omega (arith, size_is, fits) in
@@ -261,7 +261,7 @@ module _ (syntax : Syntax) (has : syntax.footnotes ≡ true) (find : List ℕ �
 
   -- the pass after the reference
   abbrev note_leaf : Role
-  note_leaf = Single (leaf.Note (s.stretch 0 m)) size
+  note_leaf = Single (leaf.Footnote (s.stretch 0 m)) size
 
   abbrev behind : ℕ → s.State
   behind place = record { roles = slice_set (replicate size Plain) n note_leaf; runs = []; brackets = []; inactive = 0; place = place; resume = size; targets = []; texts = name; missed = [] }
@@ -321,7 +321,7 @@ module _ (syntax : Syntax) (has : syntax.footnotes ≡ true) (find : List ℕ �
   -- ---- the second pass
 
   abbrev nodes : List Node
-  nodes = node 1 item.Text 0 n ∷ node 1 (item.Leaf (leaf.Note (s.stretch 0 m))) n size ∷ []
+  nodes = node 1 item.Text 0 n ∷ node 1 (item.Leaf (leaf.Footnote (s.stretch 0 m))) n size ∷ []
 
   roles_are : slice_set (replicate size Plain) n note_leaf ≡ replicate n Plain ++ note_leaf ∷ replicate (m + 2) Plain
   roles_are =
@@ -344,9 +344,9 @@ module _ (syntax : Syntax) (has : syntax.footnotes ≡ true) (find : List ℕ �
       ∙ ap (λ (t : w.State). (w.flushed t).nodes) (fold-append w.role_step (at [] 1 None 0 0) (replicate n Plain) rest)
       ∙ ap (λ (t : w.State). (w.flushed (fold w.role_step t rest)).nodes) (text_written [] 1 0 0 n (omega arith) (omega arith) (omega (arith, size_is, fits)))
       ∙ ap (λ k. (w.flushed (fold w.role_step (at [] 1 (Some 0) k 0) rest)).nodes) first_place
-      ∙ ap (λ k. (w.flushed (fold w.role_step (at [] 1 (Some 0) n 0) (Single (leaf.Note (s.stretch 0 m)) k ∷ replicate (m + 2) Plain))).nodes) (sym end)
-      ∙ ap (λ (t : w.State). (w.flushed t).nodes) (single_written [] 1 0 n 0 (leaf.Note (s.stretch 0 m)) (m + 2) (omega arith) (omega (arith, size_is, fits)))
-      ∙ ap (λ k. node 1 item.Text 0 n ∷ node 1 (item.Leaf (leaf.Note (s.stretch 0 m))) n k ∷ []) end
+      ∙ ap (λ k. (w.flushed (fold w.role_step (at [] 1 (Some 0) n 0) (Single (leaf.Footnote (s.stretch 0 m)) k ∷ replicate (m + 2) Plain))).nodes) (sym end)
+      ∙ ap (λ (t : w.State). (w.flushed t).nodes) (single_written [] 1 0 n 0 (leaf.Footnote (s.stretch 0 m)) (m + 2) (omega arith) (omega (arith, size_is, fits)))
+      ∙ ap (λ k. node 1 item.Text 0 n ∷ node 1 (item.Leaf (leaf.Footnote (s.stretch 0 m))) n k ∷ []) end
 
   -- where they are in the text
   abbrev places : List (ℕ × ℕ)
@@ -359,7 +359,7 @@ module _ (syntax : Syntax) (has : syntax.footnotes ≡ true) (find : List ℕ �
       rw (place_at 0 bytes (n - 1) (omega (arith, size_is)), last_place) refl
 
   abbrev inlines_here : inlines.State
-  inlines_here = record { nodes = node 1 item.Text 0 n ∷ w.moved places (node 1 (item.Leaf (leaf.Note (s.stretch 0 m))) n size) ∷ []; targets = []; texts = name; missed = [] }
+  inlines_here = record { nodes = node 1 item.Text 0 n ∷ w.moved places (node 1 (item.Leaf (leaf.Footnote (s.stretch 0 m))) n size) ∷ []; targets = []; texts = name; missed = [] }
 
   pub reference_found : (e : Entry) → find (note_key name) ≡ Some e → size < 2 ^ 64 → inlines.read_inlines_in syntax (record { bytes = bytes; places = places }) 1 find no_inlines ≡ inlines_here
   unfolding inlines.read_inlines_in
@@ -368,7 +368,7 @@ module _ (syntax : Syntax) (has : syntax.footnotes ≡ true) (find : List ℕ �
       let with_nodes : List Node → inlines.State = λ ns. record { nodes = ns; targets = []; texts = name; missed = [] } in
       ap (λ (after : s.State). inlines.inlines_from c 1 after no_inlines) (scanned e found fits)
       ∙ ap (λ (ns : List Node). with_nodes (map (w.moved places) ns)) (nodes_written fits)
-      ∙ ap (λ (one : Node). with_nodes (one ∷ w.moved places (node 1 (item.Leaf (leaf.Note (s.stretch 0 m))) n size) ∷ [])) text_moved
+      ∙ ap (λ (one : Node). with_nodes (one ∷ w.moved places (node 1 (item.Leaf (leaf.Footnote (s.stretch 0 m))) n size) ∷ [])) text_moved
 
 -- ---- the footnote that it means
 
@@ -522,7 +522,7 @@ module _ (syntax : Syntax) (has : syntax.footnotes ≡ true) (b : ℕ) (bs : Lis
 
   abbrev inlines_first : inlines.State
   inlines_first = record {
-    nodes = node 1 item.Text 0 (length said) ∷ w.moved (places_of 0 first_line) (node 1 (item.Leaf (leaf.Note (s.stretch 0 (length label_bytes)))) (length said) n1) ∷ [];
+    nodes = node 1 item.Text 0 (length said) ∷ w.moved (places_of 0 first_line) (node 1 (item.Leaf (leaf.Footnote (s.stretch 0 (length label_bytes)))) (length said) n1) ∷ [];
     targets = [];
     texts = label_bytes;
     missed = [];

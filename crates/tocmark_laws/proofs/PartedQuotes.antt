@@ -15,7 +15,7 @@ use Rattle.tocmark_read_lines.specs.Containers.{container_at, container_in, goin
 use Rattle.tocmark_read_lines.specs.DefinitionLists.{begins_definition as begins_term, definition_start}
 use Rattle.tocmark_read_lines.specs.Lines.{line}
 use Rattle.tocmark_read_lines.specs.Marks.{tail_of}
-use Rattle.tocmark_read_lines.specs.Notes.{note_start}
+use Rattle.tocmark_read_lines.specs.Footnotes.{note_start}
 use Rattle.tocmark_read_lines.specs.declared.cell.Cell.{Cell}
 use Rattle.tocmark_read_lines.specs.declared.line.Line.{Line}
 use Rattle.tocmark_read_page.specs.Definitions.{begins_definition, definitions_from}

@@ -13,11 +13,11 @@ use Rattle.tocmark_read_scan.proofs.PlainTests.{turned}
 use Rattle.tocmark_read_scan.proofs.Repeats.{repeated_more, repeated_stop}
 use Rattle.tocmark_read_lines.specs.Cells.{cells_of, cell_place, first_cursor, moved}
 use Rattle.tocmark_read_lines.specs.Containers.{container_at, container_in, note_or, going_on, after_quote, matched, matched_from, passed, raised, raised_at}
-use Rattle.tocmark_read_tokens.specs.Notes.{note_label}
+use Rattle.tocmark_read_tokens.specs.Footnotes.{note_label}
 use Rattle.tocmark_read_scan.specs.Basic.{starts_at}
 use Rattle.tocmark_read_lines.specs.DefinitionLists.{begins_definition as begins_list, definition_start}
-use Rattle.tocmark_read_lines.specs.Notes.{note_at, note_start}
-use Rattle.tocmark_read_lines.specs.declared.note.NoteStart.{NoteStart}
+use Rattle.tocmark_read_lines.specs.Footnotes.{note_at, note_start}
+use Rattle.tocmark_read_lines.specs.declared.footnote.FootnoteStart.{FootnoteStart}
 use Rattle.tocmark_read_lines.specs.declared.cell.Cursor.{Cursor}
 use Rattle.tocmark_read_lines.specs.Html.{same_word, html_kind}
 use Rattle.tocmark_read_lines.specs.Lines.{line, lines_from, lines_of}
@@ -215,14 +215,14 @@ quote_at false syntax from xs =
     let some : nat_le (length (numbered from (line_mark false ++ xs))) 0 ≡ false = some_columns_of false from xs in
     rw (some, never) (either _)
   where
-    either : (t : Bool) → note_or (if◌then◌else◌ {A = Option NoteStart} t None None) (Some begins.Quote) ≡ Some begins.Quote
+    either : (t : Bool) → note_or (if◌then◌else◌ {A = Option FootnoteStart} t None None) (Some begins.Quote) ≡ Some begins.Quote
     either true = refl
     either false = refl
 quote_at true syntax from xs =
     let some : nat_le (length (numbered from (line_mark true ++ xs))) 1 ≡ false = some_columns_of true from xs in
     rw (some, never) (either _)
   where
-    either : (t : Bool) → note_or (if◌then◌else◌ {A = Option NoteStart} t None None) (Some begins.Quote) ≡ Some begins.Quote
+    either : (t : Bool) → note_or (if◌then◌else◌ {A = Option FootnoteStart} t None None) (Some begins.Quote) ≡ Some begins.Quote
     either true = refl
     either false = refl
 

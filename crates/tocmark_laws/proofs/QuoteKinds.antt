@@ -12,18 +12,18 @@ use Rattle.tocmark_read_scan.proofs.PlainContent.{places_of, byte_behind}
 use Rattle.tocmark_read_scan.proofs.PlainPieces.{piece_between}
 use Rattle.tocmark_read_scan.proofs.PlainTests.{turned, all_from}
 use Rattle.tocmark_read_scan.proofs.Repeats.{repeated_more, repeated_stop}
-use Rattle.tocmark_read_tokens.specs.Notes.{note_label}
+use Rattle.tocmark_read_tokens.specs.Footnotes.{note_label}
 use Rattle.tocmark_read_lines.specs.Cells.{cells_of, cell_place, first_cursor, moved}
 use Rattle.tocmark_read_lines.specs.Containers.{after_quote, container_at, container_in, item_at, raised, raised_at}
 use Rattle.tocmark_read_lines.specs.DefinitionLists.{begins_definition as begins_term, definition_start}
 use Rattle.tocmark_read_lines.specs.Html.{same_word}
 use Rattle.tocmark_read_lines.specs.Lines.{line, lines_of}
 use Rattle.tocmark_read_lines.specs.Marks.{is_rule, is_rule_byte, marker_at, bullet_at, ordered_at, tail_of}
-use Rattle.tocmark_read_lines.specs.Notes.{note_at, note_start}
+use Rattle.tocmark_read_lines.specs.Footnotes.{note_at, note_start}
 use Rattle.tocmark_read_lines.specs.declared.cell.Cell.{Cell}
 use Rattle.tocmark_read_lines.specs.declared.container.ContainerStart.TheVariants as begins
 use Rattle.tocmark_read_lines.specs.declared.line.Line.{Line}
-use Rattle.tocmark_read_lines.specs.declared.note.NoteStart.{NoteStart}
+use Rattle.tocmark_read_lines.specs.declared.footnote.FootnoteStart.{FootnoteStart}
 use Rattle.tocmark_read_page.specs.Definitions.{begins_definition, definitions_from}
 use Rattle.tocmark_read_page.specs.Leaves.{is_paragraph, is_table}
 use Rattle.tocmark_read_page.specs.Pages.{State, first_page, leaf_opened, leaf_closed, closed_to, times, list_left, begun, loosened, had_marked, list_of, is_apart, leaf_finished, finished, piece_taken, opened_with, is_list, is_quote, some_place, settled, shortened, one_closed, ended}
@@ -161,7 +161,7 @@ module _ (known : Known) (has : known.syntax.quote_kinds ≡ true) (text : List 
   unfolding note_start
   no_note_start = rw no_note_there (either _)
     where
-      either : (t : Bool) → if◌then◌else◌ {A = Option NoteStart} t None None ≡ None
+      either : (t : Bool) → if◌then◌else◌ {A = Option FootnoteStart} t None None ≡ None
       either true = refl
       either false = refl
 

@@ -12,7 +12,7 @@ use Rattle.tocmark_read_lines.specs.Containers.{raised_at}
 use Rattle.tocmark_read_lines.specs.Html.{html_kind}
 use Rattle.tocmark_read_lines.specs.Lines.{lines_of, line}
 use Rattle.tocmark_read_lines.specs.Marks.{tail_of}
-use Rattle.tocmark_read_lines.specs.Notes.{note_at}
+use Rattle.tocmark_read_lines.specs.Footnotes.{note_at}
 use Rattle.tocmark_read_lines.specs.declared.cell.Cell.{Cell}
 use Rattle.tocmark_read_lines.specs.declared.line.Line.{Line}
 use Rattle.tocmark_read_page.specs.Leaves.{is_paragraph, is_table}

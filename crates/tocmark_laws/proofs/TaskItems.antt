@@ -15,20 +15,20 @@ use Rattle.tocmark_read_scan.proofs.PlainContent.{places_of, get_behind}
 use Rattle.tocmark_read_scan.proofs.PlainPieces.{piece_between}
 use Rattle.tocmark_read_scan.proofs.PlainTests.{turned}
 use Rattle.tocmark_read_scan.proofs.Repeats.{repeated_more, repeated_stop}
-use Rattle.tocmark_read_tokens.specs.Notes.{note_label}
+use Rattle.tocmark_read_tokens.specs.Footnotes.{note_label}
 use Rattle.tocmark_read_lines.specs.Cells.{cells_of, cell, cell_place, first_cursor, moved}
 use Rattle.tocmark_read_lines.specs.Containers.{container_at, container_in, item_at, item_gap, raised, raised_at, is_empty_item}
 use Rattle.tocmark_read_lines.specs.DefinitionLists.{begins_definition, definition_start}
 use Rattle.tocmark_read_lines.specs.Lines.{lines_of, line}
 use Rattle.tocmark_read_lines.specs.Marks.{is_rule, is_rule_byte, marker_at, bullet_at, ordered_at, is_behind, tail_of}
-use Rattle.tocmark_read_lines.specs.Notes.{note_at, note_start}
+use Rattle.tocmark_read_lines.specs.Footnotes.{note_at, note_start}
 use Rattle.tocmark_read_lines.specs.declared.cell.Cell.{Cell}
 use Rattle.tocmark_read_lines.specs.declared.container.Container.TheVariants as container
 use Rattle.tocmark_read_lines.specs.declared.container.ContainerStart.TheVariants as begins
 use Rattle.tocmark_read_lines.specs.declared.container.ItemStart.{ItemStart}
 use Rattle.tocmark_read_lines.specs.declared.container.Opened.{Opened}
 use Rattle.tocmark_read_lines.specs.declared.line.Line.{Line}
-use Rattle.tocmark_read_lines.specs.declared.note.NoteStart.{NoteStart}
+use Rattle.tocmark_read_lines.specs.declared.footnote.FootnoteStart.{FootnoteStart}
 use Rattle.tocmark_read_page.specs.Leaves.{is_paragraph, is_table}
 use Rattle.tocmark_read_page.specs.Pages.{State, first_page, leaf_opened, leaf_closed, closed_to, times, list_left, begun, loosened, had_marked, list_of, is_apart, leaf_finished, finished, piece_taken, opened_with, is_list, is_quote, left_noted, some_place, settled, one_closed, ended}
 use Rattle.tocmark_read_page.specs.Pieces.{piece_of}
@@ -83,7 +83,7 @@ use Rattle.tocmark_laws.proofs.FrontMatterBlocks.{lines_split}
 use Rattle.tocmark_laws.proofs.StrikethroughReading.{IsPhrase, phrase_from}
 use Rattle.tocmark_laws.proofs.WordsReading.{IsWordByte, text_byte, bare, spelled_bare, bare_plain}
 
-either_none : (k : Bool) → if◌then◌else◌ {A = Option NoteStart} k None None ≡ None
+either_none : (k : Bool) → if◌then◌else◌ {A = Option FootnoteStart} k None None ≡ None
 either_none true = refl
 either_none false = refl
 

@@ -5,7 +5,7 @@ use Rattle.tocmark_read_scan.specs.Repeat.{repeated}
 use Rattle.tocmark_read_lines.specs.Cells.{is_blank_at}
 use Rattle.tocmark_read_lines.specs.Containers.{container_at, container_in}
 use Rattle.tocmark_read_lines.specs.DefinitionLists.{begins_definition, definition_start}
-use Rattle.tocmark_read_lines.specs.Notes.{note_start}
+use Rattle.tocmark_read_lines.specs.Footnotes.{note_start}
 use Rattle.tocmark_read_scan.specs.declared.syntax.Syntax.{Syntax}
 use Rattle.tocmark_read_blocks.specs.Leaves.{leaf_at}
 use Rattle.tocmark_read_lines.specs.Marks.{tail_of}

@@ -32,7 +32,7 @@ abbrev pub is_list_of : ℕ → Container → Bool
 is_list_of sort container.Quote = false
 is_list_of sort (container.List same) = same == sort
 is_list_of sort (container.Item width) = false
-is_list_of sort container.Note = false
+is_list_of sort container.Footnote = false
 is_list_of sort container.Definitions = false
 is_list_of sort (container.Definition width) = false
 
@@ -58,7 +58,7 @@ abbrev pub begun_at : List ℕ → List Cell → Line → LineStart → State �
 begun_at text cells line place s None = (s, None)
 begun_at text cells line place s (Some begins.Quote) = some_place (quote_opened text cells line place s)
 begun_at text cells line place s (Some (begins.Item item)) = some_place (item_opened text cells line place item s)
-begun_at text cells line place s (Some (begins.Note note)) = some_place (note_opened text cells line place note s)
+begun_at text cells line place s (Some (begins.Footnote note)) = some_place (note_opened text cells line place note s)
 begun_at text cells line place s (Some (begins.Definition d)) = definition_opened text cells line place d s
 
 -- the container that begins at a place opens

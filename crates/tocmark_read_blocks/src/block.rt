@@ -24,12 +24,12 @@ use tocmark_read_constructs::quote::{quote_kind_in, start_quote_kind, tag_in};
 use tocmark_read_constructs::table::{header_of, take_delimiters, take_row};
 use tocmark_read_constructs::task::{start_task, task_in};
 use tocmark_read_lines::beginnings::{Tail, tail_of};
-use tocmark_read_lines::cell::{Cells, cell_place, is_blank_at};
+use tocmark_read_lines::cell::{Columns, cell_place, is_blank_at};
 use tocmark_read_lines::container::{matched, touch};
 use tocmark_read_lines::line::{Line, line_ended, line_left};
 use tocmark_read_page::definition::LinkDefinition;
 use tocmark_read_page::leaf::{Leaf, is_paragraph};
-use tocmark_read_page::line_start::{Known, LineStart, Row};
+use tocmark_read_page::line_start::{Known, LineStart, ScannedLine};
 use tocmark_read_page::packed::PackedBlock;
 use tocmark_read_page::page::BlocksSoFar;
 use tocmark_read_page::piece::Piece;
@@ -51,25 +51,25 @@ pub struct Blocks {
 fn take_underline(
     so_far: &mut BlocksSoFar,
     alloc: Global,
-    row: &Row<'_, '_>,
+    scan: &ScannedLine<'_, '_>,
     tail: Tail,
     place: LineStart,
     level: HeadingLevel,
 ) -> Result<(), AllocError>
     ensures { OnOk result (page so_far.new
-        ≡ underline_taken_in row.now.known row.now.text.now row.now.cells.now row.now.line tail
+        ≡ underline_taken_in scan.now.known scan.now.text.now scan.now.cells.now scan.now.line tail
         place level
         (page so_far.old)) }
 {
-    so_far.settle(alloc, row.text)?;
+    so_far.settle(alloc, scan.text)?;
     if so_far.has_text() {
-        return make_heading(so_far, row, level);
+        return make_heading(so_far, scan, level);
     }
-    let metadata = metadata_in(so_far, row, place, false);
-    match metadata_or(metadata, rule_at(row.cells, tail, place.cursor.ink)) {
-        LeafStart::Rule => start_rule(so_far, alloc, row, place),
-        LeafStart::Metadata(kind) => start_metadata(so_far, alloc, row, place, kind),
-        _ => take_text(so_far, alloc, row, place),
+    let metadata = metadata_in(so_far, scan, place, false);
+    match metadata_or(metadata, rule_at(scan.cells, tail, place.cursor.ink)) {
+        LeafStart::Rule => start_rule(so_far, alloc, scan, place),
+        LeafStart::Metadata(kind) => start_metadata(so_far, alloc, scan, place, kind),
+        _ => take_text(so_far, alloc, scan, place),
     }
 }
 
@@ -78,45 +78,45 @@ fn take_underline(
 fn start(
     so_far: &mut BlocksSoFar,
     alloc: Global,
-    row: &Row<'_, '_>,
+    scan: &ScannedLine<'_, '_>,
     tail: Tail,
     place: LineStart,
     leaf: LeafStart,
 ) -> Result<(), AllocError>
     ensures { OnOk result (page so_far.new
-        ≡ started_in row.now.known leaf row.now.text.now row.now.cells.now row.now.line tail
+        ≡ started_in scan.now.known leaf scan.now.text.now scan.now.cells.now scan.now.line tail
         place (page so_far.old)) }
 {
     match leaf {
-        LeafStart::Blank => so_far.close_to(alloc, row.text, place.depth),
-        LeafStart::Text => take_text(so_far, alloc, row, place),
-        LeafStart::Indented(column) => { start_indented(so_far, alloc, row, place, column) }
-        LeafStart::Heading(heading) => { start_heading(so_far, alloc, row, place, heading) }
-        LeafStart::Fence(fence) => start_fence(so_far, alloc, row, place, fence),
-        LeafStart::Html(kind) => start_html(so_far, alloc, row, place, kind),
-        LeafStart::Underline(level) => { take_underline(so_far, alloc, row, tail, place, level) }
-        LeafStart::Rule => start_rule(so_far, alloc, row, place),
-        LeafStart::Metadata(kind) => start_metadata(so_far, alloc, row, place, kind),
-        LeafStart::Task(done) => start_task(so_far, alloc, row, place, done),
-        LeafStart::QuoteKind(kind) => start_quote_kind(so_far, row, place, kind),
+        LeafStart::Blank => so_far.close_to(alloc, scan.text, place.depth),
+        LeafStart::Text => take_text(so_far, alloc, scan, place),
+        LeafStart::Indented(column) => { start_indented(so_far, alloc, scan, place, column) }
+        LeafStart::Heading(heading) => { start_heading(so_far, alloc, scan, place, heading) }
+        LeafStart::Fence(fence) => start_fence(so_far, alloc, scan, place, fence),
+        LeafStart::Html(kind) => start_html(so_far, alloc, scan, place, kind),
+        LeafStart::Underline(level) => { take_underline(so_far, alloc, scan, tail, place, level) }
+        LeafStart::Rule => start_rule(so_far, alloc, scan, place),
+        LeafStart::Metadata(kind) => start_metadata(so_far, alloc, scan, place, kind),
+        LeafStart::Task(done) => start_task(so_far, alloc, scan, place, done),
+        LeafStart::QuoteKind(kind) => start_quote_kind(so_far, scan, place, kind),
     }
 }
 
 /// What a line begins, in an extension or in CommonMark.
 fn extended_start(
     so_far: &BlocksSoFar,
-    row: &Row<'_, '_>,
+    scan: &ScannedLine<'_, '_>,
     place: LineStart,
     directly: bool,
     core: LeafStart,
 ) -> LeafStart
-    ensures { result ≡ start_or row.now.known row.now.text.now row.now.cells.now row.now.line
+    ensures { result ≡ start_or scan.now.known scan.now.text.now scan.now.cells.now scan.now.line
         place directly (page so_far.now) core }
 {
-    let metadata = metadata_in(so_far, row, place, directly);
-    let task = task_in(so_far, row, place);
-    let tag = tag_in(so_far, row, place, directly);
-    let kind = quote_kind_in(so_far, row, place);
+    let metadata = metadata_in(so_far, scan, place, directly);
+    let task = task_in(so_far, scan, place);
+    let tag = tag_in(so_far, scan, place, directly);
+    let kind = quote_kind_in(so_far, scan, place);
     quote_kind_or(
         kind,
         tag_or(tag, task_or(task, metadata_or(metadata, core))),
@@ -127,16 +127,16 @@ fn extended_start(
 #[tactic(auto, using(crate::proofs::CoreStarts::starts_as_core))]
 fn start_or(
     so_far: &BlocksSoFar,
-    row: &Row<'_, '_>,
+    scan: &ScannedLine<'_, '_>,
     place: LineStart,
     directly: bool,
     core: LeafStart,
 ) -> LeafStart
-    ensures { result ≡ start_or row.now.known row.now.text.now row.now.cells.now row.now.line
+    ensures { result ≡ start_or scan.now.known scan.now.text.now scan.now.cells.now scan.now.line
         place directly (page so_far.now) core }
 {
-    if extends_starts(row.known.syntax) {
-        extended_start(so_far, row, place, directly, core)
+    if extends_starts(scan.known.syntax) {
+        extended_start(so_far, scan, place, directly, core)
     } else {
         core
     }
@@ -146,25 +146,25 @@ fn start_or(
 fn start_inked(
     so_far: &mut BlocksSoFar,
     alloc: Global,
-    row: &Row<'_, '_>,
+    scan: &ScannedLine<'_, '_>,
     first: LineStart,
 ) -> Result<(), AllocError>
     ensures { OnOk result (page so_far.new
-        ≡ leaf_started_in row.now.known row.now.text.now row.now.cells.now row.now.line first
+        ≡ leaf_started_in scan.now.known scan.now.text.now scan.now.cells.now scan.now.line first
         (page so_far.old)) }
 {
-    let tail = tail_of(row.cells);
-    let place = open_all(so_far, alloc, row, tail, first)?;
+    let tail = tail_of(scan.cells);
+    let place = open_all(so_far, alloc, scan, tail, first)?;
     let in_paragraph = is_paragraph(so_far.leaf);
     let directly = goes_directly(so_far, place.depth);
     let rest = bytes_between(
-        row.text,
-        cell_place(row.cells, place.cursor.ink, row.line.end),
-        row.line.end,
+        scan.text,
+        cell_place(scan.cells, place.cursor.ink, scan.line.end),
+        scan.line.end,
     );
-    let core = leaf_at(row.cells, rest, tail, place.cursor, in_paragraph, directly);
-    let leaf = start_or(so_far, row, place, directly, core);
-    start(so_far, alloc, row, tail, place, leaf)
+    let core = leaf_at(scan.cells, rest, tail, place.cursor, in_paragraph, directly);
+    let leaf = start_or(so_far, scan, place, directly, core);
+    start(so_far, alloc, scan, tail, place, leaf)
 }
 
 /// Takes the rest of a line in which the open leaf doesn't go on by itself.
@@ -172,86 +172,86 @@ fn start_inked(
 fn start_line(
     so_far: &mut BlocksSoFar,
     alloc: Global,
-    row: &Row<'_, '_>,
+    scan: &ScannedLine<'_, '_>,
     first: LineStart,
 ) -> Result<(), AllocError>
     ensures { OnOk result (page so_far.new
-        ≡ leaf_started_in row.now.known row.now.text.now row.now.cells.now row.now.line first
+        ≡ leaf_started_in scan.now.known scan.now.text.now scan.now.cells.now scan.now.line first
         (page so_far.old)) }
 {
-    if is_blank_at(row.cells, first.cursor) {
-        so_far.close_to(alloc, row.text, first.depth)
+    if is_blank_at(scan.cells, first.cursor) {
+        so_far.close_to(alloc, scan.text, first.depth)
     } else {
-        start_inked(so_far, alloc, row, first)
+        start_inked(so_far, alloc, scan, first)
     }
 }
 
-/// Takes a line in which the open leaf doesn't go on by itself: the delimiter row of a table, where
+/// Takes a line in which the open leaf doesn't go on by itself: the delimiter scan of a table, where
 /// tables are read, or what else begins.
 #[tactic(auto, unfolding(crate::specs::Blocks::passed_in))]
 fn pass_line(
     so_far: &mut BlocksSoFar,
     alloc: Global,
-    row: &Row<'_, '_>,
+    scan: &ScannedLine<'_, '_>,
     first: LineStart,
 ) -> Result<(), AllocError>
     ensures { OnOk result (page so_far.new
-        ≡ passed_in row.now.known row.now.text.now row.now.cells.now row.now.line first
+        ≡ passed_in scan.now.known scan.now.text.now scan.now.cells.now scan.now.line first
         (page so_far.old)) }
 {
-    if row.known.syntax.tables {
-        pass_tabled(so_far, alloc, row, first)
+    if scan.known.syntax.tables {
+        pass_tabled(so_far, alloc, scan, first)
     } else {
-        start_line(so_far, alloc, row, first)
+        start_line(so_far, alloc, scan, first)
     }
 }
 
-/// Takes a delimiter row, or what else begins, and notes what the line may be as a header.
+/// Takes a delimiter scan, or what else begins, and notes what the line may be as a header.
 #[tactic(auto, unfolding(crate::specs::Blocks::tabled_in))]
 fn pass_tabled(
     so_far: &mut BlocksSoFar,
     alloc: Global,
-    row: &Row<'_, '_>,
+    scan: &ScannedLine<'_, '_>,
     first: LineStart,
 ) -> Result<(), AllocError>
     ensures { OnOk result (page so_far.new
-        ≡ tabled_in row.now.known row.now.text.now row.now.cells.now row.now.line first
+        ≡ tabled_in scan.now.known scan.now.text.now scan.now.cells.now scan.now.line first
         (page so_far.old)) }
 {
     let directly = goes_directly(so_far, first.depth);
-    if take_delimiters(so_far, alloc, row, first.cursor, directly)? {
+    if take_delimiters(so_far, alloc, scan, first.cursor, directly)? {
         return Ok(());
     }
     let before = so_far.blocks.len();
     let within = first.depth < so_far.opened.len();
-    start_line(so_far, alloc, row, first)?;
+    start_line(so_far, alloc, scan, first)?;
     let lazy = within && so_far.blocks.len() == before;
-    so_far.header = header_of(row.cells, first.cursor, lazy);
+    so_far.header = header_of(scan.cells, first.cursor, lazy);
     Ok(())
 }
 
 #[tactic(auto, unfolding(crate::specs::Blocks::turn_of))]
-fn turn_of(so_far: &BlocksSoFar, row: &Row<'_, '_>, place: LineStart) -> Turn
+fn turn_of(so_far: &BlocksSoFar, scan: &ScannedLine<'_, '_>, place: LineStart) -> Turn
     ensures { result
-        ≡ turn_of row.now.text.now row.now.cells.now row.now.line place (page so_far.now) }
+        ≡ turn_of scan.now.text.now scan.now.cells.now scan.now.line place (page so_far.now) }
 {
     if so_far.opened.len() <= place.depth {
-        leaf_turn(row.text, row.cells, row.line, place.cursor, so_far.leaf)
+        leaf_turn(scan.text, scan.cells, scan.line, place.cursor, so_far.leaf)
     } else {
         Turn::Passes
     }
 }
 
 #[tactic(auto, unfolding(crate::specs::Blocks::turn_in))]
-fn turn_in(so_far: &BlocksSoFar, row: &Row<'_, '_>, place: LineStart) -> Turn
+fn turn_in(so_far: &BlocksSoFar, scan: &ScannedLine<'_, '_>, place: LineStart) -> Turn
     ensures { result
-        ≡ turn_in row.now.known row.now.text.now row.now.cells.now row.now.line place
+        ≡ turn_in scan.now.known scan.now.text.now scan.now.cells.now scan.now.line place
         (page so_far.now) }
 {
-    if row.known.syntax.footnotes && is_ended_by_note(so_far, row.cells, place) {
+    if scan.known.syntax.footnotes && is_ended_by_note(so_far, scan.cells, place) {
         Turn::Passes
     } else {
-        turn_of(so_far, row, place)
+        turn_of(so_far, scan, place)
     }
 }
 
@@ -281,19 +281,19 @@ fn touch_line(so_far: &mut BlocksSoFar, line: Line, depth: usize)
 
 /// Takes a line by its columns: containers go on in it, then the open leaf has its turn, then others begin.
 #[tactic(auto, unfolding(crate::specs::Blocks::cells_taken_in))]
-fn take_cells(so_far: &mut BlocksSoFar, alloc: Global, row: &Row<'_, '_>) -> Result<(), AllocError>
+fn take_cells(so_far: &mut BlocksSoFar, alloc: Global, scan: &ScannedLine<'_, '_>) -> Result<(), AllocError>
     ensures { OnOk result (page so_far.new
-        ≡ cells_taken_in row.now.known row.now.text.now row.now.cells.now row.now.line
+        ≡ cells_taken_in scan.now.known scan.now.text.now scan.now.cells.now scan.now.line
         (page so_far.old)) }
 {
-    let (depth, cursor) = matched(row.cells, &so_far.opened, &so_far.quotes);
+    let (depth, cursor) = matched(scan.cells, &so_far.opened, &so_far.quotes);
     let place = LineStart { cursor, depth };
-    touch_line(so_far, row.line, depth);
-    match turn_in(so_far, row, place) {
-        Turn::Closes => end_leaf(so_far, row.line),
-        Turn::Takes(column) => take_code(so_far, row, column),
-        Turn::Passes => pass_line(so_far, alloc, row, place),
-        Turn::Row(table) => take_row(so_far, row, place, table),
+    touch_line(so_far, scan.line, depth);
+    match turn_in(so_far, scan, place) {
+        Turn::Closes => end_leaf(so_far, scan.line),
+        Turn::Takes(column) => take_code(so_far, scan, column),
+        Turn::Passes => pass_line(so_far, alloc, scan, place),
+        Turn::Row(table) => take_row(so_far, scan, place, table),
     }
 }
 
@@ -402,7 +402,7 @@ fn take_columns(
     so_far: &mut BlocksSoFar,
     alloc: Global,
     source: &Source<'_>,
-    cells: &mut Cells,
+    cells: &mut Columns,
     line: Line,
 ) -> Result<(), AllocError>
     requires tabs { source.now.has_tabs ≡ list_any (λ b. b == 9) source.now.text.now }
@@ -410,13 +410,13 @@ fn take_columns(
         ≡ line_taken_in source.now.known source.now.text.now (page so_far.old) line) }
 {
     cells.read_in(source.text, line, source.has_tabs)?;
-    let row = Row {
+    let scan = ScannedLine {
         known: source.known,
         text: source.text,
         cells,
         line,
     };
-    take_cells(so_far, alloc, &row)
+    take_cells(so_far, alloc, &scan)
 }
 
 /// Takes a line. The columns of a line of open fenced code aren't asked for, nor those of an empty line at the top.
@@ -424,7 +424,7 @@ fn take_line(
     so_far: &mut BlocksSoFar,
     alloc: Global,
     source: &Source<'_>,
-    cells: &mut Cells,
+    cells: &mut Columns,
     line: Line,
 ) -> Result<(), AllocError>
     requires tabs { source.now.has_tabs ≡ list_any (λ b. b == 9) source.now.text.now }
@@ -452,7 +452,7 @@ fn take_lines(
         ≡ fold (line_taken_in source.now.known source.now.text.now) (page so_far.old)
         (lines_of source.now.text.now)) }
 {
-    let mut cells = Cells::new(alloc);
+    let mut cells = Columns::new(alloc);
     let mut before = 0;
     let mut start = 0;
     for at in memchr2_iter(b'\n', b'\r', source.text) {

@@ -6,11 +6,11 @@ ghost use Rattle.tocmark_read_page.specs.Pages.{page};
 
 use std::alloc::{AllocError, Global};
 use tocmark_read_lines::beginnings::Fence;
-use tocmark_read_lines::cell::{Cells, Cursor, cell_place, ink_from, trimmed};
+use tocmark_read_lines::cell::{Columns, Cursor, cell_place, ink_from, trimmed};
 use tocmark_read_lines::html::{HtmlKind, html_ends};
 use tocmark_read_lines::line::Line;
 use tocmark_read_page::leaf::Leaf;
-use tocmark_read_page::line_start::{LineStart, Row};
+use tocmark_read_page::line_start::{LineStart, ScannedLine};
 use tocmark_read_page::page::{BlockKind, BlocksSoFar};
 use tocmark_read_page::piece::{code_piece, keeps_line};
 use tocmark_read_scan::basic::bytes_between;
@@ -32,40 +32,40 @@ fn end_html(so_far: &mut BlocksSoFar, rest: &[u8]) -> Result<(), AllocError>
 #[tactic(auto, unfolding(crate::specs::Codes::code_taken))]
 pub fn take_code(
     so_far: &mut BlocksSoFar,
-    row: &Row<'_, '_>,
+    scan: &ScannedLine<'_, '_>,
     column: usize,
 ) -> Result<(), AllocError>
     ensures { OnOk result (page so_far.new
-        ≡ code_taken row.now.text.now row.now.cells.now column row.now.line (page so_far.old)) }
+        ≡ code_taken scan.now.text.now scan.now.cells.now column scan.now.line (page so_far.old)) }
 {
-    let code = code_piece(row.cells, column, row.line);
-    let keeps = keeps_line(row.cells, column, so_far.leaf);
-    so_far.take_piece(code, row.line, keeps)?;
-    end_html(so_far, bytes_between(row.text, code.start, code.end))
+    let code = code_piece(scan.cells, column, scan.line);
+    let keeps = keeps_line(scan.cells, column, so_far.leaf);
+    so_far.take_piece(code, scan.line, keeps)?;
+    end_html(so_far, bytes_between(scan.text, code.start, code.end))
 }
 
 #[tactic(auto, unfolding(crate::specs::Codes::indented_started))]
 pub fn start_indented(
     so_far: &mut BlocksSoFar,
     alloc: Global,
-    row: &Row<'_, '_>,
+    scan: &ScannedLine<'_, '_>,
     place: LineStart,
     column: usize,
 ) -> Result<(), AllocError>
     ensures { OnOk result (page so_far.new
-        ≡ indented_started row.now.text.now row.now.cells.now row.now.line place column
+        ≡ indented_started scan.now.text.now scan.now.cells.now scan.now.line place column
         (page so_far.old)) }
 {
-    so_far.close_to(alloc, row.text, place.depth)?;
-    let start = cell_place(row.cells, column, row.line.end);
-    so_far.open_leaf(Leaf::Indented, BlockKind::Indented, start, row.line)?;
-    take_code(so_far, row, column)
+    so_far.close_to(alloc, scan.text, place.depth)?;
+    let start = cell_place(scan.cells, column, scan.line.end);
+    so_far.open_leaf(Leaf::Indented, BlockKind::Indented, start, scan.line)?;
+    take_code(so_far, scan, column)
 }
 
 /// The fenced code block that a fence opens, with the range of its info string: the rest of the line without the
 /// spaces round it.
 #[tactic(auto, unfolding(crate::specs::Codes::info_of))]
-fn info_of(cells: &Cells, cursor: Cursor, fence: Fence, line: Line) -> BlockKind
+fn info_of(cells: &Columns, cursor: Cursor, fence: Fence, line: Line) -> BlockKind
     ensures { result ≡ info_of cells.now cursor fence line }
 {
     let from = ink_from(cells, cursor.ink.saturating_add(fence.count));
@@ -80,34 +80,34 @@ fn info_of(cells: &Cells, cursor: Cursor, fence: Fence, line: Line) -> BlockKind
 pub fn start_fence(
     so_far: &mut BlocksSoFar,
     alloc: Global,
-    row: &Row<'_, '_>,
+    scan: &ScannedLine<'_, '_>,
     place: LineStart,
     fence: Fence,
 ) -> Result<(), AllocError>
     ensures { OnOk result (page so_far.new
-        ≡ fence_started row.now.text.now row.now.cells.now row.now.line place fence
+        ≡ fence_started scan.now.text.now scan.now.cells.now scan.now.line place fence
         (page so_far.old)) }
 {
-    so_far.close_to(alloc, row.text, place.depth)?;
-    let start = cell_place(row.cells, place.cursor.ink, row.line.end);
-    let kind = info_of(row.cells, place.cursor, fence, row.line);
-    so_far.open_leaf(Leaf::Fenced(fence), kind, start, row.line)
+    so_far.close_to(alloc, scan.text, place.depth)?;
+    let start = cell_place(scan.cells, place.cursor.ink, scan.line.end);
+    let kind = info_of(scan.cells, place.cursor, fence, scan.line);
+    so_far.open_leaf(Leaf::Fenced(fence), kind, start, scan.line)
 }
 
 #[tactic(auto, unfolding(crate::specs::Codes::html_started))]
 pub fn start_html(
     so_far: &mut BlocksSoFar,
     alloc: Global,
-    row: &Row<'_, '_>,
+    scan: &ScannedLine<'_, '_>,
     place: LineStart,
     kind: HtmlKind,
 ) -> Result<(), AllocError>
     ensures { OnOk result (page so_far.new
-        ≡ html_started row.now.text.now row.now.cells.now row.now.line place kind
+        ≡ html_started scan.now.text.now scan.now.cells.now scan.now.line place kind
         (page so_far.old)) }
 {
-    so_far.close_to(alloc, row.text, place.depth)?;
-    let start = cell_place(row.cells, place.cursor.column, row.line.end);
-    so_far.open_leaf(Leaf::Html(kind), BlockKind::Html, start, row.line)?;
-    take_code(so_far, row, place.cursor.column)
+    so_far.close_to(alloc, scan.text, place.depth)?;
+    let start = cell_place(scan.cells, place.cursor.column, scan.line.end);
+    so_far.open_leaf(Leaf::Html(kind), BlockKind::Html, start, scan.line)?;
+    take_code(so_far, scan, place.cursor.column)
 }

@@ -13,7 +13,7 @@ use tocmark_read_lines::cell::{cell_place, moved};
 use tocmark_read_lines::container::{Container, ContainerStart, ItemStart, container_in};
 use tocmark_read_lines::line::Line;
 use tocmark_read_page::leaf::is_paragraph;
-use tocmark_read_page::line_start::{LineStart, Row};
+use tocmark_read_page::line_start::{LineStart, ScannedLine};
 use tocmark_read_page::page::{BlockKind, BlocksSoFar};
 
 /// Whether the open paragraph is in the innermost container that goes on.
@@ -38,7 +38,7 @@ fn is_in_list(so_far: &BlocksSoFar, sort: u8) -> bool
             Container::Quote => false,
             Container::List(same) => same == sort,
             Container::Item(_) => false,
-            Container::Note => false,
+            Container::Footnote => false,
             Container::Definitions => false,
             Container::Definition(_) => false,
         },
@@ -67,26 +67,26 @@ fn start_list(
 fn open_item(
     so_far: &mut BlocksSoFar,
     alloc: Global,
-    row: &Row<'_, '_>,
+    scan: &ScannedLine<'_, '_>,
     place: LineStart,
     item: ItemStart,
 ) -> Result<LineStart, AllocError>
     ensures { IfOk result (λ next.
         (page so_far.new, next)
-        ≡ item_opened row.now.text.now row.now.cells.now row.now.line place item
+        ≡ item_opened scan.now.text.now scan.now.cells.now scan.now.line place item
         (page so_far.old)) }
 {
-    so_far.close_to(alloc, row.text, place.depth)?;
-    let start = cell_place(row.cells, place.cursor.ink, row.line.end);
-    start_list(so_far, item, start, row.line)?;
+    so_far.close_to(alloc, scan.text, place.depth)?;
+    let start = cell_place(scan.cells, place.cursor.ink, scan.line.end);
+    start_list(so_far, item, start, scan.line)?;
     so_far.open(
         Container::Item(item.width),
         BlockKind::Item,
         start,
-        row.line,
+        scan.line,
     )?;
     Ok(LineStart {
-        cursor: moved(row.cells, place.cursor, item.next),
+        cursor: moved(scan.cells, place.cursor, item.next),
         depth: so_far.opened.len(),
     })
 }
@@ -96,33 +96,33 @@ fn open_item(
 fn open_once(
     so_far: &mut BlocksSoFar,
     alloc: Global,
-    row: &Row<'_, '_>,
+    scan: &ScannedLine<'_, '_>,
     tail: Tail,
     place: LineStart,
 ) -> Result<Option<LineStart>, AllocError>
     ensures { IfOk result (λ next.
         (page so_far.new, next)
-        ≡ container_once_in row.now.known.syntax row.now.text.now row.now.cells.now row.now.line
+        ≡ container_once_in scan.now.known.syntax scan.now.text.now scan.now.cells.now scan.now.line
         tail place
         (page so_far.old)) }
 {
     let directly = goes_directly(so_far, place.depth);
-    match container_in(row.known.syntax, row.cells, tail, place.cursor, directly) {
+    match container_in(scan.known.syntax, scan.cells, tail, place.cursor, directly) {
         None => Ok(None),
         Some(ContainerStart::Quote) => {
-            let next = open_quote(so_far, alloc, row, place)?;
+            let next = open_quote(so_far, alloc, scan, place)?;
             Ok(Some(next))
         }
         Some(ContainerStart::Item(item)) => {
-            let next = open_item(so_far, alloc, row, place, item)?;
+            let next = open_item(so_far, alloc, scan, place, item)?;
             Ok(Some(next))
         }
-        Some(ContainerStart::Note(note)) => {
-            let next = open_note(so_far, alloc, row, place, note)?;
+        Some(ContainerStart::Footnote(note)) => {
+            let next = open_note(so_far, alloc, scan, place, note)?;
             Ok(Some(next))
         }
         Some(ContainerStart::Definition(start)) => {
-            open_definition(so_far, alloc, row, place, start)
+            open_definition(so_far, alloc, scan, place, start)
         }
     }
 }
@@ -132,19 +132,19 @@ fn open_once(
 pub fn open_all(
     so_far: &mut BlocksSoFar,
     alloc: Global,
-    row: &Row<'_, '_>,
+    scan: &ScannedLine<'_, '_>,
     tail: Tail,
     first: LineStart,
 ) -> Result<LineStart, AllocError>
     ensures { IfOk result (λ last.
         (page so_far.new, last)
-        ≡ containers_opened_in row.now.known.syntax row.now.text.now row.now.cells.now
-        row.now.line tail first
+        ≡ containers_opened_in scan.now.known.syntax scan.now.text.now scan.now.cells.now
+        scan.now.line tail first
         (page so_far.old)) }
 {
     let mut place = first;
-    for _steps_left in (0..row.cells.len()).rev() {
-        match open_once(so_far, alloc, row, tail, place)? {
+    for _steps_left in (0..scan.cells.len()).rev() {
+        match open_once(so_far, alloc, scan, tail, place)? {
             None => return Ok(place),
             Some(next) => place = next,
         }

@@ -9,7 +9,7 @@ use tocmark_read_constructs::table::row_turn;
 use tocmark_read_lines::beginnings::{
     Fence, Heading, Tail, closes_fence, fence_at, heading_at, is_rule, underline_at,
 };
-use tocmark_read_lines::cell::{Cells, Cursor, indent_of, is_blank_at};
+use tocmark_read_lines::cell::{Columns, Cursor, indent_of, is_blank_at};
 use tocmark_read_lines::html::{HtmlKind, html_kind};
 use tocmark_read_lines::line::Line;
 use tocmark_read_page::leaf::{Leaf, Table};
@@ -70,7 +70,7 @@ fn goes_past_blank(kind: HtmlKind) -> bool
 }
 
 /// What indented code does with a line: it goes on after four columns, and in blank lines.
-fn indented_turn(cells: &Cells, cursor: Cursor) -> Turn
+fn indented_turn(cells: &Columns, cursor: Cursor) -> Turn
     ensures { result ≡ indented_turn cells.now cursor }
 {
     if 4 <= indent_of(cursor) {
@@ -84,7 +84,7 @@ fn indented_turn(cells: &Cells, cursor: Cursor) -> Turn
 
 /// What the open leaf does with a line in which all containers round it go on.
 #[tactic(auto, unfolding(crate::specs::Leaves::leaf_turn))]
-pub fn leaf_turn(text: &[u8], cells: &Cells, line: Line, cursor: Cursor, leaf: Leaf) -> Turn
+pub fn leaf_turn(text: &[u8], cells: &Columns, line: Line, cursor: Cursor, leaf: Leaf) -> Turn
     ensures { result ≡ leaf_turn text.now cells.now line cursor leaf }
 {
     match leaf {
@@ -139,7 +139,7 @@ fn html_at(rest: &[u8], in_paragraph: bool) -> Option<HtmlKind>
 }
 
 #[tactic(auto, unfolding(crate::specs::Leaves::underline_in))]
-fn underline_in(cells: &Cells, column: usize, directly: bool) -> Option<HeadingLevel>
+fn underline_in(cells: &Columns, column: usize, directly: bool) -> Option<HeadingLevel>
     ensures { result ≡ underline_in cells.now column directly }
 {
     if directly {
@@ -151,7 +151,7 @@ fn underline_in(cells: &Cells, column: usize, directly: bool) -> Option<HeadingL
 
 /// A thematic break at a column of a line with this tail, or text.
 #[tactic(auto, unfolding(crate::specs::Leaves::rule_at))]
-pub fn rule_at(cells: &Cells, tail: Tail, column: usize) -> LeafStart
+pub fn rule_at(cells: &Columns, tail: Tail, column: usize) -> LeafStart
     ensures { result ≡ rule_at cells.now tail column }
 {
     if is_rule(cells, tail, column) {
@@ -164,7 +164,7 @@ pub fn rule_at(cells: &Cells, tail: Tail, column: usize) -> LeafStart
 /// What begins at a column with at most three spaces before it.
 #[tactic(auto, unfolding(crate::specs::Leaves::mark_at))]
 fn mark_at(
-    cells: &Cells,
+    cells: &Columns,
     rest: &[u8],
     tail: Tail,
     cursor: Cursor,
@@ -193,7 +193,7 @@ fn mark_at(
 /// is in the innermost container that goes on in the line.
 #[tactic(auto, unfolding(crate::specs::Leaves::leaf_at))]
 pub fn leaf_at(
-    cells: &Cells,
+    cells: &Columns,
     rest: &[u8],
     tail: Tail,
     cursor: Cursor,

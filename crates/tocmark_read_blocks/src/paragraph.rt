@@ -7,7 +7,7 @@ ghost use Rattle.tocmark_read_page.specs.Pages.{page};
 use std::alloc::{AllocError, Global};
 use tocmark_read_lines::cell::cell_place;
 use tocmark_read_page::leaf::{Leaf, is_paragraph};
-use tocmark_read_page::line_start::{LineStart, Row};
+use tocmark_read_page::line_start::{LineStart, ScannedLine};
 use tocmark_read_page::packed::set_start_at;
 use tocmark_read_page::page::{BlockKind, BlocksSoFar};
 use tocmark_read_page::piece::text_piece;
@@ -31,33 +31,33 @@ fn start_text(so_far: &mut BlocksSoFar, start: usize) -> Result<(), AllocError>
 pub fn take_text(
     so_far: &mut BlocksSoFar,
     alloc: Global,
-    row: &Row<'_, '_>,
+    scan: &ScannedLine<'_, '_>,
     place: LineStart,
 ) -> Result<(), AllocError>
     ensures { OnOk result (page so_far.new
-        ≡ text_taken row.now.text.now row.now.cells.now row.now.line place (page so_far.old)) }
+        ≡ text_taken scan.now.text.now scan.now.cells.now scan.now.line place (page so_far.old)) }
 {
-    let words = text_piece(row.cells, place.cursor, row.line);
+    let words = text_piece(scan.cells, place.cursor, scan.line);
     if !is_paragraph(so_far.leaf) {
-        so_far.close_to(alloc, row.text, place.depth)?;
-        so_far.open_leaf(Leaf::Paragraph, BlockKind::Paragraph, words.start, row.line)?;
+        so_far.close_to(alloc, scan.text, place.depth)?;
+        so_far.open_leaf(Leaf::Paragraph, BlockKind::Paragraph, words.start, scan.line)?;
     }
     start_text(so_far, words.start)?;
-    so_far.take_piece(words, row.line, true)
+    so_far.take_piece(words, scan.line, true)
 }
 
 #[tactic(auto, unfolding(crate::specs::Paragraphs::rule_started))]
 pub fn start_rule(
     so_far: &mut BlocksSoFar,
     alloc: Global,
-    row: &Row<'_, '_>,
+    scan: &ScannedLine<'_, '_>,
     place: LineStart,
 ) -> Result<(), AllocError>
     ensures { OnOk result (page so_far.new
-        ≡ rule_started row.now.text.now row.now.cells.now row.now.line place (page so_far.old)) }
+        ≡ rule_started scan.now.text.now scan.now.cells.now scan.now.line place (page so_far.old)) }
 {
-    so_far.close_to(alloc, row.text, place.depth)?;
-    let start = cell_place(row.cells, place.cursor.ink, row.line.end);
-    so_far.open_leaf(Leaf::Nothing, BlockKind::Rule, start, row.line)?;
+    so_far.close_to(alloc, scan.text, place.depth)?;
+    let start = cell_place(scan.cells, place.cursor.ink, scan.line.end);
+    so_far.open_leaf(Leaf::Nothing, BlockKind::Rule, start, scan.line)?;
     so_far.finish_leaf()
 }

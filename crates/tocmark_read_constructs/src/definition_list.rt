@@ -9,7 +9,7 @@ use tocmark_read_lines::cell::{cell_place, moved};
 use tocmark_read_lines::container::{Container, Opened};
 use tocmark_read_lines::definition_list::DefinitionStart;
 use tocmark_read_page::leaf::is_paragraph;
-use tocmark_read_page::line_start::{LineStart, Row};
+use tocmark_read_page::line_start::{LineStart, ScannedLine};
 use tocmark_read_page::packed::{PackedBlock, block_at, push_block, set_block};
 use tocmark_read_page::page::{Block, BlockKind, BlocksSoFar, LeftList, is_definitions, list_of};
 
@@ -285,23 +285,23 @@ fn enter_definitions(
 pub fn open_definition(
     so_far: &mut BlocksSoFar,
     alloc: Global,
-    row: &Row<'_, '_>,
+    scan: &ScannedLine<'_, '_>,
     place: LineStart,
     start: DefinitionStart,
 ) -> Result<Option<LineStart>, AllocError>
     ensures { IfOk result (λ next.
         (page so_far.new, next)
-        ≡ definition_opened row.now.text.now row.now.cells.now row.now.line place start
+        ≡ definition_opened scan.now.text.now scan.now.cells.now scan.now.line place start
         (page so_far.old)) }
 {
-    if !enter_definitions(so_far, alloc, row.text, place.depth)? {
+    if !enter_definitions(so_far, alloc, scan.text, place.depth)? {
         return Ok(None);
     }
-    let from = cell_place(row.cells, place.cursor.ink, row.line.end);
+    let from = cell_place(scan.cells, place.cursor.ink, scan.line.end);
     let kind = BlockKind::DefinitionListDefinition;
-    so_far.open(Container::Definition(start.width), kind, from, row.line)?;
+    so_far.open(Container::Definition(start.width), kind, from, scan.line)?;
     Ok(Some(LineStart {
-        cursor: moved(row.cells, place.cursor, start.next),
+        cursor: moved(scan.cells, place.cursor, start.next),
         depth: so_far.opened.len(),
     }))
 }

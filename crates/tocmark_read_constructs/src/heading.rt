@@ -8,10 +8,10 @@ use crate::blanks::trailing_blanks;
 use std::alloc::{AllocError, Global};
 use tocmark_event::event::HeadingLevel;
 use tocmark_read_lines::beginnings::{Heading, heading_end_before};
-use tocmark_read_lines::cell::{Cells, cell_place};
+use tocmark_read_lines::cell::{Columns, cell_place};
 use tocmark_read_lines::line::Line;
 use tocmark_read_page::leaf::Leaf;
-use tocmark_read_page::line_start::{LineStart, Row};
+use tocmark_read_page::line_start::{LineStart, ScannedLine};
 use tocmark_read_page::packed::{block_at, set_block};
 use tocmark_read_page::page::{Block, BlockKind, BlocksSoFar, Braces};
 use tocmark_read_page::piece::{Piece, heading_piece};
@@ -55,7 +55,7 @@ fn braces_in(bytes: &[u8]) -> Option<Braces>
 
 /// The braces after the text of a heading on one line, in columns from the first one of its text on.
 #[tactic(auto, unfolding(crate::specs::Headings::heading_braces))]
-fn heading_braces(cells: &Cells, heading: Heading) -> Option<Braces>
+fn heading_braces(cells: &Columns, heading: Heading) -> Option<Braces>
     ensures { result ≡ heading_braces cells.now heading }
 {
     braces_in(bytes_between(cells.bytes(), heading.from, cells.len()))
@@ -63,7 +63,7 @@ fn heading_braces(cells: &Cells, heading: Heading) -> Option<Braces>
 
 /// The heading whose text ends before braces, which are so many columns after its first one.
 #[tactic(auto, unfolding(crate::specs::Headings::before_braces))]
-fn before_braces(cells: &Cells, heading: Heading, braces: Braces) -> Heading
+fn before_braces(cells: &Columns, heading: Heading, braces: Braces) -> Heading
     ensures { result ≡ before_braces cells.now heading braces }
 {
     let to = heading_end_before(
@@ -76,7 +76,7 @@ fn before_braces(cells: &Cells, heading: Heading, braces: Braces) -> Heading
 
 /// Where the braces of a heading are in the text, whose line ends at `end`.
 #[tactic(auto, unfolding(crate::specs::Headings::placed_braces))]
-fn placed_braces(cells: &Cells, heading: Heading, end: usize, braces: Braces) -> Braces
+fn placed_braces(cells: &Columns, heading: Heading, end: usize, braces: Braces) -> Braces
     ensures { result ≡ placed_braces cells.now heading end braces }
 {
     Braces {
@@ -90,23 +90,23 @@ fn placed_braces(cells: &Cells, heading: Heading, end: usize, braces: Braces) ->
 pub fn start_heading(
     so_far: &mut BlocksSoFar,
     alloc: Global,
-    row: &Row<'_, '_>,
+    scan: &ScannedLine<'_, '_>,
     place: LineStart,
     heading: Heading,
 ) -> Result<(), AllocError>
     ensures { OnOk result (page so_far.new
-        ≡ heading_started_in row.now.known row.now.text.now row.now.cells.now row.now.line place
+        ≡ heading_started_in scan.now.known scan.now.text.now scan.now.cells.now scan.now.line place
         heading (page so_far.old)) }
 {
-    if !row.known.syntax.heading_attributes {
-        return put_heading(so_far, alloc, row, place, None, heading);
+    if !scan.known.syntax.heading_attributes {
+        return put_heading(so_far, alloc, scan, place, None, heading);
     }
-    match heading_braces(row.cells, heading) {
-        None => put_heading(so_far, alloc, row, place, None, heading),
+    match heading_braces(scan.cells, heading) {
+        None => put_heading(so_far, alloc, scan, place, None, heading),
         Some(found) => {
-            let braces = placed_braces(row.cells, heading, row.line.end, found);
-            let before = before_braces(row.cells, heading, found);
-            put_heading(so_far, alloc, row, place, Some(braces), before)
+            let braces = placed_braces(scan.cells, heading, scan.line.end, found);
+            let before = before_braces(scan.cells, heading, found);
+            put_heading(so_far, alloc, scan, place, Some(braces), before)
         }
     }
 }
@@ -115,20 +115,20 @@ pub fn start_heading(
 fn put_heading(
     so_far: &mut BlocksSoFar,
     alloc: Global,
-    row: &Row<'_, '_>,
+    scan: &ScannedLine<'_, '_>,
     place: LineStart,
     braces: Option<Braces>,
     heading: Heading,
 ) -> Result<(), AllocError>
     ensures { OnOk result (page so_far.new
-        ≡ heading_put row.now.text.now row.now.cells.now row.now.line place braces heading
+        ≡ heading_put scan.now.text.now scan.now.cells.now scan.now.line place braces heading
         (page so_far.old)) }
 {
-    so_far.close_to(alloc, row.text, place.depth)?;
-    let start = cell_place(row.cells, place.cursor.ink, row.line.end);
+    so_far.close_to(alloc, scan.text, place.depth)?;
+    let start = cell_place(scan.cells, place.cursor.ink, scan.line.end);
     let kind = BlockKind::Heading(heading.level, braces);
-    so_far.open_leaf(Leaf::Nothing, kind, start, row.line)?;
-    so_far.take_piece(heading_piece(row.cells, heading, row.line), row.line, true)?;
+    so_far.open_leaf(Leaf::Nothing, kind, start, scan.line)?;
+    so_far.take_piece(heading_piece(scan.cells, heading, scan.line), scan.line, true)?;
     so_far.finish_leaf()
 }
 
@@ -199,15 +199,15 @@ fn underline(
 #[tactic(auto, unfolding(crate::specs::Headings::underlined_in))]
 pub fn make_heading(
     so_far: &mut BlocksSoFar,
-    row: &Row<'_, '_>,
+    scan: &ScannedLine<'_, '_>,
     level: HeadingLevel,
 ) -> Result<(), AllocError>
     ensures { OnOk result (page so_far.new
-        ≡ underlined_in row.now.known row.now.text.now level row.now.line (page so_far.old)) }
+        ≡ underlined_in scan.now.known scan.now.text.now level scan.now.line (page so_far.old)) }
 {
-    if row.known.syntax.heading_attributes {
-        underline_attributed(so_far, row.text, level, row.line)
+    if scan.known.syntax.heading_attributes {
+        underline_attributed(so_far, scan.text, level, scan.line)
     } else {
-        underline(so_far, level, None, row.line)
+        underline(so_far, level, None, scan.line)
     }
 }

@@ -10,10 +10,10 @@ use crate::blanks::{behind_blanks, behind_spaces};
 use memchr::memchr2_iter;
 use std::alloc::{AllocError, Global};
 use tocmark_event::event::MetadataBlockKind;
-use tocmark_read_lines::cell::{Cells, cell_place, is_blank_at};
+use tocmark_read_lines::cell::{Columns, cell_place, is_blank_at};
 use tocmark_read_lines::line::{Line, line_ended, line_left};
 use tocmark_read_page::leaf::{Leaf, is_paragraph};
-use tocmark_read_page::line_start::{Known, LineStart, Row};
+use tocmark_read_page::line_start::{Known, LineStart, ScannedLine};
 use tocmark_read_page::page::{BlockKind, BlocksSoFar, is_list};
 use tocmark_read_scan::basic::byte_at;
 use tocmark_read_scan::syntax::Syntax;
@@ -152,21 +152,21 @@ fn begins_metadata(kind: MetadataBlockKind, end: usize, text: &[u8], line: Line)
 pub fn start_metadata(
     so_far: &mut BlocksSoFar,
     alloc: Global,
-    row: &Row<'_, '_>,
+    scan: &ScannedLine<'_, '_>,
     place: LineStart,
     kind: MetadataBlockKind,
 ) -> Result<(), AllocError>
     ensures { OnOk result (page so_far.new
-        ≡ metadata_started row.now.text.now row.now.cells.now row.now.line place kind
+        ≡ metadata_started scan.now.text.now scan.now.cells.now scan.now.line place kind
         (page so_far.old)) }
 {
-    so_far.close_to(alloc, row.text, 0)?;
-    let start = cell_place(row.cells, place.cursor.ink, row.line.end);
+    so_far.close_to(alloc, scan.text, 0)?;
+    let start = cell_place(scan.cells, place.cursor.ink, scan.line.end);
     so_far.open_leaf(
         Leaf::Metadata(kind),
         BlockKind::Metadata(kind),
         start,
-        row.line,
+        scan.line,
     )
 }
 
@@ -184,7 +184,7 @@ fn is_outside(so_far: &BlocksSoFar, depth: usize) -> bool
 
 /// Whether a place is the first byte of a line that is in no container.
 #[tactic(auto, unfolding(crate::specs::Metadata::is_front))]
-fn is_front(so_far: &BlocksSoFar, cells: &Cells, place: LineStart) -> bool
+fn is_front(so_far: &BlocksSoFar, cells: &Columns, place: LineStart) -> bool
     ensures { result ≡ is_front cells.now place (page so_far.now) }
 {
     !is_blank_at(cells, place.cursor) && place.cursor.ink == 0 && is_outside(so_far, place.depth)
@@ -194,31 +194,31 @@ fn is_front(so_far: &BlocksSoFar, cells: &Cells, place: LineStart) -> bool
 #[tactic(auto, unfolding(crate::specs::Metadata::metadata_in))]
 pub fn metadata_in(
     so_far: &BlocksSoFar,
-    row: &Row<'_, '_>,
+    scan: &ScannedLine<'_, '_>,
     place: LineStart,
     directly: bool,
 ) -> Option<MetadataBlockKind>
-    ensures { result ≡ metadata_in row.now.known row.now.text.now row.now.cells.now row.now.line
+    ensures { result ≡ metadata_in scan.now.known scan.now.text.now scan.now.cells.now scan.now.line
         place directly (page so_far.now) }
 {
     let Known {
         syntax,
         yaml_end,
         pluses_end,
-    } = row.known;
+    } = scan.known;
     let dashes = MetadataBlockKind::YamlStyle;
     let pluses = MetadataBlockKind::PlusesStyle;
     if syntax.yaml_metadata
-        && is_front(so_far, row.cells, place)
+        && is_front(so_far, scan.cells, place)
         && !directly
-        && begins_metadata(dashes, yaml_end, row.text, row.line)
+        && begins_metadata(dashes, yaml_end, scan.text, scan.line)
     {
         return Some(dashes);
     }
     if syntax.pluses_metadata
-        && is_front(so_far, row.cells, place)
+        && is_front(so_far, scan.cells, place)
         && !is_paragraph(so_far.leaf)
-        && begins_metadata(pluses, pluses_end, row.text, row.line)
+        && begins_metadata(pluses, pluses_end, scan.text, scan.line)
     {
         return Some(pluses);
     }

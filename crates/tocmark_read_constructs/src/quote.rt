@@ -7,12 +7,12 @@ ghost use Rattle.tocmark_read_page.specs.Pages.{page};
 use crate::blanks::trailing_blanks;
 use std::alloc::{AllocError, Global};
 use tocmark_event::event::BlockQuoteKind;
-use tocmark_read_lines::cell::{Cells, cell_place, indent_of, is_blank_at};
+use tocmark_read_lines::cell::{Columns, cell_place, indent_of, is_blank_at};
 use tocmark_read_lines::container::{Container, after_quote};
 use tocmark_read_lines::html::{HtmlKind, html_kind, same_word};
 use tocmark_read_lines::line::Line;
 use tocmark_read_page::leaf::Leaf;
-use tocmark_read_page::line_start::{LineStart, Row};
+use tocmark_read_page::line_start::{LineStart, ScannedLine};
 use tocmark_read_page::packed::{block_at, set_block};
 use tocmark_read_page::page::{Block, BlockKind, BlocksSoFar, is_quote};
 use tocmark_read_page::piece::code_piece;
@@ -52,19 +52,19 @@ fn quote_kind_of(line: &[u8]) -> Option<BlockQuoteKind>
 pub fn open_quote(
     so_far: &mut BlocksSoFar,
     alloc: Global,
-    row: &Row<'_, '_>,
+    scan: &ScannedLine<'_, '_>,
     place: LineStart,
 ) -> Result<LineStart, AllocError>
     ensures { IfOk result (λ next.
         (page so_far.new, next)
-        ≡ quote_opened row.now.text.now row.now.cells.now row.now.line place (page so_far.old)) }
+        ≡ quote_opened scan.now.text.now scan.now.cells.now scan.now.line place (page so_far.old)) }
 {
-    so_far.close_to(alloc, row.text, place.depth)?;
+    so_far.close_to(alloc, scan.text, place.depth)?;
     so_far.leave_list()?;
-    let start = cell_place(row.cells, place.cursor.ink, row.line.end);
-    so_far.open(Container::Quote, BlockKind::Quote(None), start, row.line)?;
+    let start = cell_place(scan.cells, place.cursor.ink, scan.line.end);
+    so_far.open(Container::Quote, BlockKind::Quote(None), start, scan.line)?;
     Ok(LineStart {
-        cursor: after_quote(row.cells, place.cursor),
+        cursor: after_quote(scan.cells, place.cursor),
         depth: so_far.opened.len(),
     })
 }
@@ -95,18 +95,18 @@ fn begins_in(so_far: &BlocksSoFar, line: Line, index: usize) -> bool
 #[tactic(auto, unfolding(crate::specs::Quotes::quote_kind_in))]
 pub fn quote_kind_in(
     so_far: &BlocksSoFar,
-    row: &Row<'_, '_>,
+    scan: &ScannedLine<'_, '_>,
     place: LineStart,
 ) -> Option<BlockQuoteKind>
-    ensures { result ≡ quote_kind_in row.now.known row.now.text.now row.now.cells.now
-        row.now.line place (page so_far.now) }
+    ensures { result ≡ quote_kind_in scan.now.known scan.now.text.now scan.now.cells.now
+        scan.now.line place (page so_far.now) }
 {
-    if row.known.syntax.quote_kinds
-        && !is_blank_at(row.cells, place.cursor)
-        && is_new_quote(so_far, row.line)
+    if scan.known.syntax.quote_kinds
+        && !is_blank_at(scan.cells, place.cursor)
+        && is_new_quote(so_far, scan.line)
     {
-        let rest = code_piece(row.cells, place.cursor.column, row.line);
-        quote_kind_of(bytes_between(row.text, rest.start, row.line.end))
+        let rest = code_piece(scan.cells, place.cursor.column, scan.line);
+        quote_kind_of(bytes_between(scan.text, rest.start, scan.line.end))
     } else {
         None
     }
@@ -114,7 +114,7 @@ pub fn quote_kind_in(
 
 /// Whether a line is the first one of an open paragraph that has none yet.
 #[tactic(auto, unfolding(crate::specs::Quotes::is_first_line))]
-fn is_first_line(so_far: &BlocksSoFar, cells: &Cells, place: LineStart, directly: bool) -> bool
+fn is_first_line(so_far: &BlocksSoFar, cells: &Columns, place: LineStart, directly: bool) -> bool
     ensures { result ≡ is_first_line cells.now place directly (page so_far.now) }
 {
     !is_blank_at(cells, place.cursor)
@@ -125,13 +125,13 @@ fn is_first_line(so_far: &BlocksSoFar, cells: &Cells, place: LineStart, directly
 
 /// Whether a tag alone on its line is after a quote's kind, whose paragraph has no line yet.
 #[tactic(auto, unfolding(crate::specs::Quotes::tag_in))]
-pub fn tag_in(so_far: &BlocksSoFar, row: &Row<'_, '_>, place: LineStart, directly: bool) -> bool
-    ensures { result ≡ tag_in row.now.known row.now.text.now row.now.cells.now row.now.line
+pub fn tag_in(so_far: &BlocksSoFar, scan: &ScannedLine<'_, '_>, place: LineStart, directly: bool) -> bool
+    ensures { result ≡ tag_in scan.now.known scan.now.text.now scan.now.cells.now scan.now.line
         place directly (page so_far.now) }
 {
-    if row.known.syntax.quote_kinds && is_first_line(so_far, row.cells, place, directly) {
-        let start = cell_place(row.cells, place.cursor.ink, row.line.end);
-        is_alone(html_kind(bytes_between(row.text, start, row.line.end)))
+    if scan.known.syntax.quote_kinds && is_first_line(so_far, scan.cells, place, directly) {
+        let start = cell_place(scan.cells, place.cursor.ink, scan.line.end);
+        is_alone(html_kind(bytes_between(scan.text, start, scan.line.end)))
     } else {
         false
     }
@@ -141,20 +141,20 @@ pub fn tag_in(so_far: &BlocksSoFar, row: &Row<'_, '_>, place: LineStart, directl
 #[tactic(auto, unfolding(crate::specs::Quotes::quote_kind_started))]
 pub fn start_quote_kind(
     so_far: &mut BlocksSoFar,
-    row: &Row<'_, '_>,
+    scan: &ScannedLine<'_, '_>,
     place: LineStart,
     kind: BlockQuoteKind,
 ) -> Result<(), AllocError>
     ensures { OnOk result (page so_far.new
-        ≡ quote_kind_started row.now.cells.now row.now.line place kind (page so_far.old)) }
+        ≡ quote_kind_started scan.now.cells.now scan.now.line place kind (page so_far.old)) }
 {
     let index = so_far.blocks.len().saturating_sub(1);
     if let Some(block) = block_at(&so_far.blocks, index) {
         let kind = BlockKind::Quote(Some(kind));
         set_block(&mut so_far.blocks, index, Block { kind, ..block })?;
     }
-    let start = cell_place(row.cells, place.cursor.ink, row.line.end);
-    so_far.open_leaf(Leaf::Paragraph, BlockKind::Paragraph, start, row.line)
+    let start = cell_place(scan.cells, place.cursor.ink, scan.line.end);
+    so_far.open_leaf(Leaf::Paragraph, BlockKind::Paragraph, start, scan.line)
 }
 
 /// Whether a line begins HTML with a tag alone.

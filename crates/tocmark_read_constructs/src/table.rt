@@ -11,12 +11,12 @@ use std::alloc::{AllocError, Global};
 use tocmark_event::event::Alignment;
 use tocmark_read_lines::beginnings::{Tail, fence_at, heading_at, is_rule, marker_at, tail_of};
 use tocmark_read_lines::cell::{
-    Cells, Cursor, cell_byte, cell_place, indent_of, ink_from, is_blank_at,
+    Columns, Cursor, cell_byte, cell_place, indent_of, ink_from, is_blank_at,
 };
 use tocmark_read_lines::html::{HtmlKind, html_kind};
 use tocmark_read_lines::line::Line;
 use tocmark_read_page::leaf::{Leaf, Table};
-use tocmark_read_page::line_start::{LineStart, Row};
+use tocmark_read_page::line_start::{LineStart, ScannedLine};
 use tocmark_read_page::packed::{block_at, push_block, set_block};
 use tocmark_read_page::page::{Block, BlockKind, BlocksSoFar, HeaderLine};
 use tocmark_read_page::piece::Piece;
@@ -316,7 +316,7 @@ fn begins_named_html(row: &[u8]) -> bool
 /// Whether the line at a cursor is no row of a table that is before it: a quote, a heading, a fence, a
 /// rule, an item, HTML or nothing but a bar. `row` are its bytes after its spaces.
 #[tactic(auto, unfolding(crate::specs::Tables::ends_table))]
-fn ends_table(cells: &Cells, tail: Tail, cursor: Cursor, row: &[u8]) -> bool
+fn ends_table(cells: &Columns, tail: Tail, cursor: Cursor, row: &[u8]) -> bool
     ensures { result ≡ ends_table cells.now tail cursor row.now }
 {
     let byte = cell_byte(cells, cursor.ink);
@@ -329,14 +329,14 @@ fn ends_table(cells: &Cells, tail: Tail, cursor: Cursor, row: &[u8]) -> bool
 }
 
 /// The place of a line's first byte that is no space.
-fn ink_of(cells: &Cells, line: Line, cursor: Cursor) -> usize
+fn ink_of(cells: &Columns, line: Line, cursor: Cursor) -> usize
     ensures { result ≡ ink_of cells.now line cursor }
 {
     cell_place(cells, cursor.ink, line.end)
 }
 
 /// A line without the spaces in front of it.
-fn row_of<'t>(text: &'t [u8], cells: &Cells, line: Line, cursor: Cursor) -> &'t [u8]
+fn row_of<'t>(text: &'t [u8], cells: &Columns, line: Line, cursor: Cursor) -> &'t [u8]
     ensures { result.now ≡ row_of text.now cells.now line cursor }
 {
     bytes_between(text, ink_of(cells, line, cursor), line.end)
@@ -344,7 +344,7 @@ fn row_of<'t>(text: &'t [u8], cells: &Cells, line: Line, cursor: Cursor) -> &'t 
 
 /// What a line may be as a header; `lazy` says that it went on with a paragraph lazily.
 #[tactic(auto, unfolding(crate::specs::Tables::header_of))]
-pub fn header_of(cells: &Cells, cursor: Cursor, lazy: bool) -> HeaderLine
+pub fn header_of(cells: &Columns, cursor: Cursor, lazy: bool) -> HeaderLine
     ensures { result ≡ header_of cells.now cursor lazy }
 {
     if lazy {
@@ -375,7 +375,7 @@ fn lengthened(table: Table, count: usize) -> Option<Table>
 #[tactic(auto, unfolding(crate::specs::Tables::row_turn))]
 pub fn row_turn(
     text: &[u8],
-    cells: &Cells,
+    cells: &Columns,
     line: Line,
     cursor: Cursor,
     table: Table,
@@ -505,18 +505,18 @@ fn reach(so_far: &mut BlocksSoFar, table: Table, line: Line)
 #[tactic(auto, unfolding(crate::specs::Tables::row_taken))]
 pub fn take_row(
     so_far: &mut BlocksSoFar,
-    row: &Row<'_, '_>,
+    scan: &ScannedLine<'_, '_>,
     place: LineStart,
     table: Table,
 ) -> Result<(), AllocError>
     ensures { OnOk result (page so_far.new
-        ≡ row_taken row.now.text.now row.now.cells.now row.now.line place.cursor table
+        ≡ row_taken scan.now.text.now scan.now.cells.now scan.now.line place.cursor table
         (page so_far.old)) }
 {
-    reach(so_far, table, row.line);
-    let start = ink_of(row.cells, row.line, place.cursor);
+    reach(so_far, table, scan.line);
+    let start = ink_of(scan.cells, scan.line, place.cursor);
     let kind = BlockKind::TableRow;
-    put_row(so_far, row.text, kind, table.columns, start, row.line.end)
+    put_row(so_far, scan.text, kind, table.columns, start, scan.line.end)
 }
 
 /// Whether the last line of the open paragraph is its only one.
@@ -554,16 +554,16 @@ fn fits_columns(so_far: &BlocksSoFar, text: &[u8], columns: usize) -> bool
 
 /// Whether a line can be a delimiter row where it is.
 #[tactic(auto, unfolding(crate::specs::Tables::may_delimit))]
-fn may_delimit(so_far: &BlocksSoFar, row: &Row<'_, '_>, cursor: Cursor, directly: bool) -> bool
+fn may_delimit(so_far: &BlocksSoFar, scan: &ScannedLine<'_, '_>, cursor: Cursor, directly: bool) -> bool
     ensures { result
-        ≡ may_delimit row.now.text.now row.now.cells.now row.now.line cursor directly
+        ≡ may_delimit scan.now.text.now scan.now.cells.now scan.now.line cursor directly
         (page so_far.now) }
 {
     directly
-        && !is_blank_at(row.cells, cursor)
+        && !is_blank_at(scan.cells, cursor)
         && indent_of(cursor) < 4
         && may_have_header(so_far)
-        && is_delimiter_row(row_of(row.text, row.cells, row.line, cursor))
+        && is_delimiter_row(row_of(scan.text, scan.cells, scan.line, cursor))
 }
 
 /// Takes the definitions at the front of the open paragraph, if they weren't looked for in it before.
@@ -708,18 +708,18 @@ fn delimit(
 pub fn take_delimiters(
     so_far: &mut BlocksSoFar,
     alloc: Global,
-    row: &Row<'_, '_>,
+    scan: &ScannedLine<'_, '_>,
     cursor: Cursor,
     directly: bool,
 ) -> Result<bool, AllocError>
     ensures { IfOk result (λ taken.
         (page so_far.new, taken)
-        ≡ delimiters_taken row.now.text.now row.now.cells.now row.now.line cursor directly
+        ≡ delimiters_taken scan.now.text.now scan.now.cells.now scan.now.line cursor directly
         (page so_far.old)) }
 {
-    if may_delimit(so_far, row, cursor, directly) {
-        let start = ink_of(row.cells, row.line, cursor);
-        delimit(so_far, alloc, row.text, row.line, start)
+    if may_delimit(so_far, scan, cursor, directly) {
+        let start = ink_of(scan.cells, scan.line, cursor);
+        delimit(so_far, alloc, scan.text, scan.line, start)
     } else {
         Ok(false)
     }

@@ -10,7 +10,7 @@ use tocmark_read_lines::cell::{cell_place, indent_of, is_blank_at};
 use tocmark_read_lines::container::is_empty_item;
 use tocmark_read_lines::line::Line;
 use tocmark_read_page::leaf::Leaf;
-use tocmark_read_page::line_start::{LineStart, Row};
+use tocmark_read_page::line_start::{LineStart, ScannedLine};
 use tocmark_read_page::packed::{block_at, set_block};
 use tocmark_read_page::page::{Block, BlockKind, BlocksSoFar, Task};
 use tocmark_read_page::piece::Piece;
@@ -84,17 +84,17 @@ fn is_new_item(so_far: &BlocksSoFar, line: Line, depth: usize) -> bool
 
 /// The box just after the marker of an item, true where it is checked.
 #[tactic(auto, unfolding(crate::specs::Tasks::task_in))]
-pub fn task_in(so_far: &BlocksSoFar, row: &Row<'_, '_>, place: LineStart) -> Option<bool>
-    ensures { result ≡ task_in row.now.known row.now.text.now row.now.cells.now row.now.line
+pub fn task_in(so_far: &BlocksSoFar, scan: &ScannedLine<'_, '_>, place: LineStart) -> Option<bool>
+    ensures { result ≡ task_in scan.now.known scan.now.text.now scan.now.cells.now scan.now.line
         place (page so_far.now) }
 {
-    if row.known.syntax.task_lists
-        && !is_blank_at(row.cells, place.cursor)
+    if scan.known.syntax.task_lists
+        && !is_blank_at(scan.cells, place.cursor)
         && indent_of(place.cursor) == 0
-        && is_new_item(so_far, row.line, place.depth)
+        && is_new_item(so_far, scan.line, place.depth)
     {
-        let start = cell_place(row.cells, place.cursor.ink, row.line.end);
-        box_at(row.text, row.line, start)
+        let start = cell_place(scan.cells, place.cursor.ink, scan.line.end);
+        box_at(scan.text, scan.line, start)
     } else {
         None
     }
@@ -118,26 +118,26 @@ fn set_task(so_far: &mut BlocksSoFar, done: bool, start: usize) -> Result<(), Al
 fn take_boxed(
     so_far: &mut BlocksSoFar,
     alloc: Global,
-    row: &Row<'_, '_>,
+    scan: &ScannedLine<'_, '_>,
     place: LineStart,
     task: Task,
     behind: usize,
 ) -> Result<(), AllocError>
     ensures { OnOk result (page so_far.new
-        ≡ boxed_taken row.now.text.now row.now.line place task.done task.start behind
+        ≡ boxed_taken scan.now.text.now scan.now.line place task.done task.start behind
         (page so_far.old)) }
 {
-    so_far.close_to(alloc, row.text, place.depth)?;
-    so_far.open_leaf(Leaf::Paragraph, BlockKind::Paragraph, task.start, row.line)?;
+    so_far.close_to(alloc, scan.text, place.depth)?;
+    so_far.open_leaf(Leaf::Paragraph, BlockKind::Paragraph, task.start, scan.line)?;
     set_task(so_far, task.done, task.start)?;
     let words = Piece {
         spaces: 0,
         from: behind,
         start: behind,
-        end: row.line.end,
-        next: row.line.next,
+        end: scan.line.end,
+        next: scan.line.next,
     };
-    so_far.take_piece(words, row.line, true)
+    so_far.take_piece(words, scan.line, true)
 }
 
 /// Takes a box: of the item where it is all of its line, and else of the paragraph after it.
@@ -145,18 +145,18 @@ fn take_boxed(
 pub fn start_task(
     so_far: &mut BlocksSoFar,
     alloc: Global,
-    row: &Row<'_, '_>,
+    scan: &ScannedLine<'_, '_>,
     place: LineStart,
     done: bool,
 ) -> Result<(), AllocError>
     ensures { OnOk result (page so_far.new
-        ≡ task_started row.now.text.now row.now.cells.now row.now.line place done
+        ≡ task_started scan.now.text.now scan.now.cells.now scan.now.line place done
         (page so_far.old)) }
 {
-    let start = cell_place(row.cells, place.cursor.ink, row.line.end);
-    let behind = behind_blanks(row.text, start.saturating_add(3));
-    if behind < row.line.end {
-        return take_boxed(so_far, alloc, row, place, Task { done, start }, behind);
+    let start = cell_place(scan.cells, place.cursor.ink, scan.line.end);
+    let behind = behind_blanks(scan.text, start.saturating_add(3));
+    if behind < scan.line.end {
+        return take_boxed(so_far, alloc, scan, place, Task { done, start }, behind);
     }
     set_task(so_far, done, start)
 }

@@ -25,10 +25,10 @@ use Rattle.tocmark_read_spans.specs.Run.{run_at, tildes_at}
 use Rattle.tocmark_read_spans.specs.Math.{partners, math_at}
 use Rattle.tocmark_read_spans.specs.Emphasis.{emphasized}
 use Rattle.tocmark_read_spans.specs.Link.{inline_target, label_asked}
-use Rattle.tocmark_read_spans.specs.Notes.{note_key, label_sought}
+use Rattle.tocmark_read_spans.specs.Footnotes.{note_key, label_sought}
 use Rattle.tocmark_read_tokens.specs.declared.word.Word.{Word}
-use Rattle.tocmark_read_spans.specs.declared.note.Sought.{Sought}
-use Rattle.tocmark_read_spans.specs.declared.note.Sought.TheVariants as sought_as
+use Rattle.tocmark_read_spans.specs.declared.footnote.Sought.{Sought}
+use Rattle.tocmark_read_spans.specs.declared.footnote.Sought.TheVariants as sought_as
 use Rattle.tocmark_read_spans.specs.declared.definitions.Entry.{Entry}
 use Rattle.tocmark_read_spans.specs.declared.math.Math.{Math}
 use Rattle.tocmark_read_spans.specs.declared.link.Bracket.{Bracket}
@@ -352,7 +352,7 @@ closed_by_label bytes definitions b s = closed_asked bytes definitions b s (labe
 -- a reference to a footnote in place of a bracket and its text; no bracket before it begins anything any more
 unfoldable pub noted : Bracket → Stretch → State → State
 noted b name s = record s {
-  roles = slice_set s.roles (b.inner - 1) (Single (leaf.Note name) (plus s.place 1));
+  roles = slice_set s.roles (b.inner - 1) (Single (leaf.Footnote name) (plus s.place 1));
   runs = take b.runs s.runs;
   brackets = [];
   inactive = 0;
@@ -373,7 +373,7 @@ note_looked_up bytes definitions b w s =
 abbrev pub closed_sought : List ℕ → (List ℕ → Option Entry) → Bracket → State → Option Sought → State
 closed_sought bytes definitions b s None = s
 closed_sought bytes definitions b s (Some (sought_as.Label asked)) = looked_up bytes definitions b asked s
-closed_sought bytes definitions b s (Some (sought_as.Note w)) = note_looked_up bytes definitions b w s
+closed_sought bytes definitions b s (Some (sought_as.Footnote w)) = note_looked_up bytes definitions b w s
 
 -- a bracket without parentheses after it is closed, where footnotes are read
 unfoldable pub closed_by_sought : List ℕ → (List ℕ → Option Entry) → Bracket → State → State

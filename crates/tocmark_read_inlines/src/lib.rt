@@ -13,7 +13,7 @@ mod delimiters;
 pub mod inlines;
 mod leaves;
 mod marks;
-mod note;
+mod footnote;
 mod scan;
 mod texts;
 pub mod write;

@@ -6,7 +6,7 @@ use Rattle.tocmark_read_scan.specs.Basic.{plus}
 use Rattle.tocmark_read_lines.specs.Cells.{cell_byte, first_cursor, indent_of, ink_from, is_blank_at, moved}
 use Rattle.tocmark_read_lines.specs.Marks.{is_rule, marker_at}
 use Rattle.tocmark_read_lines.specs.DefinitionLists.{definition_start}
-use Rattle.tocmark_read_lines.specs.Notes.{note_start}
+use Rattle.tocmark_read_lines.specs.Footnotes.{note_start}
 use Rattle.tocmark_read_scan.specs.declared.syntax.Syntax.{Syntax}
 use Rattle.tocmark_read_lines.specs.declared.cell.Cell.{Cell}
 use Rattle.tocmark_read_lines.specs.declared.cell.Cursor.{Cursor}
@@ -17,7 +17,7 @@ use Rattle.tocmark_read_lines.specs.declared.container.Container.TheVariants as 
 use Rattle.tocmark_read_lines.specs.declared.container.Opened.{Opened}
 use Rattle.tocmark_read_lines.specs.declared.container.ItemStart.{ItemStart}
 use Rattle.tocmark_read_lines.specs.declared.definition_list.DefinitionStart.{DefinitionStart}
-use Rattle.tocmark_read_lines.specs.declared.note.NoteStart.{NoteStart}
+use Rattle.tocmark_read_lines.specs.declared.footnote.FootnoteStart.{FootnoteStart}
 use Rattle.tocmark_read_lines.specs.declared.container.ContainerStart.{ContainerStart}
 use Rattle.tocmark_read_lines.specs.declared.container.ContainerStart.TheVariants as start
 
@@ -48,7 +48,7 @@ going_on_as container.Quote cells cursor had =
     if nat_le (indent_of cursor) 3 && (cell_byte cells cursor.ink == 62) then Some (after_quote cells cursor) else None
 going_on_as (container.List sort) cells cursor had = Some cursor
 going_on_as (container.Item width) cells cursor had = item_goes_on cells cursor width had
-going_on_as container.Note cells cursor had = item_goes_on cells cursor 4 true
+going_on_as container.Footnote cells cursor had = item_goes_on cells cursor 4 true
 going_on_as container.Definitions cells cursor had = Some cursor
 going_on_as (container.Definition width) cells cursor had = item_goes_on cells cursor width had
 
@@ -61,7 +61,7 @@ abbrev pub is_empty_item_as : Container → Bool → Bool
 is_empty_item_as container.Quote had = false
 is_empty_item_as (container.List sort) had = false
 is_empty_item_as (container.Item width) had = not had
-is_empty_item_as container.Note had = false
+is_empty_item_as container.Footnote had = false
 is_empty_item_as container.Definitions had = false
 is_empty_item_as (container.Definition width) had = false
 
@@ -74,7 +74,7 @@ abbrev pub is_empty_as : Container → Bool → Bool
 is_empty_as container.Quote had = false
 is_empty_as (container.List sort) had = false
 is_empty_as (container.Item width) had = not had
-is_empty_as container.Note had = false
+is_empty_as container.Footnote had = false
 is_empty_as container.Definitions had = false
 is_empty_as (container.Definition width) had = not had
 
@@ -159,9 +159,9 @@ container_at cells tail cursor in_paragraph =
     else option_map (λ i. start.Item i) (item_at cells cursor in_paragraph)))
 
 -- the definition of a footnote, or what else begins there
-abbrev pub note_or : Option NoteStart → Option ContainerStart → Option ContainerStart
+abbrev pub note_or : Option FootnoteStart → Option ContainerStart → Option ContainerStart
 note_or None other = other
-note_or (Some n) other = Some (start.Note n)
+note_or (Some n) other = Some (start.Footnote n)
 
 -- a definition, or what else begins there
 abbrev pub definition_or : Option DefinitionStart → Option ContainerStart → Option ContainerStart

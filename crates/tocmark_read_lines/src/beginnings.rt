@@ -5,7 +5,7 @@ ghost use Rattle.std.specs.Prelude.{◌≡◌, ◌==◌, ◌||◌, length, rever
 ghost use Rattle.tocmark_read_lines.specs.Marks.{level_of, is_behind, heading_end_before, heading_at, is_fence_byte, fence_at, closes_fence, tail_length, tail_of, is_rule_byte, is_rule, is_underline_byte, underline_at, digit_count, number_step, number_of, bullet_at, ordered_at, marker_at};
 
 use crate::cell::{
-    Cells, Cursor, cell_byte, count_of, indent_of, ink_from, run_of, trailing, trimmed,
+    Columns, Cursor, cell_byte, count_of, indent_of, ink_from, run_of, trailing, trimmed,
 };
 use tocmark_event::event::HeadingLevel;
 use tocmark_read_scan::basic::{bytes_between, rest};
@@ -69,7 +69,7 @@ fn level_of(marks: usize) -> Option<HeadingLevel>
 
 /// Whether a space or the end of the line is at a column.
 #[tactic(auto, unfolding(crate::specs::Marks::is_behind))]
-fn is_behind(cells: &Cells, column: usize) -> bool
+fn is_behind(cells: &Columns, column: usize) -> bool
     ensures { result ≡ is_behind cells.now column }
 {
     cells.len() <= column || cell_byte(cells, column) == b' '
@@ -78,7 +78,7 @@ fn is_behind(cells: &Cells, column: usize) -> bool
 /// The end of a heading's text, which ends before a column at the latest: spaces at its end don't count,
 /// nor do `#` with a space before them.
 #[tactic(auto, unfolding(crate::specs::Marks::heading_end_before))]
-pub fn heading_end_before(cells: &Cells, from: usize, limit: usize) -> usize
+pub fn heading_end_before(cells: &Columns, from: usize, limit: usize) -> usize
     ensures { result ≡ heading_end_before cells.now from limit }
 {
     let whole = trimmed(cells, from, limit, b' ');
@@ -93,7 +93,7 @@ pub fn heading_end_before(cells: &Cells, from: usize, limit: usize) -> usize
 
 /// The heading whose `#` are at a column.
 #[tactic(auto, unfolding(crate::specs::Marks::heading_at))]
-pub fn heading_at(cells: &Cells, column: usize) -> Option<Heading>
+pub fn heading_at(cells: &Columns, column: usize) -> Option<Heading>
     ensures { result ≡ heading_at cells.now column }
 {
     let behind = column.saturating_add(run_of(cells, column, b'#'));
@@ -118,7 +118,7 @@ fn is_fence_byte(byte: u8) -> bool
 
 /// The fence at a cursor that opens a code block. After backticks is none on its line.
 #[tactic(auto, unfolding(crate::specs::Marks::fence_at))]
-pub fn fence_at(cells: &Cells, cursor: Cursor) -> Option<Fence>
+pub fn fence_at(cells: &Columns, cursor: Cursor) -> Option<Fence>
     ensures { result ≡ fence_at cells.now cursor }
 {
     let byte = cell_byte(cells, cursor.ink);
@@ -141,7 +141,7 @@ pub fn fence_at(cells: &Cells, cursor: Cursor) -> Option<Fence>
 
 /// Whether the line at a cursor closes the code block of a fence.
 #[tactic(auto, unfolding(crate::specs::Marks::closes_fence))]
-pub fn closes_fence(cells: &Cells, cursor: Cursor, fence: Fence) -> bool
+pub fn closes_fence(cells: &Columns, cursor: Cursor, fence: Fence) -> bool
     ensures { result ≡ closes_fence cells.now cursor fence }
 {
     let count = run_of(cells, cursor.ink, fence.byte);
@@ -160,7 +160,7 @@ fn tail_in(bytes: &[u8], byte: u8) -> usize
 }
 
 #[tactic(auto, using(crate::proofs::Columns::tail_asked))]
-fn tail_length(cells: &Cells, byte: u8) -> usize
+fn tail_length(cells: &Columns, byte: u8) -> usize
     ensures { result ≡ tail_length cells.now byte }
 {
     tail_in(cells.bytes(), byte)
@@ -168,7 +168,7 @@ fn tail_length(cells: &Cells, byte: u8) -> usize
 
 /// The tail of a line: it is looked for from the end, and no further than it goes.
 #[tactic(auto, unfolding(crate::specs::Marks::tail_of))]
-pub fn tail_of(cells: &Cells) -> Tail
+pub fn tail_of(cells: &Columns) -> Tail
     ensures { result ≡ tail_of cells.now }
 {
     let inked = cells.len().saturating_sub(trailing(cells, b' '));
@@ -188,7 +188,7 @@ fn is_rule_byte(byte: u8) -> bool
 
 /// Whether the rest of a line with this tail is a thematic break.
 #[tactic(auto, unfolding(crate::specs::Marks::is_rule))]
-pub fn is_rule(cells: &Cells, tail: Tail, column: usize) -> bool
+pub fn is_rule(cells: &Columns, tail: Tail, column: usize) -> bool
     ensures { result ≡ is_rule cells.now tail column }
 {
     let byte = cell_byte(cells, column);
@@ -205,7 +205,7 @@ fn is_underline_byte(byte: u8) -> bool
 
 /// The level of the heading whose underline is at a column.
 #[tactic(auto, unfolding(crate::specs::Marks::underline_at))]
-pub fn underline_at(cells: &Cells, column: usize) -> Option<HeadingLevel>
+pub fn underline_at(cells: &Columns, column: usize) -> Option<HeadingLevel>
     ensures { result ≡ underline_at cells.now column }
 {
     let byte = cell_byte(cells, column);
@@ -231,7 +231,7 @@ fn digits_in(bytes: &[u8]) -> usize
 }
 
 #[tactic(auto, using(crate::proofs::Columns::digits_asked))]
-fn digit_count(cells: &Cells, column: usize) -> usize
+fn digit_count(cells: &Columns, column: usize) -> usize
     ensures { result ≡ digit_count cells.now column }
 {
     digits_in(rest(cells.bytes(), column))
@@ -257,7 +257,7 @@ fn number_of(digits: &[u8]) -> u64
 }
 
 #[tactic(auto, unfolding(crate::specs::Marks::bullet_at))]
-fn bullet_at(cells: &Cells, column: usize) -> Option<Marker>
+fn bullet_at(cells: &Columns, column: usize) -> Option<Marker>
     ensures { result ≡ bullet_at cells.now column }
 {
     let byte = cell_byte(cells, column);
@@ -275,7 +275,7 @@ fn bullet_at(cells: &Cells, column: usize) -> Option<Marker>
 
 /// One to nine digits, and `.` or `)`.
 #[tactic(auto, unfolding(crate::specs::Marks::ordered_at))]
-fn ordered_at(cells: &Cells, column: usize) -> Option<Marker>
+fn ordered_at(cells: &Columns, column: usize) -> Option<Marker>
     ensures { result ≡ ordered_at cells.now column }
 {
     let count = digit_count(cells, column);
@@ -296,7 +296,7 @@ fn ordered_at(cells: &Cells, column: usize) -> Option<Marker>
 
 /// The marker of a list item at a column.
 #[tactic(auto, unfolding(crate::specs::Marks::marker_at))]
-pub fn marker_at(cells: &Cells, column: usize) -> Option<Marker>
+pub fn marker_at(cells: &Columns, column: usize) -> Option<Marker>
     ensures { result ≡ marker_at cells.now column }
 {
     match bullet_at(cells, column) {

@@ -25,7 +25,7 @@ pub struct Cell {
 /// The columns of a line: their bytes and, if the line has tabs, the columns with their places. Without
 /// tabs its bytes are one after the other from `start` on. A line is written over the one before.
 #[derive(Drop)]
-pub struct Cells {
+pub struct Columns {
     bytes: Vec<u8>,
     start: usize,
     tabbed: Vec<Cell>,
@@ -88,18 +88,18 @@ fn write_bytes(bytes: &mut Vec<u8>, cells: &[Cell]) -> Result<(), AllocError>
     Ok(())
 }
 
-impl Model for Cells {
+impl Model for Columns {
     ghost Value = { List Cell };
 
     ghost view = { λ c. cells_at c.start (places_of c.tabbed.items) c.bytes.items };
 }
 
-impl Cells {
+impl Columns {
     /// No columns.
-    pub fn new(alloc: Global) -> Cells
+    pub fn new(alloc: Global) -> Columns
         ensures { result ≡ [] }
     {
-        Cells {
+        Columns {
             bytes: Vec::new(alloc),
             start: 0,
             tabbed: Vec::new(alloc),
@@ -218,14 +218,14 @@ fn place_of(bytes: &[u8], tabbed: &[Cell], start: usize, column: usize, end: usi
 
 /// The byte of a column; a line feed after the last one.
 #[tactic(auto, using(crate::proofs::Columns::byte_asked))]
-pub fn cell_byte(cells: &Cells, column: usize) -> u8
+pub fn cell_byte(cells: &Columns, column: usize) -> u8
     ensures { result ≡ cell_byte cells.now column }
 {
     byte_at(cells.bytes(), column)
 }
 
 /// The place of a column in the text, in bytes; `end` after the last one.
-pub fn cell_place(cells: &Cells, column: usize, end: usize) -> usize
+pub fn cell_place(cells: &Columns, column: usize, end: usize) -> usize
     ensures { result ≡ cell_place cells.now column end }
 {
     cells.place(column, end)
@@ -239,7 +239,7 @@ fn run_in(bytes: &[u8], byte: u8) -> usize
 
 /// The number of columns from one on that have this byte, one after the other.
 #[tactic(auto, using(crate::proofs::Columns::run_asked))]
-pub fn run_of(cells: &Cells, column: usize, byte: u8) -> usize
+pub fn run_of(cells: &Columns, column: usize, byte: u8) -> usize
     ensures { result ≡ run_of cells.now column byte }
 {
     run_in(rest(cells.bytes(), column), byte)
@@ -253,14 +253,14 @@ fn count_in(bytes: &[u8], byte: u8) -> usize
 
 /// The number of columns from one on that have this byte.
 #[tactic(auto, using(crate::proofs::Columns::count_asked))]
-pub fn count_of(cells: &Cells, column: usize, byte: u8) -> usize
+pub fn count_of(cells: &Columns, column: usize, byte: u8) -> usize
     ensures { result ≡ count_of cells.now column byte }
 {
     count_in(rest(cells.bytes(), column), byte)
 }
 
 /// The first column from one on that is no space.
-pub fn ink_from(cells: &Cells, column: usize) -> usize
+pub fn ink_from(cells: &Columns, column: usize) -> usize
     ensures { result ≡ ink_from cells.now column }
 {
     column.saturating_add(run_of(cells, column, b' '))
@@ -278,14 +278,14 @@ fn trailing_in(bytes: &[u8], byte: u8) -> usize
 
 /// The number of columns at the end of a line that have this byte.
 #[tactic(auto, using(crate::proofs::Columns::trailing_asked))]
-pub fn trailing(cells: &Cells, byte: u8) -> usize
+pub fn trailing(cells: &Columns, byte: u8) -> usize
     ensures { result ≡ trailing cells.now byte }
 {
     trailing_in(cells.bytes(), byte)
 }
 
 /// The end of the columns from `from` to before `to`, without those of this byte at their end.
-pub fn trimmed(cells: &Cells, from: usize, to: usize, byte: u8) -> usize
+pub fn trimmed(cells: &Columns, from: usize, to: usize, byte: u8) -> usize
     ensures { result ≡ trimmed cells.now from to byte }
 {
     to.saturating_sub(trailing_in(bytes_between(cells.bytes(), from, to), byte))
@@ -293,7 +293,7 @@ pub fn trimmed(cells: &Cells, from: usize, to: usize, byte: u8) -> usize
 
 /// The start of a line.
 #[tactic(auto, unfolding(crate::specs::Cells::first_cursor))]
-pub fn first_cursor(cells: &Cells) -> Cursor
+pub fn first_cursor(cells: &Columns) -> Cursor
     ensures { result ≡ first_cursor cells.now }
 {
     Cursor {
@@ -304,7 +304,7 @@ pub fn first_cursor(cells: &Cells) -> Cursor
 
 /// The cursor at a column that isn't before this cursor.
 #[tactic(auto, unfolding(crate::specs::Cells::moved))]
-pub fn moved(cells: &Cells, cursor: Cursor, column: usize) -> Cursor
+pub fn moved(cells: &Columns, cursor: Cursor, column: usize) -> Cursor
     ensures { result ≡ moved cells.now cursor column }
 {
     let ink = if column <= cursor.ink {
@@ -323,7 +323,7 @@ pub fn indent_of(cursor: Cursor) -> usize
 }
 
 /// Whether nothing but spaces is at a cursor and after it.
-pub fn is_blank_at(cells: &Cells, cursor: Cursor) -> bool
+pub fn is_blank_at(cells: &Columns, cursor: Cursor) -> bool
     ensures { result ≡ is_blank_at cells.now cursor }
 {
     cells.len() <= cursor.ink

@@ -5,10 +5,10 @@ ghost use Rattle.tocmark_read_lines.specs.Containers.{raised_at, after_quote, it
 
 use crate::beginnings::{Marker, Tail, is_rule, marker_at};
 use crate::cell::{
-    Cells, Cursor, cell_byte, first_cursor, indent_of, ink_from, is_blank_at, moved,
+    Columns, Cursor, cell_byte, first_cursor, indent_of, ink_from, is_blank_at, moved,
 };
 use crate::definition_list::{DefinitionStart, definition_start};
-use crate::note::{NoteStart, note_start};
+use crate::footnote::{FootnoteStart, note_start};
 use tocmark_read_scan::syntax::Syntax;
 
 /// What other blocks are in.
@@ -21,7 +21,7 @@ pub enum Container {
     /// An item with the number of columns that its lines are indented by.
     Item(usize),
     /// The definition of a footnote, whose lines are indented by four columns.
-    Note,
+    Footnote,
     /// A list of definitions with their titles.
     Definitions,
     /// A definition with the number of columns that its lines are indented by.
@@ -64,7 +64,7 @@ pub enum ContainerStart {
     /// An item of a list.
     Item(ItemStart),
     /// The definition of a footnote.
-    Note(NoteStart),
+    Footnote(FootnoteStart),
     /// A definition, if a title or a definition is before it.
     Definition(DefinitionStart),
 }
@@ -83,7 +83,7 @@ pub fn raise_at(opened: &mut Vec<Opened>, place: usize, end: usize, line: usize)
 
 /// The cursor after the `>` of a quote and the space after it.
 #[tactic(auto, unfolding(crate::specs::Containers::after_quote))]
-pub fn after_quote(cells: &Cells, cursor: Cursor) -> Cursor
+pub fn after_quote(cells: &Columns, cursor: Cursor) -> Cursor
     ensures { result ≡ after_quote cells.now cursor }
 {
     let behind = cursor.ink.saturating_add(1);
@@ -95,7 +95,7 @@ pub fn after_quote(cells: &Cells, cursor: Cursor) -> Cursor
 }
 
 #[tactic(auto, unfolding(crate::specs::Containers::item_goes_on))]
-fn item_goes_on(cells: &Cells, cursor: Cursor, width: usize, had: bool) -> Option<Cursor>
+fn item_goes_on(cells: &Columns, cursor: Cursor, width: usize, had: bool) -> Option<Cursor>
     ensures { result ≡ item_goes_on cells.now cursor width had }
 {
     let blank = is_blank_at(cells, cursor);
@@ -112,7 +112,7 @@ fn item_goes_on(cells: &Cells, cursor: Cursor, width: usize, had: bool) -> Optio
 
 /// The cursor after what a line has of a container that goes on in it.
 #[tactic(auto, unfolding(crate::specs::Containers::going_on))]
-fn going_on(cells: &Cells, cursor: Cursor, one: Opened) -> Option<Cursor>
+fn going_on(cells: &Columns, cursor: Cursor, one: Opened) -> Option<Cursor>
     ensures { result ≡ going_on cells.now cursor one }
 {
     match one.container {
@@ -126,7 +126,7 @@ fn going_on(cells: &Cells, cursor: Cursor, one: Opened) -> Option<Cursor>
         }
         Container::List(_) => Some(cursor),
         Container::Item(width) => item_goes_on(cells, cursor, width, one.had),
-        Container::Note => item_goes_on(cells, cursor, 4, true),
+        Container::Footnote => item_goes_on(cells, cursor, 4, true),
         Container::Definitions => Some(cursor),
         Container::Definition(width) => item_goes_on(cells, cursor, width, one.had),
     }
@@ -141,7 +141,7 @@ pub fn is_empty_item(one: Opened) -> bool
         Container::Quote => false,
         Container::List(_) => false,
         Container::Item(_) => !one.had,
-        Container::Note => false,
+        Container::Footnote => false,
         Container::Definitions => false,
         Container::Definition(_) => false,
     }
@@ -156,7 +156,7 @@ fn is_empty(one: Opened) -> bool
         Container::Quote => false,
         Container::List(_) => false,
         Container::Item(_) => !one.had,
-        Container::Note => false,
+        Container::Footnote => false,
         Container::Definitions => false,
         Container::Definition(_) => !one.had,
     }
@@ -184,7 +184,7 @@ fn quote_from(quotes: &[usize], count: usize) -> Option<usize>
 /// the next quote do.
 #[tactic(auto, unfolding(crate::specs::Containers::stopped))]
 fn stopped(
-    cells: &Cells,
+    cells: &Columns,
     opened: &[Opened],
     quotes: &[usize],
     count: usize,
@@ -204,7 +204,7 @@ fn stopped(
 
 /// The cursor after what a line has of a container, if something is left of the line.
 #[tactic(auto, unfolding(crate::specs::Containers::passed))]
-fn passed(cells: &Cells, cursor: Cursor, one: Opened) -> Option<Cursor>
+fn passed(cells: &Columns, cursor: Cursor, one: Opened) -> Option<Cursor>
     ensures { result ≡ passed cells.now cursor one }
 {
     if cells.len() <= cursor.column {
@@ -216,7 +216,7 @@ fn passed(cells: &Cells, cursor: Cursor, one: Opened) -> Option<Cursor>
 
 /// How many of the open containers go on in a line, and the cursor after what it has of them.
 /// `quotes` are the places of the quotes among them.
-pub fn matched(cells: &Cells, opened: &[Opened], quotes: &[usize]) -> (usize, Cursor)
+pub fn matched(cells: &Columns, opened: &[Opened], quotes: &[usize]) -> (usize, Cursor)
     ensures { result ≡ matched cells.now opened.now quotes.now }
 {
     let mut count = 0;
@@ -269,7 +269,7 @@ fn may_interrupt(empty: bool, marker: Marker) -> bool
 
 /// The item that begins at a cursor; in a paragraph only one that can interrupt it.
 #[tactic(auto, unfolding(crate::specs::Containers::item_at))]
-fn item_at(cells: &Cells, cursor: Cursor, in_paragraph: bool) -> Option<ItemStart>
+fn item_at(cells: &Columns, cursor: Cursor, in_paragraph: bool) -> Option<ItemStart>
     ensures { result ≡ item_at cells.now cursor in_paragraph }
 {
     let marker = marker_at(cells, cursor.ink)?;
@@ -292,7 +292,7 @@ fn item_at(cells: &Cells, cursor: Cursor, in_paragraph: bool) -> Option<ItemStar
 /// says that the line would else go on with a paragraph.
 #[tactic(auto, unfolding(crate::specs::Containers::container_at))]
 pub fn container_at(
-    cells: &Cells,
+    cells: &Columns,
     tail: Tail,
     cursor: Cursor,
     in_paragraph: bool,
@@ -314,7 +314,7 @@ pub fn container_at(
 #[tactic(auto, unfolding(crate::specs::Containers::container_in))]
 pub fn container_in(
     syntax: Syntax,
-    cells: &Cells,
+    cells: &Columns,
     tail: Tail,
     cursor: Cursor,
     in_paragraph: bool,
@@ -325,7 +325,7 @@ pub fn container_in(
         return Some(ContainerStart::Definition(definition));
     }
     match note_start(syntax, cells, cursor) {
-        Some(note) => Some(ContainerStart::Note(note)),
+        Some(note) => Some(ContainerStart::Footnote(note)),
         None => container_at(cells, tail, cursor, in_paragraph),
     }
 }

@@ -3,7 +3,7 @@
 ghost use Rattle.std.specs.Prelude.{◌≡◌};
 ghost use Rattle.tocmark_read_lines.specs.DefinitionLists.{definition_at, begins_definition, definition_start};
 
-use crate::cell::{Cells, Cursor, cell_byte, indent_of, ink_from, is_blank_at};
+use crate::cell::{Columns, Cursor, cell_byte, indent_of, ink_from, is_blank_at};
 use tocmark_read_scan::syntax::Syntax;
 
 /// A definition that a line begins.
@@ -18,7 +18,7 @@ pub struct DefinitionStart {
 /// The definition whose colon is at a cursor. The spaces after it belong to it: five or more count as
 /// one.
 #[tactic(auto, unfolding(crate::specs::DefinitionLists::definition_at))]
-fn definition_at(cells: &Cells, cursor: Cursor) -> DefinitionStart
+fn definition_at(cells: &Columns, cursor: Cursor) -> DefinitionStart
     ensures { result ≡ definition_at cells.now cursor }
 {
     let behind = cursor.ink.saturating_add(1);
@@ -32,7 +32,7 @@ fn definition_at(cells: &Cells, cursor: Cursor) -> DefinitionStart
 
 /// Whether a colon is at a cursor, after at most three spaces.
 #[tactic(auto, unfolding(crate::specs::DefinitionLists::begins_definition))]
-fn begins_definition(cells: &Cells, cursor: Cursor) -> bool
+fn begins_definition(cells: &Columns, cursor: Cursor) -> bool
     ensures { result ≡ begins_definition cells.now cursor }
 {
     !is_blank_at(cells, cursor) && indent_of(cursor) <= 3 && cell_byte(cells, cursor.ink) == b':'
@@ -40,7 +40,7 @@ fn begins_definition(cells: &Cells, cursor: Cursor) -> bool
 
 /// The definition that may begin at a cursor, where definition lists are read.
 #[tactic(auto, unfolding(crate::specs::DefinitionLists::definition_start))]
-pub fn definition_start(syntax: Syntax, cells: &Cells, cursor: Cursor) -> Option<DefinitionStart>
+pub fn definition_start(syntax: Syntax, cells: &Columns, cursor: Cursor) -> Option<DefinitionStart>
     ensures { result ≡ definition_start syntax cells.now cursor }
 {
     if syntax.definition_lists && begins_definition(cells, cursor) {

@@ -12,4 +12,4 @@ pub mod container;
 pub mod definition_list;
 pub mod html;
 pub mod line;
-pub mod note;
+pub mod footnote;

@@ -126,7 +126,7 @@ unfoldable pub is_quote : Container → Bool
 is_quote container.Quote = true
 is_quote (container.List sort) = false
 is_quote (container.Item width) = false
-is_quote container.Note = false
+is_quote container.Footnote = false
 is_quote container.Definitions = false
 is_quote (container.Definition width) = false
 
@@ -135,7 +135,7 @@ unfoldable pub is_list : Container → Bool
 is_list container.Quote = false
 is_list (container.List sort) = true
 is_list (container.Item width) = false
-is_list container.Note = false
+is_list container.Footnote = false
 is_list container.Definitions = true
 is_list (container.Definition width) = false
 
@@ -144,7 +144,7 @@ unfoldable pub is_note : Container → Bool
 is_note container.Quote = false
 is_note (container.List sort) = false
 is_note (container.Item width) = false
-is_note container.Note = true
+is_note container.Footnote = true
 is_note container.Definitions = false
 is_note (container.Definition width) = false
 
@@ -153,7 +153,7 @@ unfoldable pub is_definitions : Container → Bool
 is_definitions container.Quote = false
 is_definitions (container.List sort) = false
 is_definitions (container.Item width) = false
-is_definitions container.Note = false
+is_definitions container.Footnote = false
 is_definitions container.Definitions = true
 is_definitions (container.Definition width) = false
 
@@ -189,7 +189,7 @@ abbrev pub list_at : Container → Opened → List Opened → Option ℕ
 list_at container.Quote o opened = None
 list_at (container.List sort) o opened = Some o.block
 list_at (container.Item width) o opened = option_map (λ (l : Opened). l.block) (slice_get opened (length opened - 2))
-list_at container.Note o opened = None
+list_at container.Footnote o opened = None
 list_at container.Definitions o opened = Some o.block
 list_at (container.Definition width) o opened = option_map (λ (l : Opened). l.block) (slice_get opened (length opened - 2))
 

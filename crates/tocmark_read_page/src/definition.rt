@@ -84,7 +84,7 @@ fn room_of(lines: &[Piece]) -> usize {
     }
 }
 
-/// The lines, each with a line feed after it; U+FFFD stands for U+0000.
+/// The lines, each with a line feed after it. U+FFFD replaces U+0000.
 fn joined(alloc: Global, text: &[u8], lines: &[Piece]) -> Result<Vec<u8>, AllocError>
     ensures { IfOk result (λ v. v.items ≡ joined text.now lines.now) }
 {

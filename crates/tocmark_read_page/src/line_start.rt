@@ -1,6 +1,6 @@
 //! Where a line is: in which text, and after which of the open containers.
 
-use tocmark_read_lines::cell::{Cells, Cursor};
+use tocmark_read_lines::cell::{Columns, Cursor};
 use tocmark_read_lines::line::Line;
 use tocmark_read_scan::syntax::Syntax;
 
@@ -24,9 +24,9 @@ pub struct LineStart {
 
 /// A line with its columns, the text that it is in, and what is known of that.
 #[derive(Clone, Copy)]
-pub struct Row<'t, 'c> {
+pub struct ScannedLine<'t, 'c> {
     pub known: Known,
     pub text: &'t [u8],
-    pub cells: &'c Cells,
+    pub cells: &'c Columns,
     pub line: Line,
 }

@@ -51,7 +51,7 @@ pub enum BlockKind {
     Rule,
     Metadata(MetadataBlockKind),
     /// The definition of a footnote, with the range of its name.
-    Note(usize, usize),
+    Footnote(usize, usize),
     /// A table, with the range of its delimiter row.
     Table(usize, usize),
     TableHead,
@@ -161,7 +161,7 @@ pub fn list_of(opened: &[Opened]) -> Option<usize>
             let list = opened.get(opened.len().saturating_sub(2)).copied()?;
             Some(list.block)
         }
-        Container::Note => None,
+        Container::Footnote => None,
         Container::Definitions => Some(one.block),
         Container::Definition(_) => {
             let list = opened.get(opened.len().saturating_sub(2)).copied()?;
@@ -230,7 +230,7 @@ pub fn is_list(container: Container) -> bool
         Container::Quote => false,
         Container::List(_) => true,
         Container::Item(_) => false,
-        Container::Note => false,
+        Container::Footnote => false,
         Container::Definitions => true,
         Container::Definition(_) => false,
     }
@@ -245,7 +245,7 @@ pub fn is_quote(container: Container) -> bool
         Container::Quote => true,
         Container::List(_) => false,
         Container::Item(_) => false,
-        Container::Note => false,
+        Container::Footnote => false,
         Container::Definitions => false,
         Container::Definition(_) => false,
     }
@@ -259,7 +259,7 @@ fn is_note(container: Container) -> bool
         Container::Quote => false,
         Container::List(_) => false,
         Container::Item(_) => false,
-        Container::Note => true,
+        Container::Footnote => true,
         Container::Definitions => false,
         Container::Definition(_) => false,
     }
@@ -274,7 +274,7 @@ pub fn is_definitions(container: Container) -> bool
         Container::Quote => false,
         Container::List(_) => false,
         Container::Item(_) => false,
-        Container::Note => false,
+        Container::Footnote => false,
         Container::Definitions => true,
         Container::Definition(_) => false,
     }

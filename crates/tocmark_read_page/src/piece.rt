@@ -5,7 +5,7 @@ ghost use Rattle.tocmark_read_page.specs.Pieces.{same_place, is_split, code_piec
 
 use crate::leaf::Leaf;
 use tocmark_read_lines::beginnings::Heading;
-use tocmark_read_lines::cell::{Cells, Cursor, cell_place, ink_from};
+use tocmark_read_lines::cell::{Columns, Cursor, cell_place, ink_from};
 use tocmark_read_lines::line::Line;
 
 /// A line of a leaf, without the prefixes of its containers. Places are bytes of the text.
@@ -25,7 +25,7 @@ pub struct Piece {
 
 /// The number of columns from one on that are of the byte at a place.
 #[tactic(auto, using(crate::proofs::Places::same_more, crate::proofs::Places::same_stop, crate::proofs::Places::same_end))]
-fn same_place(cells: &Cells, column: usize, at: usize) -> usize
+fn same_place(cells: &Columns, column: usize, at: usize) -> usize
     ensures { result ≡ same_place cells.now column at }
 {
     let mut count = 0;
@@ -40,7 +40,7 @@ fn same_place(cells: &Cells, column: usize, at: usize) -> usize
 
 /// Whether a column is not the first one of its tab.
 #[tactic(auto, unfolding(crate::specs::Pieces::is_split))]
-fn is_split(cells: &Cells, column: usize) -> bool
+fn is_split(cells: &Columns, column: usize) -> bool
     ensures { result ≡ is_split cells.now column }
 {
     let inside = 0 < column && column < cells.len();
@@ -49,7 +49,7 @@ fn is_split(cells: &Cells, column: usize) -> bool
 
 /// What a leaf keeps of a line of code or HTML: all from a column on.
 #[tactic(auto, unfolding(crate::specs::Pieces::code_piece))]
-pub fn code_piece(cells: &Cells, column: usize, line: Line) -> Piece
+pub fn code_piece(cells: &Columns, column: usize, line: Line) -> Piece
     ensures { result ≡ code_piece cells.now column line }
 {
     let at = cell_place(cells, column, line.end);
@@ -75,7 +75,7 @@ pub fn code_piece(cells: &Cells, column: usize, line: Line) -> Piece
 
 /// The place of a column; of one that isn't the first of its tab the place after that tab.
 #[tactic(auto, unfolding(crate::specs::Pieces::whole_place))]
-fn whole_place(cells: &Cells, column: usize, line: Line) -> usize
+fn whole_place(cells: &Columns, column: usize, line: Line) -> usize
     ensures { result ≡ whole_place cells.now column line }
 {
     let at = cell_place(cells, column, line.end);
@@ -88,7 +88,7 @@ fn whole_place(cells: &Cells, column: usize, line: Line) -> usize
 
 /// What a paragraph keeps of a line: all but the spaces at a cursor.
 #[tactic(auto, unfolding(crate::specs::Pieces::text_piece))]
-pub fn text_piece(cells: &Cells, cursor: Cursor, line: Line) -> Piece
+pub fn text_piece(cells: &Columns, cursor: Cursor, line: Line) -> Piece
     ensures { result ≡ text_piece cells.now cursor line }
 {
     Piece {
@@ -102,7 +102,7 @@ pub fn text_piece(cells: &Cells, cursor: Cursor, line: Line) -> Piece
 
 /// The text of a heading on one line; an empty one has no bytes.
 #[tactic(auto, unfolding(crate::specs::Pieces::heading_piece))]
-pub fn heading_piece(cells: &Cells, heading: Heading, line: Line) -> Piece
+pub fn heading_piece(cells: &Columns, heading: Heading, line: Line) -> Piece
     ensures { result ≡ heading_piece cells.now heading line }
 {
     let end = cell_place(cells, heading.to, line.end);
@@ -118,7 +118,7 @@ pub fn heading_piece(cells: &Cells, heading: Heading, line: Line) -> Piece
 
 /// Whether a leaf reaches to a line that it takes from a column on: indented code ends before blank lines.
 #[tactic(auto, unfolding(crate::specs::Pieces::keeps_line))]
-pub fn keeps_line(cells: &Cells, column: usize, leaf: Leaf) -> bool
+pub fn keeps_line(cells: &Columns, column: usize, leaf: Leaf) -> bool
     ensures { result ≡ keeps_line cells.now column leaf }
 {
     match leaf {

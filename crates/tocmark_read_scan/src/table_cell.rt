@@ -52,7 +52,7 @@ fn cell_to(source: &[u8], from: usize, end: usize) -> usize
     end.saturating_sub(trailing_blanks(bytes_between(source, from, end)))
 }
 
-/// The bytes of a range of a source, without each backslash just before a bar; U+FFFD stands for
+/// The bytes of a range of a source, without a backslash that is just before a bar. U+FFFD replaces
 /// U+0000.
 fn pasted_cell(alloc: Global, source: &[u8], from: usize, to: usize) -> Result<Pasted, AllocError>
     ensures { IfOk result (λ c. pasted_view c ≡ cell_bytes source.now from to) }
@@ -68,7 +68,7 @@ fn pasted_cell(alloc: Global, source: &[u8], from: usize, to: usize) -> Result<P
     Ok(content)
 }
 
-/// The same, if the bytes are so in the source: with no backslash and no U+0000.
+/// The same, if the source has these bytes as they are: no backslash before a bar, no U+0000.
 #[tactic(auto, using(crate::proofs::Cells::whole_bytes))]
 fn whole_cell<'a>(source: &'a [u8], from: usize, to: usize) -> Option<Content<'a>>
     ensures { IfSome result (λ c. content_view c ≡ cell_bytes source.now from to) }

@@ -6,7 +6,7 @@ use Rattle.tocmark_read_scan.specs.Basic.{byte_at, bytes_between}
 use Rattle.tocmark_read_tokens.specs.Label.{collapsed, key_of, distinct_from}
 use Rattle.tocmark_read_tokens.specs.Reference.{unescaped_in}
 use Rattle.tocmark_read_scan.specs.declared.syntax.Names.{Names}
-use Rattle.tocmark_read_spans.specs.Notes.{note_key}
+use Rattle.tocmark_read_spans.specs.Footnotes.{note_key}
 use Rattle.tocmark_read_tokens.specs.declared.word.Definition.{Definition}
 use Rattle.tocmark_read_spans.specs.declared.definitions.Definitions.{Definitions}
 use Rattle.tocmark_read_spans.specs.declared.definitions.Entry.{Entry}

@@ -4,7 +4,7 @@ ghost use Rattle.std.specs.Prelude.{◌≡◌, IfOk, OnOk, map, string_bytes};
 ghost use Rattle.tocmark_read_tokens.specs.Reference.{unescaped_in};
 ghost use Rattle.tocmark_read_spans.specs.Definitions.{entry_of, label_key, collected_view, collected_none, is_note_key, kept, defined_with_in, defined_in, label_at, distinct_labels, noted_with};
 
-use crate::note::note_key;
+use crate::footnote::note_key;
 use crate::role::Stretch;
 use std::alloc::{AllocError, Global};
 use std::collections::HashMap;

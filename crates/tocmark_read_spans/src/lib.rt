@@ -11,7 +11,7 @@ pub mod definitions;
 pub mod emphasis;
 pub mod link;
 pub mod math;
-pub mod note;
+pub mod footnote;
 pub mod role;
 pub mod run;
 pub mod tick;

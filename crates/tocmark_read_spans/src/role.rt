@@ -67,7 +67,7 @@ pub enum Leaf {
     /// A text that isn't as the source has it.
     Text(Stretch),
     /// A reference to a footnote with its name.
-    Note(Stretch),
+    Footnote(Stretch),
     /// Mathematics within a line, with its text.
     InlineMath(Stretch),
     /// Mathematics that is set on lines of its own, with its text.

@@ -13,6 +13,6 @@ mod entries;
 pub mod html;
 pub mod label;
 pub mod name;
-pub mod note;
+pub mod footnote;
 pub mod reference;
 pub mod word;

@@ -9,7 +9,7 @@ use tocmark_read_scan::basic::{byte_at, bytes_between};
 use tocmark_read_scan::class::{Class, run_end};
 use tocmark_read_scan::syntax::Names;
 
-/// What a named reference stands for, and the place after it.
+/// The characters of a named reference, and the place after it.
 #[derive(Clone, Copy)]
 pub struct NamedReference {
     /// The characters, in UTF-8: one or two.
@@ -26,7 +26,7 @@ fn name_end(bytes: &[u8], place: usize) -> usize
     run_end(bytes, place.saturating_add(1), Class::TagName)
 }
 
-/// What the name after an ampersand stands for, if a semicolon is after it.
+/// The characters that the name after an ampersand means, if a semicolon follows it.
 #[tactic(auto, unfolding(crate::specs::Name::name_at))]
 fn name_at(bytes: &[u8], place: usize) -> Option<&'static [u8]>
     ensures { found result ≡ name_at bytes.now place }

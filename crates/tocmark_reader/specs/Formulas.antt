@@ -55,7 +55,7 @@ laid_leaf source lines texts (leaf.Html s) = leaf_of texts (leaf.Html s)
 laid_leaf source lines texts leaf.SoftBreak = leaf_of texts leaf.SoftBreak
 laid_leaf source lines texts leaf.HardBreak = leaf_of texts leaf.HardBreak
 laid_leaf source lines texts (leaf.Text s) = leaf_of texts (leaf.Text s)
-laid_leaf source lines texts (leaf.Note name) = leaf_of texts (leaf.Note name)
+laid_leaf source lines texts (leaf.Footnote name) = leaf_of texts (leaf.Footnote name)
 laid_leaf source lines texts (leaf.InlineMath s) = InlineMath (formula_text source lines texts s)
 laid_leaf source lines texts (leaf.DisplayMath s) = DisplayMath (formula_text source lines texts s)
 

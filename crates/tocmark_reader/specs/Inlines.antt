@@ -44,7 +44,7 @@ leaf_of texts (leaf.Html s) = InlineHtml (stretch_text texts s)
 leaf_of texts leaf.SoftBreak = SoftBreak
 leaf_of texts leaf.HardBreak = HardBreak
 leaf_of texts (leaf.Text s) = Text (stretch_text texts s)
-leaf_of texts (leaf.Note name) = FootnoteReference (stretch_text texts name)
+leaf_of texts (leaf.Footnote name) = FootnoteReference (stretch_text texts name)
 leaf_of texts (leaf.InlineMath s) = InlineMath (stretch_text texts s)
 leaf_of texts (leaf.DisplayMath s) = DisplayMath (stretch_text texts s)
 

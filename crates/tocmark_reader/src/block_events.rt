@@ -434,7 +434,7 @@ impl Assembly {
             BlockKind::Html => self.take_lines(alloc, document.text, true, block, pieces),
             BlockKind::Rule => self.take_rule(document.text, block),
             BlockKind::Metadata(_) => self.take_lines(alloc, document.text, false, block, pieces),
-            BlockKind::Note(_, _) => self.open(alloc, document.text, block),
+            BlockKind::Footnote(_, _) => self.open(alloc, document.text, block),
             BlockKind::Table(_, _) => self.open(alloc, document.text, block),
             BlockKind::TableHead => self.open(alloc, document.text, block),
             BlockKind::TableRow => self.open(alloc, document.text, block),

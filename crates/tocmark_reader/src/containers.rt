@@ -84,7 +84,7 @@ fn block_tag(
         BlockKind::Html => Ok(Tag::HtmlBlock),
         BlockKind::Rule => Ok(Tag::Paragraph),
         BlockKind::Metadata(kind) => Ok(Tag::MetadataBlock(kind)),
-        BlockKind::Note(from, to) => note_tag(alloc, text, from, to),
+        BlockKind::Footnote(from, to) => note_tag(alloc, text, from, to),
         BlockKind::Table(from, to) => table_tag(alloc, text, from, to),
         BlockKind::TableHead => Ok(Tag::TableHead),
         BlockKind::TableRow => Ok(Tag::TableRow),

@@ -151,7 +151,7 @@ fn laid_event(
         Leaf::SoftBreak => leaf_event(alloc, texts, leaf),
         Leaf::HardBreak => leaf_event(alloc, texts, leaf),
         Leaf::Text(_) => leaf_event(alloc, texts, leaf),
-        Leaf::Note(_) => leaf_event(alloc, texts, leaf),
+        Leaf::Footnote(_) => leaf_event(alloc, texts, leaf),
         Leaf::InlineMath(stretch) => Ok(Event::InlineMath(formula_text(
             alloc, source, lines, texts, stretch,
         )?)),

@@ -99,7 +99,7 @@ pub(crate) fn leaf_event(
         Leaf::SoftBreak => Ok(Event::SoftBreak),
         Leaf::HardBreak => Ok(Event::HardBreak),
         Leaf::Text(stretch) => Ok(Event::Text(stretch_text(alloc, texts, stretch)?)),
-        Leaf::Note(name) => Ok(Event::FootnoteReference(stretch_text(alloc, texts, name)?)),
+        Leaf::Footnote(name) => Ok(Event::FootnoteReference(stretch_text(alloc, texts, name)?)),
         Leaf::InlineMath(stretch) => Ok(Event::InlineMath(stretch_text(alloc, texts, stretch)?)),
         Leaf::DisplayMath(stretch) => Ok(Event::DisplayMath(stretch_text(alloc, texts, stretch)?)),
     }

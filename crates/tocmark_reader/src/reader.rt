@@ -66,7 +66,7 @@ fn note(
     ensures { OnOk result (collected_view collected.new
         ≡ noted_as text.now (collected_view collected.old) kind) }
 {
-    if let BlockKind::Note(from, to) = kind {
+    if let BlockKind::Footnote(from, to) = kind {
         let name = replaced_bytes(alloc, bytes_between(text, from, to))?;
         collected.note(alloc, &name)?;
     }

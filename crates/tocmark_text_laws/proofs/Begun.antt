@@ -10,7 +10,7 @@ use Rattle.tocmark_read_lines.specs.Cells.{cell_place, moved, cell_byte, indent_
 use Rattle.tocmark_read_lines.specs.Containers.{after_quote, container_at, container_in, item_at}
 use Rattle.tocmark_read_lines.specs.DefinitionLists.{definition_start}
 use Rattle.tocmark_read_lines.specs.Marks.{is_rule}
-use Rattle.tocmark_read_lines.specs.Notes.{note_start}
+use Rattle.tocmark_read_lines.specs.Footnotes.{note_start}
 use Rattle.tocmark_read_lines.specs.declared.beginnings.Tail.{Tail}
 use Rattle.tocmark_read_lines.specs.declared.cell.Cell.{Cell}
 use Rattle.tocmark_read_lines.specs.declared.cell.Cursor.{Cursor}
@@ -114,7 +114,7 @@ unfoldable pub is_core_start : Option ContainerStart → Bool
 is_core_start None = true
 is_core_start (Some begins.Quote) = true
 is_core_start (Some (begins.Item i)) = true
-is_core_start (Some (begins.Note n)) = false
+is_core_start (Some (begins.Footnote n)) = false
 is_core_start (Some (begins.Definition d)) = false
 
 pub container_core : (cs : List Cell) (tail : Tail) (cursor : Cursor) (p : Bool) → is_core_start (container_in CORE cs tail cursor p) ≡ true
@@ -145,7 +145,7 @@ unfolding is_core_start
 begun_at_on t c cs line place e l s None few tied h = (refl, tied)
 begun_at_on t c cs line place e l s (Some begins.Quote) few tied h = (ap some_place (quote_on t c cs line place e l s few tied), shut_tied e l ((quote_opened t cs line place s).0) (quote_shut t cs line place s))
 begun_at_on t c cs line place e l s (Some (begins.Item i)) few tied h = (ap some_place (item_on t c cs line place i e l s few tied), shut_tied e l ((item_opened t cs line place i s).0) (item_shut t cs line place i s))
-begun_at_on t c cs line place e l s (Some (begins.Note n)) few tied h = absurd cc
+begun_at_on t c cs line place e l s (Some (begins.Footnote n)) few tied h = absurd cc
 begun_at_on t c cs line place e l s (Some (begins.Definition d)) few tied h = absurd cc
 
 pub once_on : (t : List ℕ) (c : ℕ) (cs : List Cell) (line : Line) (tail : Tail) (place : LineStart) (e l : ℕ) (s : State) → line.number + 1 < 2 ^ 64 - 1 → Tied e l s

@@ -74,7 +74,7 @@ not_of_block texts targets (item.Leaf l) = by l
     by leaf.SoftBreak = refl
     by leaf.HardBreak = refl
     by (leaf.Text s) = refl
-    by (leaf.Note name) = refl
+    by (leaf.Footnote name) = refl
     by (leaf.InlineMath s) = refl
     by (leaf.DisplayMath s) = refl
 
@@ -148,7 +148,7 @@ taken_fine t find m ps u b s (kind.Fenced from to) p q h = fence_fine t from to 
 taken_fine t find m ps u b s kind.Html p q h = lines_fine t true m b ps s p q h
 taken_fine t find m ps u b s kind.Rule p q h = rule_fine t b s p h
 taken_fine t find m ps u b s (kind.Metadata k) p q h = lines_fine t false m b ps s p q h
-taken_fine t find m ps u b s (kind.Note from to) p q h = block_fine t b s p h
+taken_fine t find m ps u b s (kind.Footnote from to) p q h = block_fine t b s p h
 taken_fine t find m ps u b s (kind.Table from to) p q h = block_fine t b s p h
 taken_fine t find m ps u b s kind.TableHead p q h = block_fine t b s p h
 taken_fine t find m ps u b s kind.TableRow p q h = block_fine t b s p h

@@ -10,7 +10,7 @@ use Rattle.tocmark_read_lines.specs.Cells.{first_cursor}
 use Rattle.tocmark_read_lines.specs.Marks.{marker_at}
 use Rattle.tocmark_read_lines.specs.Containers.{raised, raised_at, after_quote, item_goes_on, going_on_as, going_on, is_empty, blank_depth, stopped, passed, matched_from, matched, touched_from, item_from, item_at, container_at, container_in}
 use Rattle.tocmark_read_lines.specs.DefinitionLists.{definition_start}
-use Rattle.tocmark_read_lines.specs.Notes.{note_start}
+use Rattle.tocmark_read_lines.specs.Footnotes.{note_start}
 use Rattle.tocmark_read_lines.specs.declared.cell.Cell.{Cell}
 use Rattle.tocmark_read_lines.specs.declared.cell.Cursor.{Cursor}
 use Rattle.tocmark_read_lines.specs.declared.beginnings.Marker.{Marker}
@@ -57,7 +57,7 @@ same_going_as : (k : Container) (cs : List Cell) (cursor : Cursor) (had : Bool) 
 same_going_as container.Quote cs cursor had = rw (same_byte cs cursor.ink, same_after cs cursor) refl
 same_going_as (container.List sort) cs cursor had = refl
 same_going_as (container.Item width) cs cursor had = same_item_goes cs cursor width had
-same_going_as container.Note cs cursor had = same_item_goes cs cursor 4 true
+same_going_as container.Footnote cs cursor had = same_item_goes cs cursor 4 true
 same_going_as container.Definitions cs cursor had = refl
 same_going_as (container.Definition width) cs cursor had = same_item_goes cs cursor width had
 

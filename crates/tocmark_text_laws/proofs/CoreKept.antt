@@ -162,7 +162,7 @@ unfolding is_core_start item_opened quote_opened is_core_kind
 begun_kept t cs line place s None k h = h
 begun_kept t cs line place s (Some begins.Quote) k h = opened_with_kept container.Quote (kind.Quote None) (start_of cs place line) line (list_left (closed_to t place.depth s)) refl (list_left_kept (closed_to t place.depth s) (closed_kept t place.depth s h))
 begun_kept t cs line place s (Some (begins.Item i)) k h = opened_with_kept (container.Item i.width) kind.Item (start_of cs place line) line (list_started i (start_of cs place line) line (closed_to t place.depth s)) refl (list_kept i (start_of cs place line) line (closed_to t place.depth s) (closed_kept t place.depth s h))
-begun_kept t cs line place s (Some (begins.Note n)) k h = absurd cc
+begun_kept t cs line place s (Some (begins.Footnote n)) k h = absurd cc
 begun_kept t cs line place s (Some (begins.Definition d)) k h = absurd cc
 
 containers_kept : (t : List ℕ) (cs : List Cell) (line : Line) (tail : Tail) (place : LineStart) (s : State) → Kept s → Kept ((containers_opened_in CORE t cs line tail place s).0)

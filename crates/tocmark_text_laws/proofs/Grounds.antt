@@ -13,7 +13,7 @@ use Rattle.tocmark_read_lines.specs.Cells.{bytes_of, cell_byte, cell_place, firs
 use Rattle.tocmark_read_lines.specs.Containers.{after_quote, container_at, container_in, going_on, going_on_as, item_at, item_from, item_gap, item_goes_on, matched_from, may_interrupt, passed, stopped}
 use Rattle.tocmark_read_lines.specs.DefinitionLists.{definition_start}
 use Rattle.tocmark_read_lines.specs.Marks.{bullet_at, closes_fence, digit_count, fence_at, heading_at, heading_end_before, heading_from, is_behind, is_rule, level_of, marker_at, number_of, ordered_at, underline_at}
-use Rattle.tocmark_read_lines.specs.Notes.{note_start}
+use Rattle.tocmark_read_lines.specs.Footnotes.{note_start}
 use Rattle.tocmark_read_lines.specs.declared.beginnings.Fence.{Fence}
 use Rattle.tocmark_read_lines.specs.declared.beginnings.Heading.{Heading}
 use Rattle.tocmark_read_lines.specs.declared.beginnings.Marker.{Marker}
@@ -592,7 +592,7 @@ goes P cs line g container.Quote cursor had v = by (nat_le (indent_of cursor) 3)
     by true false e = tt
 goes P cs line g (container.List sort) cursor had v = v
 goes P cs line g (container.Item width) cursor had v = item_goes P cs line g cursor width had v
-goes P cs line g container.Note cursor had v = item_goes P cs line g cursor 4 true v
+goes P cs line g container.Footnote cursor had v = item_goes P cs line g cursor 4 true v
 goes P cs line g container.Definitions cursor had v = v
 goes P cs line g (container.Definition width) cursor had v = item_goes P cs line g cursor width had v
 

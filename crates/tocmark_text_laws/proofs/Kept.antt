@@ -70,7 +70,7 @@ unfolding is_core_start
 begun_core t cs line place s None k h = h
 begun_core t cs line place s (Some begins.Quote) k h = shut_core ((quote_opened t cs line place s).0) (quote_shut t cs line place s)
 begun_core t cs line place s (Some (begins.Item i)) k h = shut_core ((item_opened t cs line place i s).0) (item_shut t cs line place i s)
-begun_core t cs line place s (Some (begins.Note n)) k h = absurd cc
+begun_core t cs line place s (Some (begins.Footnote n)) k h = absurd cc
 begun_core t cs line place s (Some (begins.Definition d)) k h = absurd cc
 
 containers_core : (t : List ℕ) (cs : List Cell) (line : Line) (tail : Tail) (place : LineStart) (s : State) → is_core s.leaf ≡ true → is_core ((containers_opened_in CORE t cs line tail place s).0).leaf ≡ true

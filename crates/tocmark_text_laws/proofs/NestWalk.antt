@@ -10,7 +10,7 @@ use Rattle.std.proofs.lemmas.Bool.Decides.{nat_tests}
 use Rattle.tocmark_read_lines.specs.Cells.{cell_byte, cell_place, indent_of, ink_from, is_blank_at, moved, run_of}
 use Rattle.tocmark_read_lines.specs.Containers.{after_quote, container_at, container_in, item_at, item_from, item_gap, matched, may_interrupt, touched_from}
 use Rattle.tocmark_read_lines.specs.DefinitionLists.{definition_start}
-use Rattle.tocmark_read_lines.specs.Notes.{note_start}
+use Rattle.tocmark_read_lines.specs.Footnotes.{note_start}
 use Rattle.tocmark_read_lines.specs.declared.container.Opened.{Opened}
 use Rattle.tocmark_read_lines.specs.Html.{html_ends}
 use Rattle.tocmark_read_lines.specs.Marks.{closes_fence, fence_at, heading_at, is_rule, marker_at, tail_of, underline_at}
@@ -457,7 +457,7 @@ begun_rests c f t cs line place s (Some (begins.Item i)) l w h = (
       (opened_with_calm c (start_of cs place line) (container.Item i.width) kind.Item (start_of cs place line) line (list_started i (start_of cs place line) line (closed_to t place.depth s)) (omega arith) (list_started_calm c f i (start_of cs place line) line (closed_to t place.depth s) l (closed_to_calm c f t place.depth s h))),
   w,
 )
-begun_rests c f t cs line place s (Some (begins.Note n)) l w h = absurd w
+begun_rests c f t cs line place s (Some (begins.Footnote n)) l w h = absurd w
 begun_rests c f t cs line place s (Some (begins.Definition d)) l w h = absurd w
 
 -- a page and a cursor, not before some place

@@ -203,7 +203,7 @@ same_list_at (container.Item width) o os = rw (length-map os opened_on, slice_ge
     block_of : (f : Option Opened) → option_map (λ (l : Opened). l.block) (option_map opened_on f) ≡ option_map (λ (l : Opened). l.block) f
     block_of None = refl
     block_of (Some f) = refl
-same_list_at container.Note o os = refl
+same_list_at container.Footnote o os = refl
 same_list_at container.Definitions o os = refl
 same_list_at (container.Definition width) o os = rw (length-map os opened_on, slice_get-map opened_on os (length os - 2)) (block_of (slice_get os (length os - 2)))
   where

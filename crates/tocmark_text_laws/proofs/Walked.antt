@@ -79,7 +79,7 @@ abbrev pub Leads : (Cursor → Type 0) → List Cell → Cursor → Option Conta
 Leads V cs cursor None = Unit
 Leads V cs cursor (Some begins.Quote) = V (after_quote cs cursor)
 Leads V cs cursor (Some (begins.Item i)) = V (moved cs cursor i.next)
-Leads V cs cursor (Some (begins.Note n)) = ⊥
+Leads V cs cursor (Some (begins.Footnote n)) = ⊥
 Leads V cs cursor (Some (begins.Definition d)) = ⊥
 
 -- the columns of a line: at some of them something may begin
@@ -372,7 +372,7 @@ begun_stands P V t cs line place s (Some (begins.Item i)) a w h = (
       (opened_with_shut P line.end (container.Item i.width) kind.Item (start_of cs place line) line (list_started i (start_of cs place line) line (closed_to t place.depth s)) (list_started_shut P i (start_of cs place line) line (closed_to t place.depth s) a (closed_to_shut P line.end t place.depth s h)) a.begins a.within a.stops),
   w,
 )
-begun_stands P V t cs line place s (Some (begins.Note n)) a w h = absurd w
+begun_stands P V t cs line place s (Some (begins.Footnote n)) a w h = absurd w
 begun_stands P V t cs line place s (Some (begins.Definition d)) a w h = absurd w
 
 containers_stand : (P : ℕ → Type 0) (V : Cursor → Type 0) (t : List ℕ) (cs : List Cell) (line : Line) (tail : Tail) → Columns P V cs line → (n : ℕ) (place : LineStart) (s : State) → V place.cursor → Stands P line.end s

@@ -106,7 +106,8 @@ fn insert_undefined<'r>(
     key: Key<'r>,
 ) -> Result<(), AllocError>
     ensures { OnOk result (keys.new.keys
-        ≡ (if leads_alike (option_map key_view (get_by_text firsts.now (folded key.entry.label.now)))
+        ≡ (if leads_alike
+        (option_map key_view (get_by_text firsts.now (folded key.entry.label.now)))
         (key_view key.entry) then keys.old.keys else insert_key same_key keys.old.keys key.entry)) }
 {
     let folded = default_case_fold_str(alloc, key.label)?;
@@ -125,7 +126,8 @@ fn undefined_keys<'r>(
 ) -> Result<IndexSet<Key<'r>>, AllocError>
     ensures { IfOk result (λ keys.
         map key_view keys.keys
-        ≡ distinct (undefined (map reference_view defined.now) (map reference_view references.now))) }
+        ≡ distinct
+        (undefined (map reference_view defined.now) (map reference_view references.now))) }
 {
     let firsts = first_definitions(alloc, defined)?;
     let mut keys = IndexSet::new(alloc);

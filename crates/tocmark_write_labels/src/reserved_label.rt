@@ -134,7 +134,8 @@ fn free_beside(
 ) -> Result<String, AllocError>
     ensures { IfOk result (λ label.
         (s : Setting) (d : DocumentView) → d.known ≡ labels_of known.now
-        → literal_in s.reading s.flags d.bracketed ≡ labels_of literal.now → (pending : List SourcedEvent) → folded_ids ids.now ≡ ids_of pending
+        → literal_in s.reading s.flags d.bracketed ≡ labels_of literal.now
+        → (pending : List SourcedEvent) → folded_ids ids.now ≡ ids_of pending
         → string_bytes label ≡ reserved_label s d pending) }
 {
     let count = sum_of(known.len(), literal.len(), ids.len())?;

@@ -230,9 +230,9 @@ impl Pending {
     /// Whether the unit waits for a label that only the end of the events can give: a list in it needs
     /// a placeholder, since it would be read otherwise without one.
     ///
-    /// A list is whose first item is empty and which is just after inline content, and one with
-    /// a single item that holds a single paragraph and nothing else. A unit in which a container is
-    /// open waits for nothing.
+    /// A list needs one if its first item is empty and it comes just after inline content. It also
+    /// needs one if its only item holds a single paragraph and nothing else. A unit in which a container
+    /// is open waits for nothing.
     pub fn needs_placeholder(&self) -> bool
         ensures { result ≡ waits self.now.events }
     {

@@ -6,5 +6,5 @@ use Rattle.tocmark_read_blocks.proofs.container.open_all.Given as goal
 
 abbrev pub invariant-loop-steps_left : goal.invariant-loop-steps_left
 invariant-loop-steps_left l =
-    repeated (container_once_in l.row.known.syntax l.row.text.now l.row.cells.now l.row.line l.fn.tail) l._steps_left l.place (page l.so_far)
-    ≡ containers_opened_in l.row.known.syntax l.row.text.now l.row.cells.now l.row.line l.fn.tail l.fn.first (page l.fn.so_far)
+    repeated (container_once_in l.scan.known.syntax l.scan.text.now l.scan.cells.now l.scan.line l.fn.tail) l._steps_left l.place (page l.so_far)
+    ≡ containers_opened_in l.scan.known.syntax l.scan.text.now l.scan.cells.now l.scan.line l.fn.tail l.fn.first (page l.fn.so_far)

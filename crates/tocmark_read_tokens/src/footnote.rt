@@ -1,13 +1,13 @@
 //! The labels of footnotes.
 
 ghost use Rattle.std.specs.Prelude.{◌≡◌};
-ghost use Rattle.tocmark_read_tokens.specs.Notes.{on_one_line, note_label};
+ghost use Rattle.tocmark_read_tokens.specs.Footnotes.{on_one_line, note_label};
 
 use crate::word::{Word, label_from};
 use tocmark_read_scan::basic::{bytes_between, starts_at};
 
 /// A word, if it is on one line.
-#[tactic(auto, unfolding(crate::specs::Notes::on_one_line))]
+#[tactic(auto, unfolding(crate::specs::Footnotes::on_one_line))]
 fn on_one_line(bytes: &[u8], word: Word) -> Option<Word>
     ensures { result ≡ on_one_line bytes.now word }
 {
@@ -20,7 +20,7 @@ fn on_one_line(bytes: &[u8], word: Word) -> Option<Word>
 
 /// The label of a footnote at a place: a bracket, a caret, and on the same line what can be a link label.
 /// The word is the footnote's name, without the caret.
-#[tactic(auto, unfolding(crate::specs::Notes::note_label))]
+#[tactic(auto, unfolding(crate::specs::Footnotes::note_label))]
 pub fn note_label(bytes: &[u8], place: usize) -> Option<Word>
     ensures { result ≡ note_label bytes.now place }
 {

@@ -3,15 +3,15 @@ use Rattle.std.specs.Prelude.{ℕ, ◌-◌, List, ◌∷◌, Option, Some, None}
 use Rattle.std.specs.Option.{option_map}
 use Rattle.tocmark_read_scan.specs.Basic.{plus}
 use Rattle.tocmark_read_tokens.specs.Label.{key_of}
-use Rattle.tocmark_read_tokens.specs.Notes.{note_label}
+use Rattle.tocmark_read_tokens.specs.Footnotes.{note_label}
 use Rattle.tocmark_read_tokens.specs.Word.{label}
 use Rattle.tocmark_read_tokens.specs.declared.word.Word.{Word}
 use Rattle.tocmark_event.specs.declared.event.LinkType.TheVariants.{Reference}
 use Rattle.tocmark_read_spans.specs.Link.{own_label, own_asked}
 use Rattle.tocmark_read_spans.specs.declared.link.Bracket.{Bracket}
 use Rattle.tocmark_read_spans.specs.declared.link.Asked.{Asked}
-use Rattle.tocmark_read_spans.specs.declared.note.Sought.{Sought}
-use Rattle.tocmark_read_spans.specs.declared.note.Sought.TheVariants.{Label, Note}
+use Rattle.tocmark_read_spans.specs.declared.footnote.Sought.{Sought}
+use Rattle.tocmark_read_spans.specs.declared.footnote.Sought.TheVariants.{Label, Footnote}
 
 -- the key of a footnote's name: a bracket, with which no label's key begins, and the key that a label would have
 unfoldable pub note_key : List ℕ → List ℕ
@@ -38,7 +38,7 @@ own_note bytes bracket place = note_in bytes bracket (own_label bytes bracket pl
 -- a footnote's name, or else a label
 abbrev pub note_or_label : Option Word → Option Asked → Option Sought
 note_or_label None other = option_map (λ a. Label a) other
-note_or_label (Some name) other = Some (Note name)
+note_or_label (Some name) other = Some (Footnote name)
 
 -- the bracket's own text is to be looked up
 unfoldable pub own_sought : List ℕ → Bracket → ℕ → Option Sought
