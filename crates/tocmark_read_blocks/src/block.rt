@@ -281,7 +281,11 @@ fn touch_line(so_far: &mut BlocksSoFar, line: Line, depth: usize)
 
 /// Takes a line by its columns: containers go on in it, then the open leaf has its turn, then others begin.
 #[tactic(auto, unfolding(crate::specs::Blocks::cells_taken_in))]
-fn take_cells(so_far: &mut BlocksSoFar, alloc: Global, scan: &ScannedLine<'_, '_>) -> Result<(), AllocError>
+fn take_cells(
+    so_far: &mut BlocksSoFar,
+    alloc: Global,
+    scan: &ScannedLine<'_, '_>,
+) -> Result<(), AllocError>
     ensures { OnOk result (page so_far.new
         ≡ cells_taken_in scan.now.known scan.now.text.now scan.now.cells.now scan.now.line
         (page so_far.old)) }

@@ -40,7 +40,12 @@ pub fn take_text(
     let words = text_piece(scan.cells, place.cursor, scan.line);
     if !is_paragraph(so_far.leaf) {
         so_far.close_to(alloc, scan.text, place.depth)?;
-        so_far.open_leaf(Leaf::Paragraph, BlockKind::Paragraph, words.start, scan.line)?;
+        so_far.open_leaf(
+            Leaf::Paragraph,
+            BlockKind::Paragraph,
+            words.start,
+            scan.line,
+        )?;
     }
     start_text(so_far, words.start)?;
     so_far.take_piece(words, scan.line, true)

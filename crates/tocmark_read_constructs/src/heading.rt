@@ -128,7 +128,11 @@ fn put_heading(
     let start = cell_place(scan.cells, place.cursor.ink, scan.line.end);
     let kind = BlockKind::Heading(heading.level, braces);
     so_far.open_leaf(Leaf::Nothing, kind, start, scan.line)?;
-    so_far.take_piece(heading_piece(scan.cells, heading, scan.line), scan.line, true)?;
+    so_far.take_piece(
+        heading_piece(scan.cells, heading, scan.line),
+        scan.line,
+        true,
+    )?;
     so_far.finish_leaf()
 }
 

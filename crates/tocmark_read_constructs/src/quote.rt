@@ -125,7 +125,12 @@ fn is_first_line(so_far: &BlocksSoFar, cells: &Columns, place: LineStart, direct
 
 /// Whether a tag alone on its line is after a quote's kind, whose paragraph has no line yet.
 #[tactic(auto, unfolding(crate::specs::Quotes::tag_in))]
-pub fn tag_in(so_far: &BlocksSoFar, scan: &ScannedLine<'_, '_>, place: LineStart, directly: bool) -> bool
+pub fn tag_in(
+    so_far: &BlocksSoFar,
+    scan: &ScannedLine<'_, '_>,
+    place: LineStart,
+    directly: bool,
+) -> bool
     ensures { result ≡ tag_in scan.now.known scan.now.text.now scan.now.cells.now scan.now.line
         place directly (page so_far.now) }
 {

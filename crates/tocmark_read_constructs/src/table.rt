@@ -554,7 +554,12 @@ fn fits_columns(so_far: &BlocksSoFar, text: &[u8], columns: usize) -> bool
 
 /// Whether a line can be a delimiter row where it is.
 #[tactic(auto, unfolding(crate::specs::Tables::may_delimit))]
-fn may_delimit(so_far: &BlocksSoFar, scan: &ScannedLine<'_, '_>, cursor: Cursor, directly: bool) -> bool
+fn may_delimit(
+    so_far: &BlocksSoFar,
+    scan: &ScannedLine<'_, '_>,
+    cursor: Cursor,
+    directly: bool,
+) -> bool
     ensures { result
         ≡ may_delimit scan.now.text.now scan.now.cells.now scan.now.line cursor directly
         (page so_far.now) }

@@ -8,8 +8,8 @@ use crate::scan::Scanner;
 use std::alloc::{AllocError, Global};
 use tocmark_read_scan::basic::bytes_between;
 use tocmark_read_spans::definitions::Definitions;
-use tocmark_read_spans::link::Bracket;
 use tocmark_read_spans::footnote::{Sought, label_sought, note_key};
+use tocmark_read_spans::link::Bracket;
 use tocmark_read_spans::role::{Leaf, Role, Stretch};
 use tocmark_read_tokens::label::collapsed;
 use tocmark_read_tokens::word::Word;
@@ -23,7 +23,8 @@ impl Scanner {
     {
         let end = self.place.saturating_add(1);
         let first = bracket.inner.saturating_sub(1);
-        self.roles.put(first, Role::Single(Leaf::Footnote(name), end))?;
+        self.roles
+            .put(first, Role::Single(Leaf::Footnote(name), end))?;
         self.runs.truncate(bracket.runs);
         self.brackets.clear();
         self.inactive = 0;
@@ -70,7 +71,13 @@ impl Scanner {
     {
         match label_sought(bytes, bracket, self.place) {
             Some(Sought::Label(asked)) => self.look_up(alloc, bytes, definitions, bracket, asked),
-            Some(Sought::Footnote(word)) => self.look_up_note(alloc, bytes, definitions, bracket, word),
+            Some(Sought::Footnote(word)) => self.look_up_note(
+                alloc,
+                bytes,
+                definitions,
+                bracket,
+                word,
+            ),
             None => Ok(()),
         }
     }

@@ -10,6 +10,6 @@ pub mod beginnings;
 pub mod cell;
 pub mod container;
 pub mod definition_list;
+pub mod footnote;
 pub mod html;
 pub mod line;
-pub mod footnote;

@@ -6,8 +6,8 @@ ghost use Rattle.tocmark_read_spans.specs.Footnotes.{note_key, label_but_note, o
 use crate::link::{Asked, Bracket, own_asked, own_label};
 use std::alloc::{AllocError, Global};
 use tocmark_event::event::LinkType;
-use tocmark_read_tokens::label::key_of;
 use tocmark_read_tokens::footnote::note_label;
+use tocmark_read_tokens::label::key_of;
 use tocmark_read_tokens::word::{Word, label};
 
 /// What is looked up for a bracket, where footnotes are read.

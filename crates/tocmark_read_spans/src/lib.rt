@@ -9,9 +9,9 @@
 
 pub mod definitions;
 pub mod emphasis;
+pub mod footnote;
 pub mod link;
 pub mod math;
-pub mod footnote;
 pub mod role;
 pub mod run;
 pub mod tick;

@@ -10,9 +10,9 @@
 pub mod autolink;
 pub mod character_names;
 mod entries;
+pub mod footnote;
 pub mod html;
 pub mod label;
 pub mod name;
-pub mod footnote;
 pub mod reference;
 pub mod word;
