@@ -4,4 +4,4 @@ pub mod Marks
 pub mod Html
 pub mod Containers
 pub mod DefinitionLists
-pub mod Notes
+pub mod Footnotes

@@ -5,4 +5,4 @@ pub mod Tick
 pub mod Link
 pub mod Math
 pub mod Definitions
-pub mod Notes
+pub mod Footnotes

@@ -6,4 +6,4 @@ pub mod Label
 pub mod Entries
 pub mod CharacterNames
 pub mod Name
-pub mod Notes
+pub mod Footnotes
