@@ -7,6 +7,7 @@ use std::cmp::Ordering;
 use std::fs::DirEntry;
 use std::io::Read;
 use std::{fs, io};
+use tocmark_files::names::is_markdown;
 
 /// A Markdown file below one of two folders or both, by its path from there on.
 #[derive(Drop)]
@@ -77,22 +78,6 @@ pub fn joined(alloc: Global, folder: &str, name: &str) -> Result<String, AllocEr
     }
     path.push_str(name)?;
     Ok(path)
-}
-
-/// The endings of Markdown files, in any case.
-const ENDINGS: [&str; 4] = ["md", "markdown", "mdown", "mkd"];
-
-/// Whether a file has a name of Markdown.
-fn is_markdown(name: &str) -> bool {
-    let Some((_, ending)) = name.rsplit_once('.') else {
-        return false;
-    };
-    for known in &ENDINGS {
-        if ending.eq_ignore_ascii_case(known) {
-            return true;
-        }
-    }
-    false
 }
 
 impl Walk {

@@ -7,6 +7,7 @@ use crate::lookup::{Configurations, Refused, folder_of, joined, whole_path};
 use crate::settings::{Settings, set_all};
 use std::collections::{HashMap, HashSet};
 use std::{fs, io};
+use tocmark_files::names::is_markdown;
 use tocmark_files::place::Place;
 use tocmark_files::rules::{Entry, Rules, name_of};
 
@@ -74,22 +75,6 @@ pub struct Search {
 
 /// Folders with files of other projects.
 const FOREIGN: [&str; 4] = ["node_modules", "target", "vendor", "venv"];
-
-/// The endings of Markdown files, in any case.
-const ENDINGS: [&str; 4] = ["md", "markdown", "mdown", "mkd"];
-
-/// Whether a file has a name of Markdown.
-pub(crate) fn is_markdown(name: &str) -> bool {
-    let Some((_, ending)) = name.rsplit_once('.') else {
-        return false;
-    };
-    for known in &ENDINGS {
-        if ending.eq_ignore_ascii_case(known) {
-            return true;
-        }
-    }
-    false
-}
 
 /// Whether something of this name is skipped below a folder.
 fn is_passed_by(name: &str) -> bool {

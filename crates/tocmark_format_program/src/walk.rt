@@ -2,10 +2,11 @@
 
 use crate::fault::Fault;
 use crate::lookup::{Refused, joined, whole_path};
-use crate::search::{Failure, Left, Search, Target, is_markdown};
+use crate::search::{Failure, Left, Search, Target};
 use std::cmp::Ordering;
 use std::fs::DirEntry;
 use std::{fs, io};
+use tocmark_files::names::is_markdown;
 use tocmark_files::place::{Identity, OpenFolder, Place};
 use tocmark_files::replace::replaced_by;
 use tocmark_files::rules::Entry;

@@ -5,11 +5,9 @@ use crate::root::{Root, joined};
 use std::alloc::{AllocError, Global};
 use std::fs::DirEntry;
 use std::{fs, io};
+use tocmark_files::names::is_markdown;
 use tocmark_files::rules::{Entry, Rules};
 use tocmark_files::trust::Caller;
-
-/// What the names of Markdown files end with.
-const ENDINGS: [&str; 4] = [".md", ".markdown", ".mdown", ".mkd"];
 
 /// Folders that are never looked into.
 const PASSED_BY: [&str; 4] = [".git", ".hg", ".svn", "node_modules"];
@@ -47,16 +45,6 @@ struct Walk {
     levels: Vec<Level>,
     todo: Vec<Folder>,
     files: Files,
-}
-
-/// Whether a file's name is one of Markdown.
-pub fn is_markdown(name: &str) -> bool {
-    for ending in &ENDINGS {
-        if name.ends_with(*ending) {
-            return true;
-        }
-    }
-    false
 }
 
 /// Whether a folder with this name is never looked into.
