@@ -378,7 +378,7 @@ impl<R: PartReader> Formatter<'_, R> {
 /// It fails if memory runs out, or if a line begins after 4 GiB.
 ///
 /// ```
-/// let answer = formatted(alloc, "a\n=\n -  b\n", &CoreReader, ParserOptions::empty(), Style::new(), &[])?;
+/// let answer = formatted(alloc, "a\n=\n- b\n", &CoreReader, ParserOptions::empty(), Style::new(), &[])?;
 /// assert_eq!(rt; answer.text.as_str(), "# a\n\n- b\n");
 /// ```
 pub fn formatted<R: PartReader>(

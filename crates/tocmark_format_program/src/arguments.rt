@@ -179,7 +179,7 @@ static STYLE: [CommandOption<'static>; 15] = [
         name: "list-indent",
         letter: None,
         takes: Takes::Value("WIDTH"),
-        help: "Indentation of items: that of the marker\n(default), 4 columns, or source",
+        help: "Indentation of items: that of the source\n(default), that of the marker, or 4 columns",
     },
     CommandOption {
         name: "wrap",

@@ -85,7 +85,7 @@ pub(crate) const KEYS: [(&str, Key, &str); 17] = [
     ("rule", Key::Rule, "--- or source"),
     ("tables", Key::Tables, "aligned or source"),
     ("table-width", Key::TableWidth, "a number from 1 to 1000"),
-    ("list-indent", Key::ListIndent, "marker, 4 or source"),
+    ("list-indent", Key::ListIndent, "source, marker or 4"),
     (
         "wrap",
         Key::Wrap,
@@ -152,9 +152,9 @@ const RULES: [(&str, Rule); 2] = [("---", Rule::Dashes), ("source", Rule::Source
 const TABLES: [(&str, Tables); 2] = [("aligned", Tables::Aligned), ("source", Tables::Source)];
 
 const LIST_INDENTS: [(&str, ListIndent); 3] = [
+    ("source", ListIndent::Source),
     ("marker", ListIndent::Marker),
     ("4", ListIndent::Four),
-    ("source", ListIndent::Source),
 ];
 
 const WRAPS: [(&str, Wrap); 3] = [
@@ -162,6 +162,14 @@ const WRAPS: [(&str, Wrap); 3] = [
     ("no", Wrap::No),
     ("sentence", Wrap::Sentence),
 ];
+
+/// The indents of items that are alike in all texts: four columns where a site of MkDocs asks for them, else one blank.
+fn one_indent(indent: ListIndent) -> ListIndent {
+    match indent {
+        ListIndent::Four => ListIndent::Four,
+        ListIndent::Marker | ListIndent::Source => ListIndent::Marker,
+    }
+}
 
 impl Look {
     /// A style with the options that it sets.
@@ -190,6 +198,7 @@ impl Look {
                 hard_break: HardBreak::Backslash,
                 rule: Rule::Dashes,
                 tables: Tables::Aligned,
+                list_indent: one_indent(style.list_indent),
                 ..style
             },
         }

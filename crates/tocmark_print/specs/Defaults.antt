@@ -8,8 +8,8 @@ use Rattle.tocmark_print.specs.declared.style.ListIndent.TheVariants as indent
 use Rattle.tocmark_print.specs.declared.style.Tables.TheVariants.{Aligned}
 use Rattle.tocmark_print.specs.declared.style.Wrap.TheVariants.{Keep}
 
--- as in the source what the source has, also its lines and its markers of emphasis; fences of three, rules of dashes, one
--- blank after the markers of items, and aligned tables of 120 columns
+-- as in the source what the source has, also its lines, its markers of emphasis and the indents of its items; fences of
+-- three, rules of dashes, and aligned tables of 120 columns
 abbrev pub usual_style : Style
 usual_style = record {
   bullet = None;
@@ -24,5 +24,5 @@ usual_style = record {
   tables = Aligned;
   table_width = 120;
   wrap = Keep;
-  list_indent = indent.Marker;
+  list_indent = indent.Source;
 }

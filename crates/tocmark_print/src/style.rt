@@ -144,8 +144,8 @@ pub struct Style {
 }
 
 impl Style {
-    /// Bullets, delimiters, numbers, emphasis, fences and breaks of lines as in the source, rules of `---`, fences of three, one
-    /// blank after the markers of items, and tables that are aligned up to 120 columns.
+    /// Bullets, delimiters, numbers, indents of items, emphasis, fences and breaks of lines as in the source, rules of `---`,
+    /// fences of three, and tables that are aligned up to 120 columns.
     pub fn new() -> Style
         ensures { result ≡ usual_style }
     {
@@ -162,7 +162,7 @@ impl Style {
             tables: Tables::Aligned,
             table_width: 120,
             wrap: Wrap::Keep,
-            list_indent: ListIndent::Marker,
+            list_indent: ListIndent::Source,
         }
     }
 }
