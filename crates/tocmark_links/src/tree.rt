@@ -67,7 +67,7 @@ enum Entry {
 pub struct Tree {
     alloc: Global,
     entries: IndexMap<String, Entry>,
-    /// A path for each name of a file or folder: the first that was added.
+    /// A path for each name of a file or folder, in lower case: the first that was added.
     by_name: IndexMap<String, String>,
 }
 
@@ -76,6 +76,12 @@ const COMPARED: usize = 500;
 
 /// How many bytes of a name are compared.
 const LONGEST: usize = 100;
+
+fn in_lower_case(alloc: Global, name: &str) -> Result<String, AllocError> {
+    let mut lower = String::from_str(alloc, name)?;
+    lower.make_ascii_lowercase();
+    Ok(lower)
+}
 
 impl Tree {
     /// A tree without files.
@@ -112,11 +118,10 @@ impl Tree {
     }
 
     fn add_entry(&mut self, path: &str, entry: Entry) -> Result<(), AllocError> {
-        let name = folder_and_name(path).1;
-        if !self.by_name.contains_key(name) {
-            let place = String::from_str(self.alloc, path)?;
+        let name = in_lower_case(self.alloc, folder_and_name(path).1)?;
+        if !self.by_name.contains_key(name.as_str()) {
             self.by_name
-                .insert(String::from_str(self.alloc, name)?, place)?;
+                .insert(name, String::from_str(self.alloc, path)?)?;
         }
         self.entries
             .insert(String::from_str(self.alloc, path)?, entry)?;
@@ -236,8 +241,8 @@ impl Tree {
     pub fn nearest(&self, led: &Led) -> Result<Option<String>, AllocError> {
         match led {
             Led::Nowhere { path } => {
-                let name = folder_and_name(path.as_str()).1;
-                match self.by_name.get(name) {
+                let name = in_lower_case(self.alloc, folder_and_name(path.as_str()).1)?;
+                match self.by_name.get(name.as_str()) {
                     None => Ok(None),
                     Some(path) => Ok(Some(path.clone()?)),
                 }
