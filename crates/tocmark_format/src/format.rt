@@ -15,7 +15,7 @@ ghost use Rattle.tocmark_print.specs.Fills.{fills};
 
 use crate::answer::{Formatted, Left, Reason};
 use crate::falling::{ReadBack, blocks_apart, blocks_left, fall_all};
-use crate::range::{Lines, Patch, StyledLines, keep_others};
+use crate::range::{Ends, Lines, Patch, StyledLines, keep_others};
 use crate::trees::Places;
 use std::alloc::{AllocError, Global};
 use tocmark_event::event::ParserOptions;
@@ -255,7 +255,32 @@ impl<R: PartReader> Formatter<'_, R> {
         }
     }
 
-    /// Formats a text with carriage returns. In the answer all lines end alike.
+    /// A formatted text without the end of its last line. `None`: that isn't asked for, or it reads otherwise than the source.
+    fn without_last_end(
+        &self,
+        whole: &str,
+        ending: &str,
+        text: &str,
+    ) -> Result<Option<String>, AllocError>
+        ensures { IfOk result (λ cut. IfSome cut (λ cut. AreAlike
+            self.now.judge.folds self.now.judge.flags self.now.judge.also.now
+            (R.reading self.now.judge.reader.now) (R.definitions self.now.judge.reader.now)
+            (string_bytes cut) text.now)) }
+    {
+        let cut = match whole.strip_suffix(ending) {
+            Some(cut) if self.asked.ends.omits_last => cut,
+            _ => return Ok(None),
+        };
+        if self.judge.are_alike(cut, text)? {
+            let cut = String::from_str(self.judge.alloc, cut)?;
+            Ok(Some(cut))
+        } else {
+            Ok(None)
+        }
+    }
+
+    /// Formats a text with carriage returns, or one whose lines have to end otherwise than with line feeds. In the answer all
+    /// lines end alike.
     fn format_with_returns(&self, text: &str) -> Result<Formatted, AllocError>
         ensures { IfOk result (λ answer. AreAlike
             self.now.judge.folds self.now.judge.flags self.now.judge.also.now
@@ -264,9 +289,11 @@ impl<R: PartReader> Formatter<'_, R> {
     {
         let bare = with_line_feeds(self.judge.alloc, text)?;
         let Formatted { text: lines, left } = self.format_lines(bare.as_str())?;
-        let whole = lines
-            .as_str()
-            .replace(self.judge.alloc, "\n", line_ending(text))?;
+        let ending = self.asked.ends.of(line_ending(text));
+        let whole = lines.as_str().replace(self.judge.alloc, "\n", ending)?;
+        if let Some(cut) = self.without_last_end(whole.as_str(), ending, text)? {
+            return Ok(Formatted { text: cut, left });
+        }
         if self.judge.are_alike(whole.as_str(), text)? {
             Ok(Formatted { text: whole, left })
         } else {
@@ -319,10 +346,10 @@ impl<R: PartReader> Formatter<'_, R> {
     {
         if let Some(lines) = self.asked.lines {
             self.format_some(text, lines)
-        } else if text.contains('\r') {
-            self.format_with_returns(text)
-        } else {
+        } else if self.asked.ends.are_plain(text) {
             self.format_lines(text)
+        } else {
+            self.format_with_returns(text)
         }
     }
 
@@ -403,7 +430,11 @@ pub fn formatted<R: PartReader>(
         (R.reading reader.now (after_mark (string_bytes answer.text)) flags)
         (R.reading reader.now (after_mark text.now) flags)) also.now) }
 {
-    let asked = StyledLines { style, lines: None };
+    let asked = StyledLines {
+        style,
+        lines: None,
+        ends: Ends::new(),
+    };
     formatted_lines(alloc, text, reader, flags, asked, also)
 }
 

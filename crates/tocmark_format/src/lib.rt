@@ -2,8 +2,8 @@
 //!
 //! Enter at `formatted` (`format`). It lets `tocmark_print` print the document, reads the result back, and lets
 //! `tocmark_judge` compare it with the source. What is read otherwise is printed again, nearer to the source (`falling`);
-//! `trees` counts which trees of the source and of the result belong to a block. `range` formats some lines of a document.
-//! `answer` says what comes out.
+//! `trees` counts which trees of the source and of the result belong to a block. `range` formats some lines of a document, and
+//! says how lines end. `answer` says what comes out.
 #![tactic(auto)]
 
 mod answer;
@@ -14,4 +14,4 @@ mod trees;
 
 pub use answer::{Formatted, Left, Reason};
 pub use format::{formatted, formatted_lines};
-pub use range::{Lines, StyledLines};
+pub use range::{Ending, Ends, Lines, StyledLines};

@@ -11,12 +11,58 @@ pub struct Lines {
     pub last: usize,
 }
 
-/// How a document is to look, and which of its lines are formatted.
+/// How a document is to look, which of its lines are formatted, and how they end.
 #[derive(Clone, Copy)]
 pub struct StyledLines {
     pub style: Style,
     /// Each block that one of these lines touches is formatted. `None`: all are.
     pub lines: Option<Lines>,
+    /// How the lines end if all are formatted.
+    pub ends: Ends,
+}
+
+/// What a line ends with.
+#[derive(Clone, Copy, PartialEq, Eq)]
+pub enum Ending {
+    LineFeed,
+    CarriageReturn,
+    /// A carriage return and a line feed.
+    Both,
+}
+
+/// How the lines of a document end.
+#[derive(Clone, Copy)]
+pub struct Ends {
+    /// What each line ends with. `None`: what the first line feed of the source ends with, or a carriage return without one.
+    pub each: Option<Ending>,
+    /// Whether the last line has no end, if the document reads the same without it.
+    pub omits_last: bool,
+}
+
+impl Ends {
+    /// Lines that end as in the source, also the last one.
+    pub fn new() -> Ends {
+        Ends {
+            each: None,
+            omits_last: false,
+        }
+    }
+
+    /// Whether the lines of a text end with line feeds alone before and after it is formatted.
+    pub(crate) fn are_plain(self, text: &str) -> bool {
+        let is_feed = matches!(self.each, None | Some(Ending::LineFeed));
+        is_feed && !self.omits_last && !text.contains('\r')
+    }
+
+    /// What each line of a text ends with after it is formatted; `own` is what it ends with before.
+    pub(crate) fn of(self, own: &'static str) -> &'static str {
+        match self.each {
+            Some(Ending::LineFeed) => "\n",
+            Some(Ending::CarriageReturn) => "\r",
+            Some(Ending::Both) => "\r\n",
+            None => own,
+        }
+    }
 }
 
 /// What a blank line has.

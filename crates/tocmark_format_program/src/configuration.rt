@@ -1,5 +1,6 @@
 //! Configuration files: TOML, whose keys are the long options of formatting, `exclude`, `include` and `overrides`.
 
+use crate::editorconfig::Asked;
 use crate::settings::{Key, Setting, Settings, key_named, set_all};
 use crate::text::{line_behind, text_of};
 use std::alloc::{AllocError, AllocFailed, Global};
@@ -18,6 +19,8 @@ pub(crate) struct Configuration {
     /// Which files are formatted. `None`: those with names of Markdown.
     pub(crate) include: Option<Rules>,
     overrides: Vec<Override>,
+    /// What of files of EditorConfig counts.
+    pub(crate) editorconfig: Asked,
 }
 
 /// Options for some files.
@@ -58,10 +61,13 @@ struct Source<'t> {
 const GLOBS: &str = "a list of globs, as [\"docs/**\", \"*.{md,txt}\"]";
 
 /// The keys that don't name an option, and that no override has.
-const GENERAL: [&str; 3] = ["exclude", "include", "overrides"];
+const GENERAL: [&str; 4] = ["editorconfig", "exclude", "include", "overrides"];
 
 /// The keys that are read before the others.
 const FIRST: [&str; 2] = ["syntax", "look"];
+
+/// What `editorconfig` takes.
+const EDITORCONFIG: &str = "true, false or \"wrap\"";
 
 /// What `overrides` takes.
 const OVERRIDES: &str = "a list of tables, each with files = [globs]";
@@ -312,16 +318,28 @@ impl<'t> Source<'t> {
         }
     }
 
+    /// What of files of EditorConfig counts.
+    fn editorconfig(self, table: &Table) -> Result<Asked, ConfigError> {
+        match table.get("editorconfig") {
+            None | Some(Value::Boolean(false)) => Ok(Asked::Nothing),
+            Some(Value::Boolean(true)) => Ok(Asked::Ends),
+            Some(Value::String(word)) if word.as_str() == "wrap" => Ok(Asked::EndsAndWidth),
+            Some(_) => Err(self.wrong("editorconfig", EDITORCONFIG)),
+        }
+    }
+
     fn configuration(self, table: &Table) -> Result<Configuration, ConfigError> {
         let values = self.values(table, &GENERAL)?;
         let exclude = self.exclude(table)?;
         let include = self.globs(table, "include")?;
         let overrides = self.overrides(table)?;
+        let editorconfig = self.editorconfig(table)?;
         Ok(Configuration {
             values,
             exclude,
             include,
             overrides,
+            editorconfig,
         })
     }
 
@@ -373,6 +391,7 @@ impl Configuration {
             exclude: Rules::new(alloc, "/")?,
             include: None,
             overrides: Vec::new(alloc),
+            editorconfig: Asked::Nothing,
         })
     }
 

@@ -55,6 +55,7 @@ pub fn decided<R: PartReader>(
         style,
         also,
         lines,
+        ends,
     } = settings;
     let also = also.flags(alloc)?;
     let Formatted { text: new, left } = formatted_lines(
@@ -62,7 +63,7 @@ pub fn decided<R: PartReader>(
         text.as_str(),
         reader,
         flags,
-        StyledLines { style, lines },
+        StyledLines { style, lines, ends },
         &also,
     )?;
     if new.as_str() == text.as_str() {

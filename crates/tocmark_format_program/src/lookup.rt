@@ -1,8 +1,10 @@
-//! The configuration of each folder: the nearest file in it or above, and whether it belongs to a site of MkDocs. Each file is
-//! read once.
+//! The configuration of each folder: the nearest file in it or above, what files of EditorConfig say if it asks for them, and
+//! whether it belongs to a site of MkDocs. Each file is read once.
 
 use crate::configuration::{ConfigError, Configuration};
+use crate::editorconfig::{Asked, EditorConfig, Said};
 use crate::settings::Settings;
+use crate::text::text_of;
 use std::alloc::{AllocError, AllocFailed, Global};
 use std::collections::HashMap;
 use std::path::{Path, PathBuf};
@@ -13,6 +15,9 @@ use tocmark_print::ListIndent;
 
 /// The name of configuration files.
 const NAME: &str = ".tocmark.toml";
+
+/// The name of files of EditorConfig.
+const EDITORCONFIG: &str = ".editorconfig";
 
 /// The name of the file that MkDocs reads.
 const SITE: &str = "mkdocs.yml";
@@ -210,10 +215,88 @@ fn goes_on(rt: &HostRuntime, caller: Caller, folder: Path<'_>) -> Result<bool, R
     Ok(false)
 }
 
+/// What a folder has of EditorConfig.
+#[derive(Clone, Copy)]
+struct EditorFolder {
+    /// The number of its file.
+    file: Option<usize>,
+    /// Whether no file above it counts.
+    is_last: bool,
+}
+
+/// The files of EditorConfig that were read, and which folder has which.
+#[derive(Drop)]
+struct EditorConfigs {
+    caller: Caller,
+    all: Vec<EditorConfig>,
+    by_folder: HashMap<String, EditorFolder>,
+}
+
+impl EditorConfigs {
+    fn new(rt: &HostRuntime, caller: Caller) -> EditorConfigs {
+        EditorConfigs {
+            caller,
+            all: Vec::new(rt.alloc()),
+            by_folder: HashMap::new(rt.alloc()),
+        }
+    }
+
+    /// Reads the file of a folder, if it has one.
+    fn read(&mut self, rt: &HostRuntime, folder: Path<'_>) -> Result<EditorFolder, Refused> {
+        let mut read = EditorFolder {
+            file: None,
+            is_last: false,
+        };
+        if let Some((path, bytes)) = file_in(rt, self.caller, folder, EDITORCONFIG)? {
+            let text = match text_of(bytes) {
+                Ok(text) => text,
+                Err(line) => return Err(Refused::Wrong(path, ConfigError::NotUtf8(line))),
+            };
+            let config = EditorConfig::parse(rt.alloc(), text.as_str(), folder.as_str())?;
+            read.is_last = config.is_root;
+            read.file = Some(self.all.len());
+            self.all.push(config)?;
+        }
+        if !read.is_last {
+            read.is_last = !goes_on(rt, self.caller, folder)?;
+        }
+        Ok(read)
+    }
+
+    /// What a folder has. It is read once.
+    fn folder(&mut self, rt: &HostRuntime, folder: Path<'_>) -> Result<EditorFolder, Refused> {
+        if let Some(known) = self.by_folder.get(folder.as_str()) {
+            return Ok(*known);
+        }
+        let read = self.read(rt, folder)?;
+        let name = String::from_str(rt.alloc(), folder.as_str())?;
+        self.by_folder.insert(name, read)?;
+        Ok(read)
+    }
+
+    /// What is said of the file with this path in this folder. The nearest file that says something counts.
+    fn said_of(&mut self, rt: &HostRuntime, folder: &str, path: &str) -> Result<Said, Refused> {
+        let mut said = Said::NOTHING;
+        for above in Path::new(folder).ancestors() {
+            let EditorFolder { file, is_last } = self.folder(rt, above)?;
+            if let Some(file) = file
+                && let Some(config) = self.all.get(file)
+            {
+                said = said.or(config.said_of(rt.alloc(), path)?);
+            }
+            if is_last {
+                break;
+            }
+        }
+        Ok(said)
+    }
+}
+
 /// The configurations that were read, and which folder has which.
 #[derive(Drop)]
 pub struct Configurations {
     caller: Caller,
+    editors: EditorConfigs,
     /// The first holds where there is no file, or is that of `--config`.
     all: Vec<Configuration>,
     /// Whether the first is for all folders.
@@ -234,8 +317,10 @@ impl Configurations {
         };
         let mut all = Vec::new(rt.alloc());
         all.push(first)?;
+        let caller = Caller::new(rt);
         Ok(Configurations {
-            caller: Caller::new(rt),
+            caller,
+            editors: EditorConfigs::new(rt, caller),
             all,
             is_one: path.is_some(),
             by_folder: HashMap::new(rt.alloc()),
@@ -319,6 +404,25 @@ impl Configurations {
         Ok(is_of_site)
     }
 
+    /// Sets what files of EditorConfig say of the file with this path in this folder, if a configuration asks for them.
+    fn set_by_editor(
+        &mut self,
+        rt: &HostRuntime,
+        at: usize,
+        folder: &str,
+        path: &str,
+        settings: &mut Settings,
+    ) -> Result<(), Refused> {
+        let asked = match self.all.get(at) {
+            Some(configuration) => configuration.editorconfig,
+            None => Asked::Nothing,
+        };
+        if asked != Asked::Nothing {
+            self.editors.said_of(rt, folder, path)?.set(asked, settings);
+        }
+        Ok(())
+    }
+
     /// The settings by a configuration, in this folder, of the file with this path, or of a text without a name. Nested lists of a
     /// site of MkDocs need four columns.
     pub(crate) fn settings(
@@ -331,6 +435,9 @@ impl Configurations {
         let mut settings = Settings::new();
         if self.is_of_site(rt, folder)? {
             settings.style.list_indent = ListIndent::Four;
+        }
+        if let Some(path) = path {
+            self.set_by_editor(rt, at, folder, path, &mut settings)?;
         }
         if let Some(configuration) = self.all.get(at) {
             configuration.set(rt.alloc(), path, &mut settings)?;

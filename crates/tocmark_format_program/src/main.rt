@@ -6,7 +6,7 @@
 //! `tocmark_command`, which has what it shares with `tocmark-events`. Enter at `main`.
 //!
 //! What a call asks for: `words` has its words, `arguments` the command line, `settings` what the options and the keys of a
-//! configuration name, `configuration` reads such a file, and `lookup` finds that of each folder. Which texts are meant:
+//! configuration name, `configuration` reads such a file, and `lookup` finds that of each folder; `editorconfig` reads files of EditorConfig. Which texts are meant:
 //! `search` finds them, `walk` those below a folder, and `list` those of a list; `ignores` has the rules of `.gitignore`.
 //! What is done: `decide` has what is written for a text, `text` reads one, `stream` answers standard input, and `replace`
 //! replaces a file. What is printed: `outcome` has what became of a text and the status, `report` and `fault` have the
@@ -16,6 +16,7 @@
 mod arguments;
 mod configuration;
 mod decide;
+mod editorconfig;
 mod fault;
 mod ignores;
 mod list;

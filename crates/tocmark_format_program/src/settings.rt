@@ -6,7 +6,7 @@ ghost use Rattle.tocmark_format_program.specs.AlsoRead.{also_flags, asked_flags}
 use std::alloc::{AllocError, Global};
 use tocmark_command::syntax::{extended, syntax_named};
 use tocmark_event::event::ParserOptions;
-use tocmark_format::Lines;
+use tocmark_format::{Ends, Lines};
 use tocmark_print::{
     Bullet, Delimiter, Fence, HardBreak, ListIndent, Marker, Numbering, Rule, Style, Tables, Wrap,
 };
@@ -33,6 +33,8 @@ pub struct Settings {
     pub also: AlsoRead,
     /// Which of its lines are formatted; `None`: all.
     pub lines: Option<Lines>,
+    /// How its lines end.
+    pub ends: Ends,
 }
 
 /// An option of formatting.
@@ -213,6 +215,7 @@ impl Settings {
             style: Style::new(),
             also: AlsoRead::NONE,
             lines: None,
+            ends: Ends::new(),
         }
     }
 }
@@ -305,7 +308,7 @@ fn length_of(word: &str) -> Option<usize> {
 }
 
 /// The columns that a word says.
-fn width_of(word: &str) -> Option<usize> {
+pub(crate) fn width_of(word: &str) -> Option<usize> {
     let width: usize = word.parse().ok()?;
     if width < 1 || width > 1000 {
         return None;
