@@ -120,7 +120,7 @@ count_links_third : covered_in standard_links_third ≡ 30
 unfolding starts_at is_unquoted is_mailbox is_in run_end repeated iterated name_end closing_tag quoted_end value value_end attribute tag_close open_tag further filled trimmed first_cursor level_of is_behind heading_end_before heading_at is_fence_byte fence_at closes_fence tail_of is_rule_byte is_rule is_underline_byte underline_at number_step bullet_at ordered_at marker_at same_word is_raw_name is_block_name ends_name is_raw block_tag is_block_tag tag_end is_tag_line html_kind holds_raw_end html_ends beginning lib.Utf8.encode is_covered is_plain_list covered_in
 count_links_third = refl
 
-count_lists : covered_in standard_lists ≡ 4
+count_lists : covered_in standard_lists ≡ 8
 unfolding starts_at is_unquoted is_mailbox is_in run_end repeated iterated name_end closing_tag quoted_end value value_end attribute tag_close open_tag further filled trimmed first_cursor level_of is_behind heading_end_before heading_at is_fence_byte fence_at closes_fence tail_of is_rule_byte is_rule is_underline_byte underline_at number_step bullet_at ordered_at marker_at same_word is_raw_name is_block_name ends_name is_raw block_tag is_block_tag tag_end is_tag_line html_kind holds_raw_end html_ends beginning lib.Utf8.encode is_covered is_plain_list covered_in
 count_lists = refl
 

@@ -18,6 +18,7 @@ pub mod Markers
 pub mod Pages
 pub mod Paragraphs
 pub mod ListPages
+pub mod BlankLines
 pub mod Told
 pub mod Ends
 pub mod ReadCodes

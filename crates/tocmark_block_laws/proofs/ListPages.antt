@@ -3,6 +3,7 @@ use Rattle.std.proofs.Common.{◌≡◌, ℕ, suc, ◌+◌, ◌-◌, ◌^◌, �
 use Rattle.std.proofs.Math.Seq.{take-length}
 use Rattle.std.proofs.lemmas.Bool.Decides.{nat_tests}
 use Rattle.tocmark_read_scan.specs.Basic.{plus}
+use Rattle.tocmark_read_scan.proofs.PlainContent.{get_behind}
 use Rattle.tocmark_read_scan.proofs.PlainPieces.{drop_behind}
 use Rattle.tocmark_read_lines.specs.Cells.{cell_place}
 use Rattle.tocmark_read_lines.specs.Containers.{raised, raised_at}
@@ -31,7 +32,7 @@ use Rattle.tocmark_read_blocks.specs.Containers.{is_in_list, list_started}
 use Rattle.tocmark_read_blocks.specs.Paragraphs.{text_started, text_taken, rule_started}
 use Rattle.tocmark_read_blocks.specs.declared.leaf.LeafStart.TheVariants as start
 use Rattle.tocmark_block_laws.proofs.Apart.{after_these, one_closed_after}
-use Rattle.tocmark_block_laws.proofs.Open.{last_place, get_last}
+use Rattle.tocmark_block_laws.proofs.Open.{last_place, get_last, set_middle}
 use Rattle.tocmark_block_laws.proofs.Pages.{here, set_last, times_last, piece_in, piece_taken_whole, piece_if, has_words, words}
 use Rattle.tocmark_block_laws.proofs.Paragraphs.{start_from}
 
@@ -112,12 +113,21 @@ list_changes item at l sort b e n had bs ps end number kept other =
     none_leaves : (cs : List Block) → list_left (stack_page [] leaf.Nothing cs ps end number kept) ≡ stack_page [] leaf.Nothing cs ps end number kept
     none_leaves cs = refl
 
--- an item begins
-pub item_begins : (width at : ℕ) (l : Line) (sort b e n : ℕ) (had : Bool) (bs : List Block) (ps : List Piece) (end number kept : ℕ) → (had && nat_lt (plus n 1) l.number) ≡ false
+-- an item begins; the list is loose if it is apart from the one above it
+pub item_begins : (width at : ℕ) (l : Line) (sort b e n : ℕ) (had : Bool) (bs : List Block) (ps : List Piece) (end number kept : ℕ) (apart : Bool) → (had && nat_lt (plus n 1) l.number) ≡ apart
     → opened_with (container.Item width) kind.Item at l (stack_page (list_box sort b e n had ∷ []) leaf.Nothing bs ps end number kept)
-    ≡ stack_page (list_box sort b e n true ∷ item_box width (length bs) l.end l.number false ∷ []) leaf.Nothing (bs ++ item_block b at ps ∷ []) ps end number kept
-unfolding opened_with begun loosened list_of is_apart had_marked is_quote
-item_begins width at l sort b e n had bs ps end number kept near = rw (near, last_place bs (item_block b at ps)) refl
+    ≡ stack_page (list_box sort b e n true ∷ item_box width (length (loosened (Some b) apart bs)) l.end l.number false ∷ []) leaf.Nothing (loosened (Some b) apart bs ++ item_block b at ps ∷ []) ps end number kept
+unfolding opened_with begun list_of is_apart had_marked is_quote
+item_begins width at l sort b e n had bs ps end number kept apart near = rw (near, last_place (loosened (Some b) apart bs) (item_block b at ps)) refl
+
+-- a list is loose
+pub list_loosens : (before mine : List Block) (b : Block) → loosened (Some (length before)) true (before ++ b ∷ mine) ≡ before ++ record b { loose = true } ∷ mine
+unfolding loosened
+list_loosens before mine b = rw (get_behind before mine b) (set_middle before b (record b { loose = true }) mine)
+
+pub list_tight : (b : ℕ) (bs : List Block) → loosened (Some b) false bs ≡ bs
+unfolding loosened
+list_tight b bs = refl
 
 -- it ends
 pub item_leaves : (text : List ℕ) (sort b e n width ib ie in_line : ℕ) (had some : Bool) (bs : List Block) (ps : List Piece) (end number kept : ℕ)

@@ -46,4 +46,4 @@ abbrev pub standard_tables : List (List EventRow)
 standard_tables = standard_breaks ∷ standard_code_first ∷ standard_code_second ∷ standard_definitions_first ∷ standard_definitions_second ∷ standard_emphasis_fifth ∷ standard_emphasis_first ∷ standard_emphasis_fourth ∷ standard_emphasis_second ∷ standard_emphasis_third ∷ standard_fences ∷ standard_html_blocks_first ∷ standard_html_blocks_second ∷ standard_images_first ∷ standard_images_second ∷ standard_items_first ∷ standard_items_second ∷ standard_links_first ∷ standard_links_second ∷ standard_links_third ∷ standard_lists ∷ standard_precedence_first ∷ standard_precedence_second ∷ standard_quotes ∷ standard_setext_first ∷ standard_setext_second ∷ standard_tabs_first ∷ standard_tabs_second ∷ []
 
 abbrev pub StandardIsCovered : Type 0
-StandardIsCovered = covered_by standard_tables ≡ 575
+StandardIsCovered = covered_by standard_tables ≡ 579

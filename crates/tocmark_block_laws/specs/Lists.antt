@@ -18,19 +18,21 @@ abbrev pub indent_of_line : Line → ℕ
 indent_of_line (Written p) = indent p
 indent_of_line (Lazy bytes) = 0
 
--- an item after one whose text is indented so far: it is no part of that, and its first line has one of these leaves, or nothing
-abbrev pub is_item_after : (ℕ → Bool) → ℕ → Line → Beginning → Bool
-is_item_after next width l (ItemLine m) = nat_lt (indent_of_line l) width && is_one_line (beginning (Written m.first)) && next m.width
-is_item_after next width l b = false
+-- a line of lists after an item whose text is indented so far: it is blank, or it begins an item that is no part of that one, and
+-- that has one of these leaves in its first line, or nothing
+abbrev pub is_list_line : (ℕ → Bool) → ℕ → Line → Beginning → Bool
+is_list_line next width l BlankLine = next width
+is_list_line next width l (ItemLine m) = nat_lt (indent_of_line l) width && is_one_line (beginning (Written m.first)) && next m.width
+is_list_line next width l b = false
 
--- each of these lines begins such an item
-abbrev pub are_items_after : ℕ → List Line → Bool
-are_items_after width [] = true
-are_items_after width (l ∷ ls) = is_item_after (λ w. are_items_after w ls) width l (beginning l)
+-- each of these lines is such a line
+abbrev pub are_list_lines : ℕ → List Line → Bool
+are_list_lines width [] = true
+are_list_lines width (l ∷ ls) = is_list_line (λ w. are_list_lines w ls) width l (beginning l)
 
--- a text without tabs, of which each line begins such an item; an item is indented by less than four columns
+-- a text without tabs, of which each line is such a line; an item is indented by less than four columns
 unfoldable pub is_plain_list : List ℕ → Bool
-is_plain_list text = not (list_any is_special text) && are_items_after 4 (lines_of text)
+is_plain_list text = not (list_any is_special text) && are_list_lines 4 (lines_of text)
 
 -- of these texts the reader and the declaration say the same
 abbrev pub ListsAreDeclared : Type 0
