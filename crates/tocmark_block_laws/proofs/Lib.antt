@@ -15,6 +15,7 @@ pub mod ShortDefinitions
 pub mod Starts
 pub mod Seen
 pub mod Markers
+pub mod Indented
 pub mod Pages
 pub mod Paragraphs
 pub mod ListPages
