@@ -198,7 +198,7 @@ quote_leaves outer b x =
     fewer : take (length x.quotes - 1) x.quotes ≡ upto (length outer)
     fewer = ap (λ qs. take (length qs - 1) qs) x.places ∙ ap (λ k. take k (upto (length outer) ++ length outer ∷ [])) (last_place (upto (length outer)) (length outer)) ∙ take_front (upto (length outer)) (length outer ∷ [])
 
-times_last : {S : Type 0} (step : S → S) (n : ℕ) (s : S) → times step (suc n) s ≡ step (times step n s)
+pub times_last : {S : Type 0} (step : S → S) (n : ℕ) (s : S) → times step (suc n) s ≡ step (times step n s)
 unfolding times
 times_last step zero s = refl
 times_last step (suc n) s = times_last step n (step s)
@@ -225,7 +225,7 @@ abbrev pub begin : List ℕ → List Cell → Line → ℕ → Cursor → State 
 begin text cells l d place s = leaf_started text cells l (here d place) s
 
 -- the page with a line, if the line goes on in so many of its containers
-line_comes : (text : List ℕ) (cells : List Cell) (l : Line) (d : ℕ) (place : Cursor) (s : State) → cells_of [] l.start (bytes_between text l.start l.end) ≡ cells → matched_from cells s.opened s.quotes 0 (first_cursor cells) s.opened ≡ (d, place)
+pub line_comes : (text : List ℕ) (cells : List Cell) (l : Line) (d : ℕ) (place : Cursor) (s : State) → cells_of [] l.start (bytes_between text l.start l.end) ≡ cells → matched_from cells s.opened s.quotes 0 (first_cursor cells) s.opened ≡ (d, place)
     → line_taken text s l ≡ turn_taken_in core_known (turn_of text cells l (here d place) (touched l d s)) text cells l (here d place) (touched l d s)
 unfolding line_taken_in cells_taken_in turn_in
 line_comes text cells l d place s read found =
@@ -267,7 +267,7 @@ line_stops text d v f no_quote outer x s low =
 
 -- where no quote begins, a leaf does
 
-opens_none : (text : List ℕ) (cells : List Cell) (l : Line) (e : ℕ) (place : Cursor) (n : ℕ) (s : State) → ((p : Bool) → container_in CORE cells (tail_of cells) place p ≡ None) → repeated (container_once text cells l (tail_of cells)) n (here e place) s ≡ (s, here e place)
+pub opens_none : (text : List ℕ) (cells : List Cell) (l : Line) (e : ℕ) (place : Cursor) (n : ℕ) (s : State) → ((p : Bool) → container_in CORE cells (tail_of cells) place p ≡ None) → repeated (container_once text cells l (tail_of cells)) n (here e place) s ≡ (s, here e place)
 unfolding container_once_in
 opens_none text cells l e place zero s none = repeated_zero (container_once text cells l (tail_of cells)) zero (here e place) s refl
 opens_none text cells l e place (suc m) s none = repeated_stop (container_once text cells l (tail_of cells)) (suc m) (here e place) s s (omega arith) (sym (ap (begun_at text cells l (here e place) s) (none (goes_directly e s))))
@@ -414,7 +414,7 @@ passes_start text cells l d place u LazyLine s t hs ht h = text_start text cells
 
 -- a quote begins
 
-once_same : {C S : Type 0} (once : C → S → S × Option C) (n : ℕ) (c : C) (s t : S) → 0 < n → once c s ≡ once c t → repeated once n c s ≡ repeated once n c t
+pub once_same : {C S : Type 0} (once : C → S → S × Option C) (n : ℕ) (c : C) (s t : S) → 0 < n → once c s ≡ once c t → repeated once n c s ≡ repeated once n c t
 unfolding repeated
 once_same once zero c s t low e = absurd (omega (arith, low))
 once_same once (suc n) c s t low e = ap (going (λ d u. repeated once n d u) c) e

@@ -55,13 +55,13 @@ use Rattle.tocmark_block_laws.proofs.ReadParagraphs.{paragraph_read, paragraph_f
 use Rattle.tocmark_block_laws.proofs.ReadQuotes.{All, Quoting, quote_goes}
 
 -- the text of a heading is that which is declared
-words_told : (text : List ℕ) (l : Line) (columns : List Cell) (n : ℕ) (h : HeadingMark) (ys : List ℕ) → HeadingFacts text l columns n h ys → (k : Bool) → has_words columns (heading_later n h) l ≡ k
+pub words_told : (text : List ℕ) (l : Line) (columns : List Cell) (n : ℕ) (h : HeadingMark) (ys : List ℕ) → HeadingFacts text l columns n h ys → (k : Bool) → has_words columns (heading_later n h) l ≡ k
     → leaf_text text (piece_if k (heading_piece columns (heading_later n h) l)) ≡ heading_text h ys (cells ys)
 unfolding heading_piece
 words_told text l columns n h ys f true e = ap without_last_blanks f.says ∙ f.idle
 words_told text l columns n h ys f false e = sym (between_none text (cell_place columns (n + h.from) l.end) (cell_place columns (n + h.to) l.end) e) ∙ f.says
 
-few_words : (k : Bool) (p : Piece) → length (piece_if k p) ≤ 1
+pub few_words : (k : Bool) (p : Piece) → length (piece_if k p) ≤ 1
 few_words true p = omega arith
 few_words false p = omega arith
 
@@ -319,7 +319,7 @@ read_all text (suc fuel) r (suc m) low at v cs x bs ps end number kept found h r
 abbrev IsLeaf : List ℕ → DeclaredLine → Type 0
 IsLeaf text l = IsLeafLine (ends_with_feed text) (content_of l)
 
-both_true : (a b : Bool) → (not a && b) ≡ true → (a ≡ false) × (b ≡ true)
+pub both_true : (a b : Bool) → (not a && b) ≡ true → (a ≡ false) × (b ≡ true)
 both_true true b h = absurd (true≢false (sym h))
 both_true false b h = (refl, h)
 

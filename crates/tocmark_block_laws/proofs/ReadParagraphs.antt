@@ -242,13 +242,13 @@ paragraph_holds text r fuel at whole cs bs ps qs m found done ds texts h o =
 -- a paragraph at the end
 
 -- the blocks and definitions of what is declared there
-told_last : (ds : List DefinitionView) (at n : ℕ) (us : List (List ℕ)) → told (tree (definitions_found at ds n ++ (paragraph_left (at + n) us ++ []))) ≡ more_if (left_as us) none
+pub told_last : (ds : List DefinitionView) (at n : ℕ) (us : List (List ℕ)) → told (tree (definitions_found at ds n ++ (paragraph_left (at + n) us ++ []))) ≡ more_if (left_as us) none
 told_last [] at n [] = refl
 told_last [] at n (u ∷ us) = refl
 told_last (d ∷ ds) at n [] = refl
 told_last (d ∷ ds) at n (u ∷ us) = refl
 
-defined_last : (ds : List DefinitionView) (at n : ℕ) (us : List (List ℕ)) → defined (tree (definitions_found at ds n ++ (paragraph_left (at + n) us ++ []))) ≡ ds
+pub defined_last : (ds : List DefinitionView) (at n : ℕ) (us : List (List ℕ)) → defined (tree (definitions_found at ds n ++ (paragraph_left (at + n) us ++ []))) ≡ ds
 defined_last [] at n [] = refl
 defined_last [] at n (u ∷ us) = refl
 defined_last (d ∷ ds) at n [] = append-nil (d ∷ ds)

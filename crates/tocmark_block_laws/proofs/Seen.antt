@@ -43,7 +43,7 @@ pub record Seen (text : List ℕ) (d : ℕ) : Type 0 where
   pub enough : length bytes ≤ fuel
   pub leaf : IsLeafLine (ends_with_feed text) (content_in fuel (left_at place bytes))
 
-at_line : (text : List ℕ) (l : Line) (c : ℕ) → IsPlain text → length text + 3 < 2 ^ 64 → Sound text l → has_feed (bytes_between text l.start l.end) ≡ false → (ends_with_feed text ≡ true → Fed text l) → c ≤ length (bytes_between text l.start l.end)
+pub at_line : (text : List ℕ) (l : Line) (c : ℕ) → IsPlain text → length text + 3 < 2 ^ 64 → Sound text l → has_feed (bytes_between text l.start l.end) ≡ false → (ends_with_feed text ≡ true → Fed text l) → c ≤ length (bytes_between text l.start l.end)
     → At text l c (bytes_between text l.start l.end) (drop c (bytes_between text l.start l.end))
 at_line text l c plain fits sound feedless fed inside =
     record {
@@ -78,7 +78,7 @@ at_line text l c plain fits sound feedless fed inside =
     wide = between_length text l.start l.end ordered in_text
 
 -- what both see of a line at a column
-facts_at : (text : List ℕ) (l : Line) (c : ℕ) (xs ys : List ℕ) → At text l c xs ys → (is_quote_kind (beginning (left_at (place_at c ys) ys)) ≡ false → IsLeafAt text c ys) → Facts text l (cells_at l.start [] xs) (place_at c ys) ys
+pub facts_at : (text : List ℕ) (l : Line) (c : ℕ) (xs ys : List ℕ) → At text l c xs ys → (is_quote_kind (beginning (left_at (place_at c ys) ys)) ≡ false → IsLeafAt text c ys) → Facts text l (cells_at l.start [] xs) (place_at c ys) ys
 unfolding beginning
 facts_at text l c xs ys a leaf = by (is_blank ys) (nat_le 4 (indent (part_at c ys))) refl refl
   where
@@ -143,7 +143,7 @@ facts text d v =
 
 -- the place after a block quote marker
 
-moved_place : (start : ℕ) (xs : List ℕ) (from : Cursor) (k : ℕ) → from.ink < k → k ≤ length xs → IsPlain xs → length xs + 3 < 2 ^ 64 → moved (cells_at start [] xs) from k ≡ place_at k (drop k xs)
+pub moved_place : (start : ℕ) (xs : List ℕ) (from : Cursor) (k : ℕ) → from.ink < k → k ≤ length xs → IsPlain xs → length xs + 3 < 2 ^ 64 → moved (cells_at start [] xs) from k ≡ place_at k (drop k xs)
 unfolding moved
 moved_place start xs from k further low plain fits =
     let past : nat_le k from.ink ≡ false = grind (arith, further, nat_tests) in

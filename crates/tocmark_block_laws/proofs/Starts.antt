@@ -675,6 +675,25 @@ near_line text l c xs ys b bs a i blank near =
     quote : (cell_byte whole (c + n) == 62) ≡ (b == 62)
     quote = ap (λ k. cell_byte whole k == 62) (let q : c + n ≡ c + n + 0 = omega arith in q) ∙ ap (λ k. k == 62) (byte_on (c + n) whole (cells (b ∷ bs)) 0 i.behind) ∙ ap (λ cs. cell_byte cs 0 == 62) rest_cells
 
+-- a line is a thematic break if its ink is
+pub rule_near : (text : List ℕ) (l : Line) (c : ℕ) (xs ys : List ℕ) (b : ℕ) (bs : List ℕ) → Inked text l c xs ys b bs → is_rule (cells_at l.start [] xs) (tail_of (cells_at l.start [] xs)) (c + spaces_of ys) ≡ is_rule (cells (b ∷ bs)) (tail_of (cells (b ∷ bs))) 0
+rule_near text l c xs ys b bs i = rule_on (c + spaces_of ys) (cells_at l.start [] xs) rest i.behind tail_short
+  where
+    rest : List Cell
+    rest = cells (b ∷ bs)
+
+    rest_cells : rest ≡ cells_at 0 [] (b ∷ bs)
+    rest_cells = plain_cells 0 (b ∷ bs) (no_tab (b ∷ bs) i.rest_plain)
+
+    tail_short : trailing rest 32 < length rest
+    tail_short =
+        let asked : trailing (cells_at 0 [] (b ∷ bs)) 32 ≡ length (take_while (λ x. x == 32) (reverse (b ∷ bs))) = trailing_asked (cells_at 0 [] (b ∷ bs)) 32 ∙ ap (λ (zs : List ℕ). length (take_while (λ x. x == 32) (reverse zs))) (bytes_kept 0 [] (b ∷ bs)) in
+        let kept : length (cells_at 0 [] (b ∷ bs)) ≡ length (b ∷ bs) = length_kept 0 [] (b ∷ bs) in
+        let stops : length (take_while (λ x. x == 32) (reverse (b ∷ bs))) < length (b ∷ bs) = back_stops (λ x. x == 32) b bs i.no_space in
+        let one : trailing rest 32 ≡ trailing (cells_at 0 [] (b ∷ bs)) 32 = ap (λ cs. trailing cs 32) rest_cells in
+        let two : length rest ≡ length (cells_at 0 [] (b ∷ bs)) = ap length rest_cells in
+        omega (arith, asked, kept, stops, one, two)
+
 pub near_facts : (text : List ℕ) (l : Line) (c : ℕ) (xs ys : List ℕ) (b : ℕ) (bs : List ℕ) → At text l c xs ys → Inked text l c xs ys b bs → Near c xs ys l.start b bs → (b == 62) ≡ false → IsLeafAt text c ys → Facts text l (cells_at l.start [] xs) (place_at c ys) ys
 unfolding container_in container_at item_at definition_start note_start leaf_at mark_at html_at underline_in rule_at
 near_facts text l c xs ys b bs a i k no_quote leaf =
@@ -729,20 +748,8 @@ near_facts text l c xs ys b bs a i k no_quote leaf =
     signs : begins_sign (heading_at rest 0) (fence_at rest (first_cursor rest)) (html_if (b == 60) (b ∷ bs)) ≡ true → NoMark b
     signs e = sign_begins rest b (b ∷ bs) (first_cursor rest) k.first k.no_spaces e
 
-    rest_cells : rest ≡ cells_at 0 [] (b ∷ bs)
-    rest_cells = plain_cells 0 (b ∷ bs) (no_tab (b ∷ bs) i.rest_plain)
-
-    tail_short : trailing rest 32 < length rest
-    tail_short =
-        let asked : trailing (cells_at 0 [] (b ∷ bs)) 32 ≡ length (take_while (λ x. x == 32) (reverse (b ∷ bs))) = trailing_asked (cells_at 0 [] (b ∷ bs)) 32 ∙ ap (λ (zs : List ℕ). length (take_while (λ x. x == 32) (reverse zs))) (bytes_kept 0 [] (b ∷ bs)) in
-        let kept : length (cells_at 0 [] (b ∷ bs)) ≡ length (b ∷ bs) = length_kept 0 [] (b ∷ bs) in
-        let stops : length (take_while (λ x. x == 32) (reverse (b ∷ bs))) < length (b ∷ bs) = back_stops (λ x. x == 32) b bs i.no_space in
-        let one : trailing rest 32 ≡ trailing (cells_at 0 [] (b ∷ bs)) 32 = ap (λ cs. trailing cs 32) rest_cells in
-        let two : length rest ≡ length (cells_at 0 [] (b ∷ bs)) = ap length rest_cells in
-        omega (arith, asked, kept, stops, one, two)
-
     rule_same : is_rule whole (tail_of whole) n ≡ is_rule rest (tail_of rest) 0
-    rule_same = rule_on n whole rest i.behind tail_short
+    rule_same = rule_near text l c xs ys b bs i
 
 -- a line with a block quote marker
 

@@ -160,19 +160,19 @@ ended_middle : (xs : List ReadBlock) (x : ReadBlock) (ys : List ReadBlock) (end 
 unfolding ended
 ended_middle xs x ys end = rw (get_behind xs ys x) (set_middle xs x (record x { end = end }) ys)
 
--- the block of a quote
-abbrev pub is_quote_block : ReadBlock → Type 0
-is_quote_block b = b.kind ≡ kind.Quote None
-
--- the run of the lines in a quote
+-- the run of the lines in a container with this block
 abbrev pub inner_run : Run → List ReadBlock → List Piece → ReadBlock → ℕ → (limit : ℕ) → limit ≤ 2 ^ 64 → Run
 inner_run r bs ps b count limit fits = record { outer = length bs ∷ r.outer; base = bs ++ b ∷ []; old = ps; count = count; limit = limit; fits = fits }
 
--- a quote, when it ends
-pub holds_quote : (text : List ℕ) (r : Run) (bs : List ReadBlock) (ps : List Piece) (found : Blocks) (b : ReadBlock) (count limit : ℕ) (fits : limit ≤ 2 ^ 64) (cs : List ReadBlock) (qs : List Piece) (inside : Blocks) (end : ℕ)
-    → Holds text r bs ps found → b.depth ≡ length r.outer → is_quote_block b → Holds text (inner_run r bs ps b count limit fits) cs qs inside
-    → Holds text r (ended cs (length bs) end) qs (also found (more (Quote inside) none))
-holds_quote text r bs ps found b count limit fits cs qs inside end h k quote i = record {
+-- a container that is this block if these blocks are in it
+abbrev pub IsBox : List ℕ → ReadBlock → Blocks → Block → Type 0
+IsBox text b inside x = (pieces : List Piece) → block_as text b.kind b.loose pieces inside ≡ Some x
+
+-- a container, when it ends
+pub holds_box : (text : List ℕ) (r : Run) (bs : List ReadBlock) (ps : List Piece) (found : Blocks) (b : ReadBlock) (count limit : ℕ) (fits : limit ≤ 2 ^ 64) (cs : List ReadBlock) (qs : List Piece) (inside : Blocks) (x : Block) (end : ℕ)
+    → Holds text r bs ps found → b.depth ≡ length r.outer → IsBox text b inside x → Holds text (inner_run r bs ps b count limit fits) cs qs inside
+    → Holds text r (ended cs (length bs) end) qs (also found (more x none))
+holds_box text r bs ps found b count limit fits cs qs inside x end h k box i = record {
   mine = h.mine ++ b' ∷ i.mine;
   is = ap (λ zs. ended zs (length bs) end) (i.is ∙ append_assoc bs (b ∷ []) i.mine) ∙ ended_middle bs b i.mine end ∙ ap (λ zs. zs ++ b' ∷ i.mine) h.is ∙ append_assoc r.base h.mine (b' ∷ i.mine);
   deep = all_append (λ (c : ReadBlock). length r.outer ≤ c.depth) h.mine (b' ∷ i.mine) h.deep (omega (arith, k), less_deep i.mine i.deep);
@@ -182,7 +182,7 @@ holds_quote text r bs ps found b count limit fits cs qs inside end h k quote i =
       ap tree_of (placed_append text (qs ++ later) (length r.outer) h.mine (b' ∷ i.mine) h.deep (omega (arith, k)))
       ∙ tree_append (placed_in text (qs ++ later) h.mine) (placed_in text (qs ++ later) (b' ∷ i.mine))
       ∙ ap (λ y. also y (tree_of (placed_in text (qs ++ later) (b' ∷ i.mine)))) (ap (λ zs. tree_of (placed_in text zs h.mine)) (ap (λ zs. zs ++ later) i.pieces ∙ append_assoc ps i.new later) ∙ h.says (i.new ++ later))
-      ∙ ap (also found) (in_quote later);
+      ∙ ap (also found) (in_box later);
 }
   where
     b' : ReadBlock
@@ -192,14 +192,25 @@ holds_quote text r bs ps found b count limit fits cs qs inside end h k quote i =
     less_deep [] g = tt
     less_deep (z ∷ zs) g = (let q : suc (length r.outer) ≤ z.depth = g.0 in omega (arith, q), less_deep zs (g.1))
 
-    in_quote : (later : List Piece) → tree_of (placed_in text (qs ++ later) (b' ∷ i.mine)) ≡ more (Quote inside) none
-    in_quote later =
+    in_box : (later : List Piece) → tree_of (placed_in text (qs ++ later) (b' ∷ i.mine)) ≡ more x none
+    in_box later =
         let placed : List Placed = placed_in text (qs ++ later) i.mine in
         let all : take_while (λ (p : Placed). nat_lt b.depth p.depth) placed ≡ placed = ap (λ d. take_while (λ (p : Placed). nat_lt d p.depth) placed) k ∙ while_all (length r.outer) placed (deep_placed text (qs ++ later) (suc (length r.outer)) i.mine i.deep) in
         ap (λ within. tree_of (put_with text (qs ++ later) b' placed within)) all
         ∙ ap (λ rest. more_if (block_as text b.kind b.loose (pieces_of (qs ++ later) b') (tree_of placed)) (tree_of rest)) (drop-length placed)
-        ∙ ap (λ x. more_if (block_as text x b.loose (pieces_of (qs ++ later) b') (tree_of placed)) none) quote
-        ∙ ap (λ x. more (Quote x) none) (i.says later)
+        ∙ ap (λ y. more_if (block_as text b.kind b.loose (pieces_of (qs ++ later) b') y) none) (i.says later)
+        ∙ ap (λ o. more_if o none) (box (pieces_of (qs ++ later) b'))
+
+-- the block of a quote
+abbrev pub is_quote_block : ReadBlock → Type 0
+is_quote_block b = b.kind ≡ kind.Quote None
+
+-- a quote, when it ends
+pub holds_quote : (text : List ℕ) (r : Run) (bs : List ReadBlock) (ps : List Piece) (found : Blocks) (b : ReadBlock) (count limit : ℕ) (fits : limit ≤ 2 ^ 64) (cs : List ReadBlock) (qs : List Piece) (inside : Blocks) (end : ℕ)
+    → Holds text r bs ps found → b.depth ≡ length r.outer → is_quote_block b → Holds text (inner_run r bs ps b count limit fits) cs qs inside
+    → Holds text r (ended cs (length bs) end) qs (also found (more (Quote inside) none))
+holds_quote text r bs ps found b count limit fits cs qs inside end h k quote i =
+    holds_box text r bs ps found b count limit fits cs qs inside (Quote inside) end h k (λ pieces. ap (λ x. block_as text x b.loose pieces inside) quote) i
 
 -- what a page with these blocks is read as
 pub holds_read : (text : List ℕ) (r : Run) (bs : List ReadBlock) (ps : List Piece) (found : Blocks) → r.base ≡ [] → Holds text r bs ps found → tree_of (placed_in text ps bs) ≡ found

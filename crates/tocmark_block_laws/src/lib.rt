@@ -3,5 +3,6 @@
 #![tactic(auto)]
 
 pub mod definitions;
+pub mod lists;
 pub mod names;
 pub mod quotes;
