@@ -8,3 +8,5 @@ pub mod FlatBlocks
 pub mod Ended
 pub mod Shown
 pub mod LineBlocks
+pub mod WholeLines
+pub mod WordlessEvents

@@ -2,4 +2,5 @@
 #![tactic(auto)]
 
 pub mod blocks;
+pub mod events;
 pub mod inlines;
