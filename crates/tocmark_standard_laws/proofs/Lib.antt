@@ -1,0 +1,12 @@
+pub mod Contents
+pub mod Labels
+pub mod Leaves
+pub mod Fitting
+pub mod FitWalk
+pub mod SaidBlocks
+pub mod FlatBlocks
+pub mod Ended
+pub mod Shown
+pub mod LineBlocks
+pub mod WholeLines
+pub mod WordlessEvents

@@ -1,0 +1,381 @@
+-- What the nodes of blocks without inlines show is what the blocks say.
+use Rattle.std.proofs.Common.{◌≡◌, ℕ, zero, suc, ◌+◌, ◌-◌, ◌^◌, ◌<◌, ◌≤◌, Bool, true, false, ◌==◌, ◌&&◌, if◌then◌else◌, nat_lt, nat_le, List, [], ◌∷◌, ◌++◌, length, map, take, drop, replicate, flat_map, refl, ap, sym, ◌∙◌, subst, arith, append_assoc, append-nil, length-append, length-take, length-drop, slice_range, true≢false}
+use Rattle.std.specs.Prelude.{min, Option, Some, None, is_some}
+use Rattle.std.specs.List.{fold, list_any, AllByRecursion}
+use Rattle.std.specs.Str.{IsUtf8}
+use Rattle.std.specs.Str.Lossy.{utf8_lossy}
+use Rattle.std.proofs.lemmas.Bool.Decides.{nat_tests}
+use Rattle.std.proofs.lemmas.Grind.{flat_map-append}
+use Rattle.std.proofs.lemmas.List.{map-append}
+use Rattle.std.proofs.lemmas.Str.{utf8_lossy-IsUtf8}
+use Rattle.tocmark_event.specs.View.{TagView, Paragraph, BlockQuote, CodeBlock, Indented, Fenced, HtmlBlock, ListOf, Item, EventView, Start, Leaf, Text, Html, Rule}
+use Rattle.tocmark_read_scan.specs.Basic.{plus, bytes_between}
+use Rattle.tocmark_read_scan.specs.declared.syntax.Names.TheVariants.{All}
+use Rattle.tocmark_read_tokens.specs.Reference.{unescaped_in}
+use Rattle.tocmark_read_page.specs.Definitions.{replaced}
+use Rattle.tocmark_read_page.specs.declared.page.Block.{Block as ReadBlock}
+use Rattle.tocmark_read_page.specs.declared.page.BlockKind.{BlockKind}
+use Rattle.tocmark_read_page.specs.declared.page.BlockKind.TheVariants as kind
+use Rattle.tocmark_read_page.specs.declared.page.Task.{Task}
+use Rattle.tocmark_read_page.specs.declared.piece.Piece.{Piece as Line}
+use Rattle.tocmark_read_spans.specs.declared.definitions.Entry.{Entry}
+use Rattle.tocmark_reader.specs.Emitted.{ItemView, NodeView, Container, Given}
+use Rattle.tocmark_reader.specs.Pages.{State, node, space_nodes, line_item, line_nodes, lines_nodes, block_tag, block_node, task_nodes, with_block, with_lines, fence_node_in, with_fence_in, with_rule, bare_in, wrapped_in, paragraph_taken_in, taken_as_in, block_taken_in, block_step_in, is_unwrapped}
+use Rattle.tocmark_reader.specs.Pages as pages
+use Rattle.tocmark_reader.specs.Words.{cleaned, feed_if, info_text_in, spaces_text}
+use Rattle.tocmark_reader.proofs.Zeros.{without_zeros, none_between}
+use Rattle.tocmark_commonmark.specs.Links.{Destination}
+use Rattle.tocmark_commonmark.specs.Tokens.{resolved}
+use Rattle.tocmark_commonmark.specs.Tree as block
+use Rattle.tocmark_block_laws.specs.Trees.{whole_text, code_text, paragraph_in, block_as, pieces_of}
+use Rattle.tocmark_block_laws.proofs.Texts.{between_none}
+use Rattle.tocmark_block_laws.proofs.Told.{leaf_as}
+use Rattle.tocmark_inline_laws.specs.Said.{commonmark, Piece, letters}
+use Rattle.tocmark_inline_laws.proofs.Resolved.{resolved_so}
+use Rattle.tocmark_inline_laws.proofs.Stretches.{letters_append}
+use Rattle.tocmark_standard_laws.specs.Contents.{HasNoZero}
+use Rattle.tocmark_standard_laws.specs.Nesting.{sort_of, is_common}
+use Rattle.tocmark_standard_laws.specs.Wordless.{is_fed, is_wordless}
+use Rattle.tocmark_standard_laws.proofs.Ended.{piece_as_text}
+use Rattle.tocmark_standard_laws.proofs.FlatBlocks.{one_said}
+use Rattle.tocmark_standard_laws.proofs.SaidBlocks.{html_at, line_said, html_said, block_said, said_if}
+use Rattle.tocmark_standard_laws.proofs.Shown.{node_shows, nodes_show, IsSome}
+
+-- lines of code and HTML
+
+-- nothing is left of a tab, and the line with its line feed is a range of the text
+pub record IsWhole (text : List ℕ) (p : Line) : Type 0 where
+  pub spaces : p.spaces ≡ 0
+  pub bytes : flat_map replaced (bytes_between text p.start p.end) ++ feed_if (nat_lt p.end p.next) ≡ bytes_between text p.start p.next
+
+-- the range is UTF-8 and has bytes, unless it ends where it begins
+abbrev pub IsText : List ℕ → Line → Type 0
+IsText text p = nat_lt p.start p.next ≡ true → IsUtf8 (bytes_between text p.start p.next) × (0 < length (bytes_between text p.start p.next))
+
+abbrev pub IsKept : List ℕ → Line → Type 0
+IsKept text p = IsWhole text p × IsText text p
+
+-- a text or HTML
+abbrev shows_as : Bool → ℕ → List ℕ → List Piece
+shows_as true d t = html_at d t
+shows_as false d t = letters d t
+
+no_spaces : (d : ℕ) (p : Line) → p.spaces ≡ 0 → space_nodes d p ≡ []
+unfolding space_nodes
+no_spaces d p e = by (nat_lt 0 p.spaces) (ap (λ n. nat_lt 0 n) e)
+  where
+    by : (x : Bool) → x ≡ false → (if x then node d (Given (Text (spaces_text p.spaces))) (p.start - 1) p.start ∷ [] else []) ≡ []
+    by true q = absurd (true≢false q)
+    by false q = refl
+
+words_of : (text : List ℕ) (p : Line) → IsWhole text p → IsUtf8 (bytes_between text p.start p.next) → cleaned (bytes_between text p.start p.end) (nat_lt p.end p.next) ≡ bytes_between text p.start p.next
+unfolding cleaned
+words_of text p w u = ap utf8_lossy w.bytes ∙ utf8_lossy-IsUtf8 (bytes_between text p.start p.next) u
+
+whole_so : (text : List ℕ) (p : Line) → p.spaces ≡ 0 → whole_text text p ≡ bytes_between text p.start p.next
+whole_so text p e = ap (λ n. replicate n 32 ++ bytes_between text p.start p.next) e
+
+item_so : (text : List ℕ) (html : Bool) (d : ℕ) (p : Line) → cleaned (bytes_between text p.start p.end) (nat_lt p.end p.next) ≡ bytes_between text p.start p.next → node_shows text (node d (line_item text html p) p.start p.next) ≡ shows_as html d (bytes_between text p.start p.next)
+unfolding line_item
+item_so text true d p e = ap (html_at d) e
+item_so text false d p e = ap (letters d) e
+
+some_shown : (html : Bool) (d : ℕ) (t : List ℕ) → 0 < length t → IsSome (shows_as html d t)
+some_shown html d [] l = absurd (omega arith)
+some_shown true d (b ∷ bs) l = tt
+some_shown false d (b ∷ bs) l = tt
+
+-- what nodes show, and that each shows something
+abbrev Shows : List ℕ → List NodeView → List Piece → Type 0
+Shows text ns ps = (nodes_show text ns ≡ ps) × AllByRecursion (λ (n : NodeView). IsSome (node_shows text n)) ns
+
+all_more : (Q : NodeView → Type 0) (xs ys : List NodeView) → AllByRecursion Q xs → AllByRecursion Q ys → AllByRecursion Q (xs ++ ys)
+all_more Q [] ys h k = k
+all_more Q (x ∷ xs) ys h k = (h.0, all_more Q xs ys (h.1) k)
+
+shows_more : (text : List ℕ) (xs ys : List NodeView) (ps qs : List Piece) → Shows text xs ps → Shows text ys qs → Shows text (xs ++ ys) (ps ++ qs)
+shows_more text xs ys ps qs h k =
+    (flat_map-append (node_shows text) xs ys ∙ ap (λ rs. rs ++ nodes_show text ys) (h.0) ∙ ap (λ rs. ps ++ rs) (k.0), all_more (λ (n : NodeView). IsSome (node_shows text n)) xs ys (h.1) (k.1))
+
+none_shown : (html : Bool) (d : ℕ) (t : List ℕ) → t ≡ [] → [] ≡ shows_as html d t
+none_shown true d t e = ap (html_at d) (sym e)
+none_shown false d t e = ap (letters d) (sym e)
+
+line_shown : (text : List ℕ) (html : Bool) (d : ℕ) (p : Line) → IsKept text p → Shows text (line_nodes text html d p) (shows_as html d (whole_text text p))
+unfolding line_nodes
+line_shown text html d p k =
+    subst (λ (ns : List NodeView). Shows text (ns ++ (if nat_lt p.start p.next then node d (line_item text html p) p.start p.next ∷ [] else [])) (shows_as html d (whole_text text p))) (sym (no_spaces d p (k.0).spaces))
+    (subst (λ t. Shows text (if nat_lt p.start p.next then node d (line_item text html p) p.start p.next ∷ [] else []) (shows_as html d t)) (sym (whole_so text p (k.0).spaces)) (by (nat_lt p.start p.next) refl))
+  where
+    bytes : List ℕ
+    bytes = bytes_between text p.start p.next
+
+    by : (x : Bool) → nat_lt p.start p.next ≡ x → Shows text (if x then node d (line_item text html p) p.start p.next ∷ [] else []) (shows_as html d bytes)
+    by true e =
+        let shown : node_shows text (node d (line_item text html p) p.start p.next) ≡ shows_as html d bytes = item_so text html d p (words_of text p (k.0) ((k.1 e).0)) in
+        (append-nil (node_shows text (node d (line_item text html p) p.start p.next)) ∙ shown, (subst IsSome (sym shown) (some_shown html d bytes ((k.1 e).1)), tt))
+    by false e = (none_shown html d bytes (between_none text p.start p.next e), tt)
+
+html_append : (d : ℕ) (xs ys : List ℕ) → html_at d (xs ++ ys) ≡ html_at d xs ++ html_at d ys
+html_append d [] ys = refl
+html_append d (x ∷ xs) ys = ap (λ ps. (d, Leaf (Html (x ∷ []))) ∷ ps) (html_append d xs ys)
+
+shows_append : (html : Bool) (d : ℕ) (xs ys : List ℕ) → shows_as html d (xs ++ ys) ≡ shows_as html d xs ++ shows_as html d ys
+shows_append true d xs ys = html_append d xs ys
+shows_append false d xs ys = letters_append d xs ys
+
+lines_shown : (text : List ℕ) (html : Bool) (d : ℕ) (ps : List Line) → AllByRecursion (IsKept text) ps → Shows text (lines_nodes text html d ps) (shows_as html d (code_text text ps))
+lines_shown text true d [] h = (refl, tt)
+lines_shown text false d [] h = (refl, tt)
+lines_shown text html d (p ∷ ps) h =
+    subst (Shows text (line_nodes text html d p ++ lines_nodes text html d ps)) (sym (shows_append html d (whole_text text p) (code_text text ps)))
+    (shows_more text (line_nodes text html d p) (lines_nodes text html d ps) (shows_as html d (whole_text text p)) (shows_as html d (code_text text ps)) (line_shown text html d p (h.0)) (lines_shown text html d ps (h.1)))
+
+-- HTML that ends with a line feed is its lines
+html_whole : (d : ℕ) (line t : List ℕ) → is_fed t ≡ true → html_said d line t ≡ html_at d (line ++ t)
+html_whole d line [] h = absurd (true≢false (sym h))
+html_whole d line (b ∷ []) h = ap (line_said (λ l. html_said d l []) d line b) h ∙ append-nil (html_at d (line ++ b ∷ []))
+html_whole d line (b ∷ c ∷ bs) h = by (b == 10) (html_whole d [] (c ∷ bs) h) (html_whole d (line ++ b ∷ []) (c ∷ bs) h)
+  where
+    by : (k : Bool) → html_said d [] (c ∷ bs) ≡ html_at d (c ∷ bs) → html_said d (line ++ b ∷ []) (c ∷ bs) ≡ html_at d ((line ++ b ∷ []) ++ c ∷ bs) → line_said (λ l. html_said d l (c ∷ bs)) d line b k ≡ html_at d (line ++ b ∷ c ∷ bs)
+    by true e f = ap (λ ps. html_at d (line ++ b ∷ []) ++ ps) e ∙ sym (html_append d (line ++ b ∷ []) (c ∷ bs)) ∙ ap (html_at d) (append_assoc line (b ∷ []) (c ∷ bs))
+    by false e f = f ∙ ap (html_at d) (append_assoc line (b ∷ []) (c ∷ bs))
+
+-- the pieces of a block
+
+take_nothing : {A : Type 0} (k : ℕ) (xs : List A) → xs ≡ [] → take k xs ≡ []
+take_nothing zero [] e = refl
+take_nothing zero (x ∷ xs) e = absurd cc
+take_nothing (suc k) [] e = refl
+take_nothing (suc k) (x ∷ xs) e = absurd cc
+
+range_is : {A : Type 0} (xs : List A) (first last : ℕ) → first ≤ last → take (last - first) (drop first xs) ≡ drop first (take last xs)
+range_is [] zero zero l = refl
+range_is [] zero (suc m) l = take_nothing (suc m - 0) [] refl
+range_is [] (suc n) zero l = absurd (omega arith)
+range_is [] (suc n) (suc m) l = take_nothing (suc m - suc n) [] refl
+range_is (x ∷ xs) zero zero l = refl
+range_is (x ∷ xs) zero (suc m) l = ap (λ k. take k (x ∷ xs)) (let q : suc m - 0 ≡ suc m = omega arith in q)
+range_is (x ∷ xs) (suc n) zero l = absurd (omega arith)
+range_is (x ∷ xs) (suc n) (suc m) l = ap (λ k. take k (drop n xs)) (let q : suc m - suc n ≡ m - n = omega arith in q) ∙ range_is xs n m (omega arith)
+
+past : {A : Type 0} (xs : List A) (n : ℕ) → length xs ≤ n → drop n xs ≡ []
+past [] zero l = refl
+past [] (suc n) l = refl
+past (x ∷ xs) zero l = absurd (omega arith)
+past (x ∷ xs) (suc n) l = past xs n (omega arith)
+
+same_pieces : (pieces : List Line) (b : ReadBlock) → b.last ≤ length pieces → pages.pieces_of pieces b.first b.last ≡ pieces_of pieces b
+same_pieces pieces b l = by (nat_le b.first b.last) (nat_le b.last (length pieces)) refl refl
+  where
+    by : (x y : Bool) → nat_le b.first b.last ≡ x → nat_le b.last (length pieces) ≡ y → (if x && y then slice_range pieces b.first b.last else []) ≡ drop b.first (take b.last pieces)
+    by true true e f = range_is pieces b.first b.last (grind (arith, nat_tests, e))
+    by true false e f = absurd (true≢false (let q : nat_le b.last (length pieces) ≡ true = grind (arith, nat_tests) in sym q ∙ f))
+    by false y e f =
+        let q : b.last < b.first = grind (arith, nat_tests, e) in
+        let w : length (take b.last pieces) ≡ min b.last (length pieces) = length-take b.last pieces in
+        sym (past (take b.last pieces) b.first (omega (arith, q, w)))
+
+-- a block of the reader
+
+-- the nodes that a block adds to a state
+pub record Adds (labels : List Destination) (all : List ReadBlock) (text : List ℕ) (pieces : List Line) (s u : State) (b : ReadBlock) : Type 0 where
+  pub nodes : List NodeView
+  pub is : u ≡ record s { nodes = s.nodes ++ nodes }
+  pub shown : Shows text nodes (map piece_as_text (one_said labels all text pieces b))
+
+abbrev pub wordless_if : Option block.Block → Bool
+wordless_if None = true
+wordless_if (Some b) = is_wordless b
+
+-- what is known of a block without inlines
+pub record IsPlainBlock (text : List ℕ) (pieces : List Line) (b : ReadBlock) : Type 0 where
+  pub common : is_common b.kind ≡ true
+  pub unboxed : is_some b.task ≡ false
+  pub depth : b.depth + 1 < 2 ^ 64
+  pub last : sort_of b.kind ≡ None → b.last ≤ length pieces
+  pub wordless : wordless_if (leaf_as text pieces b) ≡ true
+
+no_task : (o : Option Task) (d : ℕ) → is_some o ≡ false → task_nodes o d ≡ []
+unfolding task_nodes
+no_task None d e = refl
+no_task (Some t) d e = absurd (true≢false e)
+
+one_more : (text : List ℕ) (d : ℕ) (t : TagView) (start end : ℕ) → Shows text (node d (Container t) start end ∷ []) ((d, Start t) ∷ [])
+one_more text d t start end = (refl, (tt, tt))
+
+-- a container
+container_adds : (labels : List Destination) (all : List ReadBlock) (text : List ℕ) (pieces : List Line) (s : State) (b : ReadBlock) (t : TagView) → is_some b.task ≡ false → block_tag text b.kind ≡ t → map piece_as_text (one_said labels all text pieces b) ≡ (b.depth, Start t) ∷ []
+    → Adds labels all text pieces s (with_block text b s) b
+unfolding with_block
+container_adds labels all text pieces s b t unboxed tag said = record {
+  nodes = block_node text b ∷ [];
+  is = ap (λ (ns : List NodeView). record s { nodes = (s.nodes ++ block_node text b ∷ []) ++ ns }) (no_task b.task (plus b.depth 1) unboxed) ∙ ap (λ (ns : List NodeView). record s { nodes = ns }) (append-nil (s.nodes ++ block_node text b ∷ []));
+  shown = subst (λ ps. Shows text (block_node text b ∷ []) ps) (sym said) (ap (λ x. (b.depth, Start x) ∷ []) tag, (tt, tt));
+}
+
+-- a container of lines
+lines_add : (labels : List Destination) (all : List ReadBlock) (text : List ℕ) (pieces ps : List Line) (html : Bool) (s : State) (b : ReadBlock) (n : NodeView) (t : TagView) → b.depth + 1 < 2 ^ 64 → AllByRecursion (IsKept text) ps → node_shows text n ≡ (b.depth, Start t) ∷ []
+    → map piece_as_text (one_said labels all text pieces b) ≡ (b.depth, Start t) ∷ shows_as html (suc b.depth) (code_text text ps)
+    → Adds labels all text pieces s (record s { nodes = (s.nodes ++ n ∷ []) ++ lines_nodes text html (plus b.depth 1) ps }) b
+lines_add labels all text pieces ps html s b n t deep kept first said = record {
+  nodes = n ∷ lines_nodes text html (plus b.depth 1) ps;
+  is = ap (λ (ns : List NodeView). record s { nodes = ns }) (append_assoc s.nodes (n ∷ []) (lines_nodes text html (plus b.depth 1) ps));
+  shown = subst (λ qs. Shows text (n ∷ lines_nodes text html (plus b.depth 1) ps) qs) (sym said)
+      (shows_more text (n ∷ []) (lines_nodes text html (plus b.depth 1) ps) ((b.depth, Start t) ∷ []) (shows_as html (suc b.depth) (code_text text ps)) (append-nil (node_shows text n) ∙ first, (subst IsSome (sym first) tt, tt))
+      (subst (λ k. Shows text (lines_nodes text html k ps) (shows_as html (suc b.depth) (code_text text ps))) (sym next) (lines_shown text html (suc b.depth) ps kept)));
+}
+  where
+    next : plus b.depth 1 ≡ suc b.depth
+    next = omega arith
+
+letters_as_text : (d : ℕ) (t : List ℕ) → map piece_as_text (letters d t) ≡ letters d t
+letters_as_text d [] = refl
+letters_as_text d (b ∷ bs) = ap (λ ps. (d, Leaf (Text (b ∷ []))) ∷ ps) (letters_as_text d bs)
+
+html_as_text : (d : ℕ) (t : List ℕ) → map piece_as_text (html_at d t) ≡ html_at d t
+html_as_text d [] = refl
+html_as_text d (b ∷ bs) = ap (λ ps. (d, Leaf (Html (b ∷ []))) ∷ ps) (html_as_text d bs)
+
+between_short : (text : List ℕ) (i j : ℕ) → length (bytes_between text i j) ≤ length text
+between_short text i j = by (nat_le i j && nat_le j (length text))
+  where
+    by : (k : Bool) → length (if k then take (j - i) (drop i text) else []) ≤ length text
+    by true = let a : length (take (j - i) (drop i text)) ≡ min (j - i) (length (drop i text)) = length-take (j - i) (drop i text) in let b : length (drop i text) ≡ length text - i = length-drop i text in omega (arith, a, b)
+    by false = omega arith
+
+info_so : (text : List ℕ) (from to : ℕ) → HasNoZero text → length text + 3 < 2 ^ 64 → info_text_in All (bytes_between text from to) ≡ utf8_lossy (resolved (bytes_between text from to))
+unfolding info_text_in
+info_so text from to zeros small =
+    ap (λ bytes. utf8_lossy (unescaped_in All bytes)) (by (nat_le from to && nat_le to (length text)))
+    ∙ ap utf8_lossy (resolved_so (bytes_between text from to) (let l : length (bytes_between text from to) ≤ length text = between_short text from to in omega (arith, l)))
+  where
+    by : (k : Bool) → flat_map replaced (if k then slice_range text from to else []) ≡ (if k then slice_range text from to else [])
+    by true = without_zeros (slice_range text from to) (none_between text from to zeros)
+    by false = refl
+
+-- a block without inlines adds what it says
+kind_adds : (labels : List Destination) (all : List ReadBlock) (text : List ℕ) (find : List ℕ → Option Entry) (pieces : List Line) (s : State) (b : ReadBlock) → HasNoZero text → length text + 3 < 2 ^ 64 → AllByRecursion (IsKept text) (pieces_of pieces b) → IsPlainBlock text pieces b
+    → (k : BlockKind) → b.kind ≡ k → Adds labels all text pieces s (taken_as_in commonmark k text find (pages.pieces_of pieces b.first b.last) (is_unwrapped all b) b s) b
+unfolding with_lines with_fence_in fence_node_in with_rule paragraph_taken_in block_tag
+kind_adds labels all text find pieces s b zeros small kept plain k e = by k e
+  where
+    ps : List Line
+    ps = pieces_of pieces b
+
+    tight : Bool
+    tight = is_unwrapped all b
+
+    says : (k : BlockKind) → b.kind ≡ k → map piece_as_text (one_said labels all text pieces b) ≡ map piece_as_text (said_if labels b.depth tight (block_as text k b.loose ps block.none))
+    says k e = ap (λ x. map piece_as_text (said_if labels b.depth tight (block_as text x b.loose ps block.none))) e
+
+    tagged : (k : BlockKind) → b.kind ≡ k → block_tag text b.kind ≡ block_tag text k
+    tagged k e = ap (block_tag text) e
+
+    same : (k : BlockKind) → b.kind ≡ k → sort_of k ≡ None → pages.pieces_of pieces b.first b.last ≡ ps
+    same k e leaf = same_pieces pieces b (plain.last (ap sort_of e ∙ leaf))
+
+    wordless : (k : BlockKind) → b.kind ≡ k → wordless_if (block_as text k b.loose ps block.none) ≡ true
+    wordless k e = ap (λ x. wordless_if (block_as text x b.loose ps block.none)) (sym e) ∙ plain.wordless
+
+    listed : (first : Option ℕ) → b.kind ≡ kind.List first → map piece_as_text (one_said labels all text pieces b) ≡ (b.depth, Start (ListOf first)) ∷ []
+    listed None e = says (kind.List None) e
+    listed (Some n) e = says (kind.List (Some n)) e
+
+    by : (k : BlockKind) → b.kind ≡ k → Adds labels all text pieces s (taken_as_in commonmark k text find (pages.pieces_of pieces b.first b.last) tight b s) b
+    by (kind.Quote None) e = container_adds labels all text pieces s b (BlockQuote None) plain.unboxed (tagged (kind.Quote None) e) (says (kind.Quote None) e)
+    by (kind.Quote (Some q)) e = absurd (true≢false (sym plain.common ∙ ap is_common e))
+    by (kind.List first) e = container_adds labels all text pieces s b (ListOf first) plain.unboxed (tagged (kind.List first) e) (listed first e)
+    by kind.Item e = container_adds labels all text pieces s b Item plain.unboxed (tagged kind.Item e) (says kind.Item e)
+    by kind.Paragraph e = paragraph (nat_le b.last b.first) (if tight then bare_in commonmark text find (pages.pieces_of pieces b.first b.last) b s else wrapped_in commonmark text find (pages.pieces_of pieces b.first b.last) b s) refl
+      where
+        empty : b.last ≤ b.first → ps ≡ []
+        empty l = past (take b.last pieces) b.first (let w : length (take b.last pieces) ≡ min b.last (length pieces) = length-take b.last pieces in omega (arith, l, w))
+
+        none : ps ≡ [] → [] ≡ map piece_as_text (one_said labels all text pieces b)
+        none h = ap (λ (xs : List Line). map piece_as_text (said_if labels b.depth tight (paragraph_in text xs))) (sym h) ∙ sym (says kind.Paragraph e)
+
+        some : b.first < b.last → (xs : List Line) → ps ≡ xs → wordless_if (paragraph_in text xs) ≡ true → ⊥
+        some l [] h w =
+            let last : b.last ≤ length pieces = plain.last (ap sort_of e) in
+            let a : length (drop b.first (take b.last pieces)) ≡ length (take b.last pieces) - b.first = length-drop b.first (take b.last pieces) in
+            let c : length (take b.last pieces) ≡ min b.last (length pieces) = length-take b.last pieces in
+            let d : length (drop b.first (take b.last pieces)) ≡ 0 = ap length h in
+            absurd (omega (arith, l, last, a, c, d))
+        some l (x ∷ xs) h w = true≢false (sym w)
+
+        paragraph : (x : Bool) (other : State) → nat_le b.last b.first ≡ x → Adds labels all text pieces s (if x then s else other) b
+        paragraph true other q = record {
+          nodes = [];
+          is = ap (λ (ns : List NodeView). record s { nodes = ns }) (sym (append-nil s.nodes));
+          shown = (none (empty (grind (arith, nat_tests, q))), tt);
+        }
+        paragraph false other q = absurd (some (grind (arith, nat_tests, q)) ps refl (wordless kind.Paragraph e))
+    by (kind.Heading level None) e = absurd (true≢false (sym (wordless (kind.Heading level None) e)))
+    by (kind.Heading level (Some x)) e = absurd (true≢false (sym plain.common ∙ ap is_common e))
+    by kind.Indented e =
+        subst (λ (xs : List Line). Adds labels all text pieces s (record s { nodes = (s.nodes ++ block_node text b ∷ []) ++ lines_nodes text false (plus b.depth 1) xs }) b) (sym (same kind.Indented e refl))
+        (lines_add labels all text pieces ps false s b (block_node text b) (CodeBlock Indented) plain.depth kept (ap (λ x. (b.depth, Start x) ∷ []) (tagged kind.Indented e)) (says kind.Indented e ∙ ap (λ qs. (b.depth, Start (CodeBlock Indented)) ∷ qs) (letters_as_text (suc b.depth) (code_text text ps))))
+    by (kind.Fenced from to) e =
+        subst (λ (xs : List Line). Adds labels all text pieces s (record s { nodes = (s.nodes ++ node b.depth (Container (CodeBlock (Fenced (info_text_in All (bytes_between text from to))))) b.start b.end ∷ []) ++ lines_nodes text false (plus b.depth 1) xs }) b) (sym (same (kind.Fenced from to) e refl))
+        (lines_add labels all text pieces ps false s b (node b.depth (Container (CodeBlock (Fenced (info_text_in All (bytes_between text from to))))) b.start b.end) (CodeBlock (Fenced (utf8_lossy (resolved (bytes_between text from to))))) plain.depth kept (ap (λ i. (b.depth, Start (CodeBlock (Fenced i))) ∷ []) (info_so text from to zeros small))
+        (says (kind.Fenced from to) e ∙ ap (λ qs. (b.depth, Start (CodeBlock (Fenced (utf8_lossy (resolved (bytes_between text from to)))))) ∷ qs) (letters_as_text (suc b.depth) (code_text text ps))))
+    by kind.Html e =
+        subst (λ (xs : List Line). Adds labels all text pieces s (record s { nodes = (s.nodes ++ block_node text b ∷ []) ++ lines_nodes text true (plus b.depth 1) xs }) b) (sym (same kind.Html e refl))
+        (lines_add labels all text pieces ps true s b (block_node text b) HtmlBlock plain.depth kept (ap (λ x. (b.depth, Start x) ∷ []) (tagged kind.Html e))
+        (says kind.Html e ∙ ap (λ qs. (b.depth, Start HtmlBlock) ∷ map piece_as_text qs) (html_whole (suc b.depth) [] (code_text text ps) (wordless kind.Html e)) ∙ ap (λ qs. (b.depth, Start HtmlBlock) ∷ qs) (html_as_text (suc b.depth) (code_text text ps))))
+    by kind.Rule e = record { nodes = node b.depth (Given Rule) b.start b.end ∷ []; is = refl; shown = (sym (says kind.Rule e), (tt, tt)) }
+    by (kind.Metadata x) e = absurd (true≢false (sym plain.common ∙ ap is_common e))
+    by (kind.Footnote x y) e = absurd (true≢false (sym plain.common ∙ ap is_common e))
+    by (kind.Table x y) e = absurd (true≢false (sym plain.common ∙ ap is_common e))
+    by kind.TableHead e = absurd (true≢false (sym plain.common ∙ ap is_common e))
+    by kind.TableRow e = absurd (true≢false (sym plain.common ∙ ap is_common e))
+    by kind.TableCell e = absurd (true≢false (sym plain.common ∙ ap is_common e))
+    by kind.DefinitionList e = absurd (true≢false (sym plain.common ∙ ap is_common e))
+    by kind.DefinitionListTitle e = absurd (true≢false (sym plain.common ∙ ap is_common e))
+    by kind.DefinitionListDefinition e = absurd (true≢false (sym plain.common ∙ ap is_common e))
+
+block_adds : (labels : List Destination) (all : List ReadBlock) (text : List ℕ) (find : List ℕ → Option Entry) (pieces : List Line) (s : State) (b : ReadBlock) → HasNoZero text → length text + 3 < 2 ^ 64 → AllByRecursion (IsKept text) (pieces_of pieces b) → IsPlainBlock text pieces b
+    → Adds labels all text pieces s (block_step_in commonmark text find all pieces s b) b
+unfolding block_taken_in
+block_adds labels all text find pieces s b zeros small kept plain = kind_adds labels all text find pieces s b zeros small kept plain b.kind refl
+
+-- blocks one after the other
+
+pub record AddAll (labels : List Destination) (all : List ReadBlock) (text : List ℕ) (pieces : List Line) (s u : State) (bs : List ReadBlock) : Type 0 where
+  pub nodes : List NodeView
+  pub is : u ≡ record s { nodes = s.nodes ++ nodes }
+  pub shown : nodes_show text nodes ≡ map piece_as_text (flat_map (one_said labels all text pieces) bs)
+  pub some : AllByRecursion (λ (n : NodeView). IsSome (node_shows text n)) nodes
+
+all_part : (text : List ℕ) (pieces : List Line) (first last : ℕ) → AllByRecursion (IsKept text) pieces → AllByRecursion (IsKept text) (drop first (take last pieces))
+all_part text pieces first last h = dropped first (take last pieces) (taken last pieces h)
+  where
+    taken : (n : ℕ) (xs : List Line) → AllByRecursion (IsKept text) xs → AllByRecursion (IsKept text) (take n xs)
+    taken zero [] k = tt
+    taken zero (x ∷ xs) k = tt
+    taken (suc n) [] k = tt
+    taken (suc n) (x ∷ xs) k = (k.0, taken n xs (k.1))
+
+    dropped : (n : ℕ) (xs : List Line) → AllByRecursion (IsKept text) xs → AllByRecursion (IsKept text) (drop n xs)
+    dropped zero [] k = tt
+    dropped zero (x ∷ xs) k = k
+    dropped (suc n) [] k = tt
+    dropped (suc n) (x ∷ xs) k = dropped n xs (k.1)
+
+add_more : (labels : List Destination) (all : List ReadBlock) (text : List ℕ) (pieces : List Line) (s u v : State) (b : ReadBlock) (bs : List ReadBlock) → Adds labels all text pieces s u b → AddAll labels all text pieces u v bs → AddAll labels all text pieces s v (b ∷ bs)
+add_more labels all text pieces s u v b bs a r = record {
+  nodes = a.nodes ++ r.nodes;
+  is = r.is ∙ ap (λ (x : State). record x { nodes = x.nodes ++ r.nodes }) a.is ∙ ap (λ (ns : List NodeView). record s { nodes = ns }) (append_assoc s.nodes a.nodes r.nodes);
+  shown = flat_map-append (node_shows text) a.nodes r.nodes ∙ ap (λ ps. ps ++ nodes_show text r.nodes) (a.shown.0) ∙ ap (λ ps. map piece_as_text (one_said labels all text pieces b) ++ ps) r.shown
+      ∙ sym (map-append piece_as_text (one_said labels all text pieces b) (flat_map (one_said labels all text pieces) bs));
+  some = all_more (λ (n : NodeView). IsSome (node_shows text n)) a.nodes r.nodes (a.shown.1) r.some;
+}
+
+pub blocks_add : (labels : List Destination) (all : List ReadBlock) (text : List ℕ) (find : List ℕ → Option Entry) (pieces : List Line) (s : State) (bs : List ReadBlock) → HasNoZero text → length text + 3 < 2 ^ 64 → AllByRecursion (IsKept text) pieces → AllByRecursion (IsPlainBlock text pieces) bs
+    → AddAll labels all text pieces s (fold (block_step_in commonmark text find all pieces) s bs) bs
+blocks_add labels all text find pieces s [] zeros small kept plain = record { nodes = []; is = ap (λ (ns : List NodeView). record s { nodes = ns }) (sym (append-nil s.nodes)); shown = refl; some = tt }
+blocks_add labels all text find pieces s (b ∷ bs) zeros small kept plain =
+    add_more labels all text pieces s (block_step_in commonmark text find all pieces s b) (fold (block_step_in commonmark text find all pieces) (block_step_in commonmark text find all pieces s b) bs) b bs
+    (block_adds labels all text find pieces s b zeros small (all_part text pieces b.first b.last kept) (plain.0))
+    (blocks_add labels all text find pieces (block_step_in commonmark text find all pieces s b) bs zeros small kept (plain.1))

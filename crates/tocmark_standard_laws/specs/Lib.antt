@@ -1,0 +1,6 @@
+pub mod Contents
+pub mod Labels
+pub mod Leaves
+pub mod Nesting
+pub mod Lettered
+pub mod Wordless
