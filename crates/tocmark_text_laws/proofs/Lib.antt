@@ -35,7 +35,14 @@ pub mod InPlace
 pub mod NothingLost
 pub mod BlockNodes
 pub mod Stacked
+pub mod Sorted
 pub mod Nesting
 pub mod NestWalk
 pub mod NestRun
 pub mod KeptLines
+pub mod Walks
+pub mod Matches
+pub mod Tokens
+pub mod Scans
+pub mod Steps
+pub mod Inner

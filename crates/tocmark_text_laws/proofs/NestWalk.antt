@@ -1,6 +1,6 @@
 -- A line leaves a page whose blocks nest.
-use Rattle.std.proofs.Common.{◌≡◌, ℕ, zero, suc, ◌+◌, ◌-◌, ◌^◌, ◌<◌, ◌≤◌, ◌⊎◌, inl, inr, not, ◌||◌, ◌==◌, Bool, true, false, ◌&&◌, if◌then◌else◌, nat_lt, nat_le, List, length, refl, ap, sym, ◌∙◌, subst, arith, true≢false}
-use Rattle.std.specs.Prelude.{slice_get, slice_set, min, unwrap_or, Option, Some, None}
+use Rattle.std.proofs.Common.{◌≡◌, ℕ, zero, suc, ◌+◌, ◌-◌, ◌^◌, ◌<◌, ◌≤◌, ◌⊎◌, inl, inr, not, ◌||◌, ◌==◌, Bool, true, false, ◌&&◌, if◌then◌else◌, nat_lt, nat_le, List, [], ◌∷◌, ◌++◌, length, refl, ap, sym, ◌∙◌, subst, arith, true≢false, length-append}
+use Rattle.std.specs.Prelude.{slice_get, slice_set, min, unwrap_or, Option, Some, None, is_some}
 use Rattle.std.specs.Option.{option_map, option_map_or, option_and_then}
 use Rattle.tocmark_event.specs.declared.event.HeadingLevel.{HeadingLevel}
 use Rattle.tocmark_read_scan.specs.Basic.{plus, bytes_between}
@@ -21,13 +21,14 @@ use Rattle.tocmark_read_lines.specs.declared.beginnings.Marker.{Marker}
 use Rattle.tocmark_read_lines.specs.declared.html.HtmlKind.{HtmlKind}
 use Rattle.tocmark_read_lines.specs.declared.cell.Cell.{Cell}
 use Rattle.tocmark_read_lines.specs.declared.cell.Cursor.{Cursor}
+use Rattle.tocmark_read_lines.specs.declared.container.Container.{Container}
 use Rattle.tocmark_read_lines.specs.declared.container.Container.TheVariants as container
 use Rattle.tocmark_read_lines.specs.declared.container.ContainerStart.{ContainerStart}
 use Rattle.tocmark_read_lines.specs.declared.container.ContainerStart.TheVariants as begins
 use Rattle.tocmark_read_lines.specs.declared.container.ItemStart.{ItemStart}
 use Rattle.tocmark_read_lines.specs.declared.line.Line.{Line}
 use Rattle.tocmark_read_page.specs.Leaves.{is_paragraph}
-use Rattle.tocmark_read_page.specs.Pages.{State, leaf_finished, settled, closed_to, list_left, opened_with, leaf_opened, piece_taken, has_text, start_of, of_kind}
+use Rattle.tocmark_read_page.specs.Pages.{State, leaf_finished, table_finished, defined_as, settled_as, settled, leaf_closed_as, leaf_closed, is_quote, is_list, one_closed, times, closed_to, list_left, had_marked, begun, opened_with, leaf_opened, piece_taken, has_text, start_of, of_kind}
 use Rattle.tocmark_read_page.specs.Pieces.{code_piece, text_piece, heading_piece, keeps_line}
 use Rattle.tocmark_read_page.specs.declared.leaf.Leaf.{Leaf}
 use Rattle.tocmark_read_page.specs.declared.leaf.Leaf.TheVariants as leaf
@@ -57,8 +58,9 @@ use Rattle.tocmark_text_laws.proofs.Machine.{core_at, core_begun}
 use Rattle.tocmark_text_laws.proofs.Placed.{is_worded}
 use Rattle.tocmark_text_laws.proofs.Grounds.{Grounded, past_place}
 use Rattle.tocmark_text_laws.proofs.Walked.{Leads, words_worded, text_started_leaf, direct_words}
-use Rattle.tocmark_text_laws.proofs.Stacked.{Stack, extents, stack_grows, touched_grows, touched_length}
-use Rattle.tocmark_text_laws.proofs.Nesting.{Calm, Leafed, Rests, calm, leafed, calm_more, leafed_more, rests_more, finish_calm, settled_leafed, closed_to_calm, list_left_calm, opened_with_calm, leaf_opened_leafed, taken_leafed}
+use Rattle.tocmark_text_laws.proofs.Stacked.{Stack, extents, stack_grows, raised_length, touched_grows, touched_length}
+use Rattle.tocmark_text_laws.proofs.Sorted.{sorted_anew, sorted_touched}
+use Rattle.tocmark_text_laws.proofs.Nesting.{Calm, Leafed, Rests, calm, leafed, calm_more, leafed_more, finish_calm, some_left, settled_leafed, settled_end, closed_to_calm, list_left_calm, had_length, opened_with_calm, leaf_opened_leafed, taken_leafed}
 
 -- a set that has all places
 abbrev pub Any : ℕ → Type 0
@@ -242,36 +244,97 @@ turn_turned t cs line place s c = by (nat_le (length s.opened) place.depth)
     by true = leaf_turned t cs line place.cursor s.leaf c
     by false = tt
 
-rests_core : (c f : ℕ) (s : State) → Rests c f s → is_core s.leaf ≡ true
+rests_core : (m e c f : ℕ) (s : State) → Rests m e c f s → is_core s.leaf ≡ true
 unfolding is_core
-rests_core c f s (calm e h) = ap is_core e
-rests_core c f s (leafed w front b h) = by s.leaf w
+rests_core m e c f s (calm q h) = ap is_core q
+rests_core m e c f s (leafed w r front b h) = by s.leaf w
   where
     by : (k : Leaf) → is_worded k ≡ true → is_core k ≡ true
-    by leaf.Nothing e = refl
-    by leaf.Paragraph e = refl
-    by leaf.Indented e = refl
-    by (leaf.Fenced x) e = refl
-    by (leaf.Html k) e = refl
-    by (leaf.Metadata k) e = absurd cc
-    by (leaf.Table x) e = absurd cc
+    by leaf.Nothing q = refl
+    by leaf.Paragraph q = refl
+    by leaf.Indented q = refl
+    by (leaf.Fenced x) q = refl
+    by (leaf.Html k) q = refl
+    by (leaf.Metadata k) q = absurd cc
+    by (leaf.Table x) q = absurd cc
 
-finished_rests : (c f : ℕ) (s : State) (front : List Block) (b : Block) → Leafed c f s front b → Rests c f (leaf_finished s)
-unfolding leaf_finished
-finished_rests c f s front b h = calm refl (finish_calm c f s front b h)
+-- how many containers go on: none of the others reaches past the place
+abbrev pub GoOn : ℕ → ℕ → State → Type 0
+GoOn m depth s = (m ≤ depth) × (m ≤ length s.opened)
 
-html_rests : (c f : ℕ) (rest : List ℕ) (s : State) (front : List Block) (b : Block) → is_worded s.leaf ≡ true → Leafed c f s front b → Rests c f (html_ended rest s)
-unfolding html_ended
-html_rests c f rest s front b w h = by s.leaf
+leaf_closed_length : (t : List ℕ) (s : State) → length (leaf_closed t s).opened ≡ length s.opened
+unfolding leaf_closed leaf_finished table_finished settled
+leaf_closed_length t s = by s.leaf
   where
-    same : Rests c f s
-    same = leafed w front b h
+    defined : (b : Block) (k : Bool) → length (leaf_finished (if k then s else defined_as t s b)).opened ≡ length s.opened
+    defined b true = raised_length s.opened (length s.opened - 1) s.end s.line
+    defined b false = raised_length s.opened (length s.opened - 1) s.end s.line
 
-    ends : (x : Bool) → Rests c f (if x then leaf_finished s else s)
-    ends true = finished_rests c f s front b h
+    words : (o : Option Block) → length (leaf_finished (option_map_or (settled_as t s) o s)).opened ≡ length s.opened
+    words None = raised_length s.opened (length s.opened - 1) s.end s.line
+    words (Some b) = defined b (is_some b.task)
+
+    by : (k : Leaf) → length (leaf_closed_as k t s).opened ≡ length s.opened
+    by leaf.Nothing = refl
+    by leaf.Paragraph = words (slice_get s.blocks (length s.blocks - 1))
+    by leaf.Indented = raised_length s.opened (length s.opened - 1) s.end s.line
+    by (leaf.Fenced x) = raised_length s.opened (length s.opened - 1) s.end s.line
+    by (leaf.Html k) = raised_length s.opened (length s.opened - 1) s.end s.line
+    by (leaf.Metadata k) = raised_length s.opened (length s.opened - 1) s.end s.line
+    by (leaf.Table x) = raised_length s.opened (length s.opened - 1) s.end s.line
+
+closed_many : (m : ℕ) (t : List ℕ) (depth : ℕ) (s : State) → GoOn m depth s → m ≤ length (closed_to t depth s).opened
+unfolding closed_to
+closed_many m t depth s w = by (nat_le (length u.opened) depth) refl
+  where
+    u : State
+    u = leaf_closed t s
+
+    same : length u.opened ≡ length s.opened
+    same = leaf_closed_length t s
+
+    by : (b : Bool) → nat_le (length u.opened) depth ≡ b → m ≤ length (times one_closed (length u.opened - depth) u).opened
+    by true q =
+        let l : length u.opened ≤ depth = grind (arith, nat_tests) in
+        let n : length (times one_closed (length u.opened - depth) u).opened ≡ length u.opened = some_left (length u.opened - depth) (length u.opened) u (omega (arith, same)) in
+        let a : m ≤ length s.opened = w.1 in
+        omega (arith, same)
+    by false q =
+        let l : depth < length u.opened = grind (arith, nat_tests) in
+        let n : length (times one_closed (length u.opened - depth) u).opened ≡ depth = some_left (length u.opened - depth) depth u (omega (arith, same)) in
+        let a : m ≤ depth = w.0 in
+        omega (arith, same)
+
+taken_end : (p : Piece) (line : Line) (keeps : Bool) (s : State) → s.end ≤ line.end → (piece_taken p line keeps s).end ≤ line.end
+unfolding piece_taken
+taken_end p line keeps s l = by (nat_lt 0 p.spaces || nat_lt p.start p.next) keeps
+  where
+    by : (x y : Bool) → (let t = if x then record s { pieces = s.pieces ++ p ∷ [] } else s in if y then record t { kept = length t.pieces; end = line.end; line = line.number } else t).end ≤ line.end
+    by true true = omega arith
+    by true false = l
+    by false true = omega arith
+    by false false = l
+
+opened_end : (l : Leaf) (k : BlockKind) (start : ℕ) (line : Line) (s : State) → (leaf_opened l k start line s).end ≤ line.end
+unfolding leaf_opened
+opened_end l k start line s = omega arith
+
+finished_rests : (m e c f : ℕ) (s : State) (front : List Block) (b : Block) → s.end ≤ f → Leafed m e c f s front b → Rests m e c f (leaf_finished s)
+unfolding leaf_finished
+finished_rests m e c f s front b r h = calm refl (finish_calm m e c f s front b r h)
+
+html_rests : (m e c f : ℕ) (rest : List ℕ) (s : State) (front : List Block) (b : Block) → is_worded s.leaf ≡ true → s.end ≤ f → Leafed m e c f s front b → Rests m e c f (html_ended rest s)
+unfolding html_ended
+html_rests m e c f rest s front b w r h = by s.leaf
+  where
+    same : Rests m e c f s
+    same = leafed w r front b h
+
+    ends : (x : Bool) → Rests m e c f (if x then leaf_finished s else s)
+    ends true = finished_rests m e c f s front b r h
     ends false = same
 
-    by : (k : Leaf) → Rests c f (html_ended_as k rest s)
+    by : (k : Leaf) → Rests m e c f (html_ended_as k rest s)
     by leaf.Nothing = same
     by leaf.Paragraph = same
     by leaf.Indented = same
@@ -280,53 +343,82 @@ html_rests c f rest s front b w h = by s.leaf
     by (leaf.Metadata k) = same
     by (leaf.Table t) = same
 
-code_rests : (c f : ℕ) (t : List ℕ) (cs : List Cell) (column : ℕ) (line : Line) (s : State) (front : List Block) (b : Block) → is_worded s.leaf ≡ true → is_paragraph s.leaf ≡ false → Leafed c f s front b → Rests (suc c) f (code_taken t cs column line s)
-unfolding code_taken
-code_rests c f t cs column line s front b w n h =
-    html_rests (suc c) f (bytes_between t (code_piece cs column line).start (code_piece cs column line).end) (piece_taken (code_piece cs column line) line (keeps_line cs column s.leaf) s) front b
-    (ap is_worded (piece_taken_leaf (code_piece cs column line) line (keeps_line cs column s.leaf) s) ∙ w)
-    (taken_leafed c f (code_piece cs column line) line (keeps_line cs column s.leaf) s front b (λ e. absurd (true≢false (sym e ∙ n))) h)
+-- a leaf that a line comes into reaches to its end
+line_leafed : (m c f : ℕ) (line : Line) (s : State) (front : List Block) (b : Block) → Leafed m line.end c f s front b → Leafed m line.end c line.end s front b
+line_leafed m c f line s front b h = leafed_more m line.end c c f line.end s front b (omega arith) h.sorted.room (omega arith) h
 
-text_started_leafed : (c f x : ℕ) (s : State) (front : List Block) (b : Block) → f ≤ x → Leafed c f s front b → (y : Block) × Leafed c f (text_started x s) front y
+code_rests : (m c f : ℕ) (t : List ℕ) (cs : List Cell) (column : ℕ) (line : Line) (s : State) (front : List Block) (b : Block) → is_worded s.leaf ≡ true → is_paragraph s.leaf ≡ false → s.end ≤ line.end → Leafed m line.end c f s front b → Rests m line.end (suc c) line.end (code_taken t cs column line s)
+unfolding code_taken
+code_rests m c f t cs column line s front b w n r h =
+    html_rests m line.end (suc c) line.end (bytes_between t (code_piece cs column line).start (code_piece cs column line).end) (piece_taken (code_piece cs column line) line (keeps_line cs column s.leaf) s) front b
+    (ap is_worded (piece_taken_leaf (code_piece cs column line) line (keeps_line cs column s.leaf) s) ∙ w)
+    (taken_end (code_piece cs column line) line (keeps_line cs column s.leaf) s r)
+    (line_leafed m (suc c) f line (piece_taken (code_piece cs column line) line (keeps_line cs column s.leaf) s) front b
+    (taken_leafed m line.end c f (code_piece cs column line) line (keeps_line cs column s.leaf) s front b (λ q. absurd (true≢false (sym q ∙ n))) h))
+
+text_started_leafed : (m e c f x : ℕ) (s : State) (front : List Block) (b : Block) → f ≤ x → Leafed m e c f s front b → (y : Block) × Leafed m e c f (text_started x s) front y
 unfolding text_started
-text_started_leafed c f x s front b l h = by (slice_get s.blocks (length s.blocks - 1)) (ap (λ (bs : List Block). slice_get bs (length bs - 1)) h.split ∙ got_last front b)
+text_started_leafed m e c f x s front b l h = by (slice_get s.blocks (length s.blocks - 1)) (ap (λ (bs : List Block). slice_get bs (length bs - 1)) h.split ∙ got_last front b)
   where
     new : Block
     new = record b { start = x }
 
-    inside : (k : Bool) → (y : Block) × Leafed c f (if k then record s { blocks = slice_set s.blocks (length s.blocks - 1) (record b { start = x }) } else s) front y
-    inside true = (new, record { floor = h.floor; split = ap (λ (bs : List Block). slice_set bs (length bs - 1) new) h.split ∙ set_last front b new; stack = h.stack; depth = h.depth; after = let q : h.floor ≤ f = h.low in omega arith; low = h.low; count = h.count; first = h.first; words = h.words })
+    inside : (k : Bool) → (y : Block) × Leafed m e c f (if k then record s { blocks = slice_set s.blocks (length s.blocks - 1) (record b { start = x }) } else s) front y
+    inside true = (new, record { floor = h.floor; split = ap (λ (bs : List Block). slice_set bs (length bs - 1) new) h.split ∙ set_last front b new; stack = h.stack; depth = h.depth; after = let q : h.floor ≤ f = h.low in omega arith; low = h.low; count = h.count; first = h.first; words = h.words; past = h.past; sorted = h.sorted })
     inside false = (b, h)
 
     change : Block → State
     change y = if nat_le (length s.pieces) y.first then record s { blocks = slice_set s.blocks (length s.blocks - 1) (record y { start = x }) } else s
 
-    by : (o : Option Block) → o ≡ Some b → (y : Block) × Leafed c f (option_map_or change o s) front y
-    by None e = absurd cc
-    by (Some z) e = let q : z ≡ b = cc in subst (λ z. (y : Block) × Leafed c f (change z) front y) (sym q) (inside (nat_le (length s.pieces) b.first))
+    by : (o : Option Block) → o ≡ Some b → (y : Block) × Leafed m e c f (option_map_or change o s) front y
+    by None q = absurd cc
+    by (Some z) w = let q : z ≡ b = cc in subst (λ z. (y : Block) × Leafed m e c f (change z) front y) (sym q) (inside (nat_le (length s.pieces) b.first))
 
-words_leafed : (c f : ℕ) (s : State) → is_paragraph s.leaf ≡ true → Rests c f s → (front : List Block) × (b : Block) × Leafed c f s front b
-unfolding is_paragraph
-words_leafed c f s p (calm e h) = absurd (true≢false (sym p ∙ ap is_paragraph e))
-words_leafed c f s p (leafed w front b h) = (front, b, h)
-
-abbrev InWords : ℕ → ℕ → State → Type 0
-InWords c f s = (is_paragraph s.leaf ≡ true) × ((front : List Block) × (b : Block) × Leafed c f s front b)
-
-in_paragraph_leafed : (c f : ℕ) (t : List ℕ) (cs : List Cell) (line : Line) (place : LineStart) (s : State) → c ≤ 2 ^ 64 - 1 → f ≤ cell_place cs place.cursor.ink line.end → Rests c f s → InWords c f (in_paragraph t cs line place s)
-unfolding text_piece is_paragraph
-in_paragraph_leafed c f t cs line place s few l h = by (is_paragraph s.leaf) refl
+text_started_end : (x : ℕ) (s : State) → (text_started x s).end ≡ s.end
+unfolding text_started
+text_started_end x s = by (slice_get s.blocks (length s.blocks - 1))
   where
-    by : (x : Bool) → is_paragraph s.leaf ≡ x → InWords c f (if x then s else leaf_opened leaf.Paragraph kind.Paragraph (text_piece cs place.cursor line).start line (closed_to t place.depth s))
-    by true e = (e, words_leafed c f s e h)
-    by false e = (
+    change : Block → State
+    change y = if nat_le (length s.pieces) y.first then record s { blocks = slice_set s.blocks (length s.blocks - 1) (record y { start = x }) } else s
+
+    inside : (y : Block) (k : Bool) → (if k then record s { blocks = slice_set s.blocks (length s.blocks - 1) (record y { start = x }) } else s).end ≡ s.end
+    inside y true = refl
+    inside y false = refl
+
+    by : (o : Option Block) → (option_map_or change o s).end ≡ s.end
+    by None = refl
+    by (Some y) = inside y (nat_le (length s.pieces) y.first)
+
+-- an open leaf that reaches no further than a place
+abbrev pub Words : ℕ → ℕ → ℕ → ℕ → State → Type 0
+Words m e c f s = (s.end ≤ f) × ((front : List Block) × (b : Block) × Leafed m e c f s front b)
+
+words_leafed : (m e c f : ℕ) (s : State) → is_paragraph s.leaf ≡ true → Rests m e c f s → Words m e c f s
+unfolding is_paragraph
+words_leafed m e c f s p (calm q h) = absurd (true≢false (sym p ∙ ap is_paragraph q))
+words_leafed m e c f s p (leafed w r front b h) = (r, (front, b, h))
+
+abbrev InWords : ℕ → ℕ → ℕ → Line → State → Type 0
+InWords m c f line s = (is_paragraph s.leaf ≡ true) × (s.end ≤ line.end) × ((front : List Block) × (b : Block) × Leafed m line.end c f s front b)
+
+in_paragraph_leafed : (m c f : ℕ) (t : List ℕ) (cs : List Cell) (line : Line) (place : LineStart) (s : State) → c ≤ 2 ^ 64 - 1 → f ≤ cell_place cs place.cursor.ink line.end → GoOn m place.depth s → Rests m line.end c f s → InWords m c f line (in_paragraph t cs line place s)
+unfolding text_piece is_paragraph
+in_paragraph_leafed m c f t cs line place s few l g h = by (is_paragraph s.leaf) refl
+  where
+    on : is_paragraph s.leaf ≡ true → Words m line.end c f s → InWords m c f line s
+    on q (r, (front, b, k)) = (q, (let a : f ≤ line.end = k.sorted.room in omega arith), (front, b, k))
+
+    by : (x : Bool) → is_paragraph s.leaf ≡ x → InWords m c f line (if x then s else leaf_opened leaf.Paragraph kind.Paragraph (text_piece cs place.cursor line).start line (closed_to t place.depth s))
+    by true q = on q (words_leafed m line.end c f s q h)
+    by false q = (
       ap is_paragraph (leaf_opened_leaf leaf.Paragraph kind.Paragraph (cell_place cs place.cursor.ink line.end) line (closed_to t place.depth s)),
-      leaf_opened_leafed c f leaf.Paragraph kind.Paragraph (cell_place cs place.cursor.ink line.end) line (closed_to t place.depth s) l few (closed_to_calm c f t place.depth s h),
+      opened_end leaf.Paragraph kind.Paragraph (cell_place cs place.cursor.ink line.end) line (closed_to t place.depth s),
+      leaf_opened_leafed m line.end c f leaf.Paragraph kind.Paragraph (cell_place cs place.cursor.ink line.end) line (closed_to t place.depth s) l few (closed_many m t place.depth s g) (closed_to_calm m line.end c f t place.depth s (g.0) h),
     )
 
-text_rests : (c f : ℕ) (t : List ℕ) (cs : List Cell) (line : Line) (place : LineStart) (s : State) → c ≤ 2 ^ 64 - 1 → f ≤ cell_place cs place.cursor.ink line.end → Rests c f s → Rests (suc c) f (text_taken t cs line place s)
+text_rests : (m c f : ℕ) (t : List ℕ) (cs : List Cell) (line : Line) (place : LineStart) (s : State) → c ≤ 2 ^ 64 - 1 → f ≤ cell_place cs place.cursor.ink line.end → GoOn m place.depth s → Rests m line.end c f s → Rests m line.end (suc c) line.end (text_taken t cs line place s)
 unfolding text_taken text_piece
-text_rests c f t cs line place s few l h = by (in_paragraph t cs line place s) (in_paragraph_leafed c f t cs line place s few l h)
+text_rests m c f t cs line place s few l g h = by (in_paragraph t cs line place s) (in_paragraph_leafed m c f t cs line place s few l g h)
   where
     at : ℕ
     at = cell_place cs place.cursor.ink line.end
@@ -334,142 +426,213 @@ text_rests c f t cs line place s few l h = by (in_paragraph t cs line place s) (
     words : Piece
     words = text_piece cs place.cursor line
 
-    last : (u : State) (front : List Block) → (y : Block) × Leafed c f (text_started at u) front y → is_paragraph u.leaf ≡ true → Rests (suc c) f (piece_taken words line true (text_started at u))
-    last u front (y, k) e = leafed (ap is_worded (piece_taken_leaf words line true (text_started at u) ∙ text_started_leaf at u) ∙ words_worded u.leaf e) front y (taken_leafed c f words line true (text_started at u) front y (λ w. l) k)
+    last : (u : State) (front : List Block) → (y : Block) × Leafed m line.end c f (text_started at u) front y → is_paragraph u.leaf ≡ true → u.end ≤ line.end → Rests m line.end (suc c) line.end (piece_taken words line true (text_started at u))
+    last u front (y, k) q r = leafed (ap is_worded (piece_taken_leaf words line true (text_started at u) ∙ text_started_leaf at u) ∙ words_worded u.leaf q) (taken_end words line true (text_started at u) (let a : (text_started at u).end ≡ u.end = text_started_end at u in omega arith)) front y
+        (line_leafed m (suc c) f line (piece_taken words line true (text_started at u)) front y (taken_leafed m line.end c f words line true (text_started at u) front y (λ w. l) k))
 
-    by : (u : State) → InWords c f u → Rests (suc c) f (piece_taken words line true (text_started at u))
-    by u (e, (front, b, k)) = last u front (text_started_leafed c f at u front b l k) e
+    by : (u : State) → InWords m c f line u → Rests m line.end (suc c) line.end (piece_taken words line true (text_started at u))
+    by u (q, r, (front, b, k)) = last u front (text_started_leafed m line.end c f at u front b l k) q r
 
-rule_rests : (c f : ℕ) (t : List ℕ) (cs : List Cell) (line : Line) (place : LineStart) (s : State) → c ≤ 2 ^ 64 - 1 → f ≤ start_of cs place line → Rests c f s → Rests (suc c) f (rule_started t cs line place s)
+rule_rests : (m c f : ℕ) (t : List ℕ) (cs : List Cell) (line : Line) (place : LineStart) (s : State) → c ≤ 2 ^ 64 - 1 → f ≤ start_of cs place line → GoOn m place.depth s → Rests m line.end c f s → Rests m line.end (suc c) line.end (rule_started t cs line place s)
 unfolding rule_started
-rule_rests c f t cs line place s few l h = by (leaf_opened_leafed c f leaf.Nothing kind.Rule (start_of cs place line) line (closed_to t place.depth s) l few (closed_to_calm c f t place.depth s h))
+rule_rests m c f t cs line place s few l g h = by (leaf_opened_leafed m line.end c f leaf.Nothing kind.Rule (start_of cs place line) line (closed_to t place.depth s) l few (closed_many m t place.depth s g) (closed_to_calm m line.end c f t place.depth s (g.0) h))
   where
     u : State
     u = leaf_opened leaf.Nothing kind.Rule (start_of cs place line) line (closed_to t place.depth s)
 
-    by : (front : List Block) × (b : Block) × Leafed c f u front b → Rests (suc c) f (leaf_finished u)
-    by (front, b, k) = finished_rests (suc c) f u front b (leafed_more c (suc c) f f u front b (omega arith) (omega arith) k)
+    by : (front : List Block) × (b : Block) × Leafed m line.end c f u front b → Rests m line.end (suc c) line.end (leaf_finished u)
+    by (front, b, k) = finished_rests m line.end (suc c) line.end u front b (opened_end leaf.Nothing kind.Rule (start_of cs place line) line (closed_to t place.depth s)) (leafed_more m line.end c (suc c) f line.end u front b (omega arith) k.sorted.room (omega arith) k)
 
-rule_or_text_rests : (c f : ℕ) (t : List ℕ) (cs : List Cell) (line : Line) (tail : Tail) (place : LineStart) (s : State) → c ≤ 2 ^ 64 - 1 → f ≤ cell_place cs place.cursor.ink line.end → Rests c f s → Rests (suc c) f (rule_or_text (rule_at cs tail place.cursor.ink) t cs line place s)
+rule_or_text_rests : (m c f : ℕ) (t : List ℕ) (cs : List Cell) (line : Line) (tail : Tail) (place : LineStart) (s : State) → c ≤ 2 ^ 64 - 1 → f ≤ cell_place cs place.cursor.ink line.end → GoOn m place.depth s → Rests m line.end c f s
+    → Rests m line.end (suc c) line.end (rule_or_text (rule_at cs tail place.cursor.ink) t cs line place s)
 unfolding rule_at
-rule_or_text_rests c f t cs line tail place s few l h = by (is_rule cs tail place.cursor.ink)
+rule_or_text_rests m c f t cs line tail place s few l g h = by (is_rule cs tail place.cursor.ink)
   where
-    by : (x : Bool) → Rests (suc c) f (rule_or_text (if x then start.Rule else start.Text) t cs line place s)
-    by true = rule_rests c f t cs line place s few l h
-    by false = text_rests c f t cs line place s few l h
+    by : (x : Bool) → Rests m line.end (suc c) line.end (rule_or_text (if x then start.Rule else start.Text) t cs line place s)
+    by true = rule_rests m c f t cs line place s few l g h
+    by false = text_rests m c f t cs line place s few l g h
 
-underlined_rests : (c f : ℕ) (t : List ℕ) (level : HeadingLevel) (line : Line) (s : State) (front : List Block) (b : Block) → Leafed c f s front b → Rests (suc c) f (underlined_in core_known t level line s)
+underlined_rests : (m c f : ℕ) (t : List ℕ) (level : HeadingLevel) (line : Line) (s : State) (front : List Block) (b : Block) → Leafed m line.end c f s front b → Rests m line.end (suc c) line.end (underlined_in core_known t level line s)
 unfolding underlined_in underlined
-underlined_rests c f t level line s front b h = finished_rests (suc c) f (record s { blocks = of_kind (kind.Heading level None) s.blocks; end = line.end; line = line.number }) front (record b { kind = kind.Heading level None }) (record {
+underlined_rests m c f t level line s front b h = finished_rests m line.end (suc c) line.end u front (record b { kind = kind.Heading level None }) (omega arith) (leafed_more m line.end c (suc c) f line.end u front (record b { kind = kind.Heading level None }) (omega arith) h.sorted.room (omega arith) record {
   floor = h.floor;
   split = last_changed s.blocks front b (λ (x : Block). record x { kind = kind.Heading level None }) h.split;
   stack = h.stack;
   depth = h.depth;
   after = h.after;
   low = h.low;
-  count = let q : length s.pieces ≤ c = h.count in omega arith;
+  count = h.count;
   first = h.first;
   words = h.words;
+  past = h.past;
+  sorted = h.sorted;
 })
-
-underline_rests : (c f : ℕ) (t : List ℕ) (cs : List Cell) (line : Line) (tail : Tail) (place : LineStart) (level : HeadingLevel) (s : State) → c ≤ 2 ^ 64 - 1 → f ≤ cell_place cs place.cursor.ink line.end → is_paragraph s.leaf ≡ true → Rests c f s → Rests (suc c) f (underline_taken_in core_known t cs line tail place level s)
-unfolding underline_taken_in metadata_in metadata_or
-underline_rests c f t cs line tail place level s few l e h = took (words_leafed c f s e h)
   where
-    with : (front : List Block) → (y : Block) × Leafed c f (settled t s) front y → Rests (suc c) f (underline_taken_in core_known t cs line tail place level s)
-    with front (y, k) = by (has_text (settled t s))
+    u : State
+    u = record s { blocks = of_kind (kind.Heading level None) s.blocks; end = line.end; line = line.number }
+
+settled_opened : (t : List ℕ) (s : State) → (settled t s).opened ≡ s.opened
+unfolding settled
+settled_opened t s = by (slice_get s.blocks (length s.blocks - 1))
+  where
+    boxed : (b : Block) (k : Bool) → (if k then s else defined_as t s b).opened ≡ s.opened
+    boxed b true = refl
+    boxed b false = refl
+
+    by : (o : Option Block) → (option_map_or (settled_as t s) o s).opened ≡ s.opened
+    by None = refl
+    by (Some b) = boxed b (is_some b.task)
+
+underline_rests : (m c f : ℕ) (t : List ℕ) (cs : List Cell) (line : Line) (tail : Tail) (place : LineStart) (level : HeadingLevel) (s : State) → c ≤ 2 ^ 64 - 1 → f ≤ cell_place cs place.cursor.ink line.end → is_paragraph s.leaf ≡ true → GoOn m place.depth s → Rests m line.end c f s
+    → Rests m line.end (suc c) line.end (underline_taken_in core_known t cs line tail place level s)
+unfolding underline_taken_in metadata_in metadata_or
+underline_rests m c f t cs line tail place level s few l q g h = took (words_leafed m line.end c f s q h)
+  where
+    with : (front : List Block) → (y : Block) × Leafed m line.end c f (settled t s) front y → (settled t s).end ≤ f → Rests m line.end (suc c) line.end (underline_taken_in core_known t cs line tail place level s)
+    with front (y, k) r = by (has_text (settled t s))
       where
-        by : (x : Bool) → Rests (suc c) f (underlined_if core_known x (rule_at cs tail place.cursor.ink) t cs line place level (settled t s))
-        by true = underlined_rests c f t level line (settled t s) front y k
-        by false = rule_or_text_rests c f t cs line tail place (settled t s) few l (leafed (words_worded (settled t s).leaf (ap is_paragraph (settled_leaf t s) ∙ e)) front y k)
+        goes : GoOn m place.depth (settled t s)
+        goes = (g.0, subst (λ (os : List Opened). m ≤ length os) (sym (settled_opened t s)) (g.1))
 
-    took : (front : List Block) × (b : Block) × Leafed c f s front b → Rests (suc c) f (underline_taken_in core_known t cs line tail place level s)
-    took (front, b, k) = with front (settled_leafed c f t s front b k e)
+        by : (x : Bool) → Rests m line.end (suc c) line.end (underlined_if core_known x (rule_at cs tail place.cursor.ink) t cs line place level (settled t s))
+        by true = underlined_rests m c f t level line (settled t s) front y k
+        by false = rule_or_text_rests m c f t cs line tail place (settled t s) few l goes (leafed (words_worded (settled t s).leaf (ap is_paragraph (settled_leaf t s) ∙ q)) r front y k)
 
-coded_rests : (c f : ℕ) (t : List ℕ) (cs : List Cell) (column : ℕ) (line : Line) (x : Leaf) (k : BlockKind) (s : State) → c ≤ 2 ^ 64 - 1 → f ≤ cell_place cs column line.end → is_worded x ≡ true → is_paragraph x ≡ false → Calm c f s → Rests (suc c) f (code_taken t cs column line (leaf_opened x k (cell_place cs column line.end) line s))
-coded_rests c f t cs column line x k s few l w n h = by (leaf_opened_leafed c f x k (cell_place cs column line.end) line s l few h)
+    took : Words m line.end c f s → Rests m line.end (suc c) line.end (underline_taken_in core_known t cs line tail place level s)
+    took (r, (front, b, k)) = with front (settled_leafed m line.end c f t s front b k q) (let a : (settled t s).end ≡ s.end = settled_end t s in omega arith)
+
+coded_rests : (m c f : ℕ) (t : List ℕ) (cs : List Cell) (column : ℕ) (line : Line) (x : Leaf) (k : BlockKind) (s : State) → c ≤ 2 ^ 64 - 1 → f ≤ cell_place cs column line.end → is_worded x ≡ true → is_paragraph x ≡ false → m ≤ length s.opened → Calm m line.end c f s
+    → Rests m line.end (suc c) line.end (code_taken t cs column line (leaf_opened x k (cell_place cs column line.end) line s))
+coded_rests m c f t cs column line x k s few l w n g h = by (leaf_opened_leafed m line.end c f x k (cell_place cs column line.end) line s l few g h)
   where
     u : State
     u = leaf_opened x k (cell_place cs column line.end) line s
 
-    by : (front : List Block) × (b : Block) × Leafed c f u front b → Rests (suc c) f (code_taken t cs column line u)
-    by (front, b, q) = code_rests c f t cs column line u front b (ap is_worded (leaf_opened_leaf x k (cell_place cs column line.end) line s) ∙ w) (ap is_paragraph (leaf_opened_leaf x k (cell_place cs column line.end) line s) ∙ n) q
+    by : (front : List Block) × (b : Block) × Leafed m line.end c f u front b → Rests m line.end (suc c) line.end (code_taken t cs column line u)
+    by (front, b, q) = code_rests m c f t cs column line u front b (ap is_worded (leaf_opened_leaf x k (cell_place cs column line.end) line s) ∙ w) (ap is_paragraph (leaf_opened_leaf x k (cell_place cs column line.end) line s) ∙ n) (opened_end x k (cell_place cs column line.end) line s) q
 
-fence_rests : (c f : ℕ) (line : Line) (x : Leaf) (k : BlockKind) (at : ℕ) (s : State) → c ≤ 2 ^ 64 - 1 → f ≤ at → is_worded x ≡ true → Calm c f s → Rests (suc c) f (leaf_opened x k at line s)
-fence_rests c f line x k at s few l w h = by (leaf_opened_leafed c f x k at line s l few h)
+fence_rests : (m c f : ℕ) (line : Line) (x : Leaf) (k : BlockKind) (at : ℕ) (s : State) → c ≤ 2 ^ 64 - 1 → f ≤ at → is_worded x ≡ true → m ≤ length s.opened → Calm m line.end c f s → Rests m line.end (suc c) line.end (leaf_opened x k at line s)
+fence_rests m c f line x k at s few l w g h = by (leaf_opened_leafed m line.end c f x k at line s l few g h)
   where
-    by : (front : List Block) × (b : Block) × Leafed c f (leaf_opened x k at line s) front b → Rests (suc c) f (leaf_opened x k at line s)
-    by (front, b, q) = leafed (ap is_worded (leaf_opened_leaf x k at line s) ∙ w) front b (leafed_more c (suc c) f f (leaf_opened x k at line s) front b (omega arith) (omega arith) q)
+    by : (front : List Block) × (b : Block) × Leafed m line.end c f (leaf_opened x k at line s) front b → Rests m line.end (suc c) line.end (leaf_opened x k at line s)
+    by (front, b, q) = leafed (ap is_worded (leaf_opened_leaf x k at line s) ∙ w) (opened_end x k at line s) front b (leafed_more m line.end c (suc c) f line.end (leaf_opened x k at line s) front b (omega arith) q.sorted.room (omega arith) q)
 
-heading_rests : (c f : ℕ) (line : Line) (p : Piece) (k : BlockKind) (at : ℕ) (s : State) → c ≤ 2 ^ 64 - 1 → f ≤ at → Calm c f s → Rests (suc c) f (leaf_finished (piece_taken p line true (leaf_opened leaf.Nothing k at line s)))
+heading_rests : (m c f : ℕ) (line : Line) (p : Piece) (k : BlockKind) (at : ℕ) (s : State) → c ≤ 2 ^ 64 - 1 → f ≤ at → m ≤ length s.opened → Calm m line.end c f s → Rests m line.end (suc c) line.end (leaf_finished (piece_taken p line true (leaf_opened leaf.Nothing k at line s)))
 unfolding is_paragraph
-heading_rests c f line p k at s few l h = by (leaf_opened_leafed c f leaf.Nothing k at line s l few h)
+heading_rests m c f line p k at s few l g h = by (leaf_opened_leafed m line.end c f leaf.Nothing k at line s l few g h)
   where
-    by : (front : List Block) × (b : Block) × Leafed c f (leaf_opened leaf.Nothing k at line s) front b → Rests (suc c) f (leaf_finished (piece_taken p line true (leaf_opened leaf.Nothing k at line s)))
-    by (front, b, q) = finished_rests (suc c) f (piece_taken p line true (leaf_opened leaf.Nothing k at line s)) front b (taken_leafed c f p line true (leaf_opened leaf.Nothing k at line s) front b (λ e. absurd (true≢false (sym e ∙ ap is_paragraph (leaf_opened_leaf leaf.Nothing k at line s)))) q)
+    u : State
+    u = leaf_opened leaf.Nothing k at line s
 
-started_rests : (c f : ℕ) (t : List ℕ) (cs : List Cell) (line : Line) (tail : Tail) (place : LineStart) (s : State) (b : LeafStart) → c ≤ 2 ^ 64 - 1 → Floor cs line f place.cursor → Starts cs line f (goes_directly place.depth s) b → Rests c f s → Rests (suc c) f (started_in core_known b t cs line tail place s)
+    by : (front : List Block) × (b : Block) × Leafed m line.end c f u front b → Rests m line.end (suc c) line.end (leaf_finished (piece_taken p line true u))
+    by (front, b, q) = finished_rests m line.end (suc c) line.end (piece_taken p line true u) front b (taken_end p line true u (opened_end leaf.Nothing k at line s)) (line_leafed m (suc c) f line (piece_taken p line true u) front b (taken_leafed m line.end c f p line true u front b (λ w. absurd (true≢false (sym w ∙ ap is_paragraph (leaf_opened_leaf leaf.Nothing k at line s)))) q))
+
+started_rests : (m c f : ℕ) (t : List ℕ) (cs : List Cell) (line : Line) (tail : Tail) (place : LineStart) (s : State) (b : LeafStart) → c ≤ 2 ^ 64 - 1 → Floor cs line f place.cursor → Starts cs line f (goes_directly place.depth s) b → GoOn m place.depth s → Rests m line.end c f s → Rests m line.end (suc c) line.end (started_in core_known b t cs line tail place s)
 unfolding started_in indented_started fence_started html_started heading_started_in heading_put is_paragraph
-started_rests c f t cs line tail place s b few v w h = by b w
+started_rests m c f t cs line tail place s b few v w g h = by b w
   where
-    u : Calm c f (closed_to t place.depth s)
-    u = closed_to_calm c f t place.depth s h
+    u : Calm m line.end c f (closed_to t place.depth s)
+    u = closed_to_calm m line.end c f t place.depth s (g.0) h
+
+    many : m ≤ length (closed_to t place.depth s).opened
+    many = closed_many m t place.depth s g
 
     ink : f ≤ cell_place cs place.cursor.ink line.end
     ink = v.ink
 
-    by : (b : LeafStart) → Starts cs line f (goes_directly place.depth s) b → Rests (suc c) f (started_in core_known b t cs line tail place s)
-    by start.Blank w = calm (closed_shut t place.depth s) (calm_more c (suc c) f f (closed_to t place.depth s) (omega arith) (omega arith) u)
-    by start.Text w = text_rests c f t cs line place s few ink h
-    by (start.Indented column) w = coded_rests c f t cs column line leaf.Indented kind.Indented (closed_to t place.depth s) few w refl refl u
-    by (start.Heading x) w = heading_rests c f line (heading_piece cs x line) (kind.Heading x.level None) (start_of cs place line) (closed_to t place.depth s) few ink u
-    by (start.Fence x) w = fence_rests c f line (leaf.Fenced x) (info_of cs place.cursor x line) (start_of cs place line) (closed_to t place.depth s) few ink refl u
-    by (start.Html x) w = coded_rests c f t cs place.cursor.column line (leaf.Html x) kind.Html (closed_to t place.depth s) few v.column refl refl u
-    by (start.Underline level) w = underline_rests c f t cs line tail place level s few ink (direct_words place.depth s w) h
-    by start.Rule w = rule_rests c f t cs line place s few ink h
+    by : (b : LeafStart) → Starts cs line f (goes_directly place.depth s) b → Rests m line.end (suc c) line.end (started_in core_known b t cs line tail place s)
+    by start.Blank w = calm (closed_shut t place.depth s) (calm_more m line.end c (suc c) f line.end (closed_to t place.depth s) (omega arith) (u.2).room (omega arith) u)
+    by start.Text w = text_rests m c f t cs line place s few ink g h
+    by (start.Indented column) w = coded_rests m c f t cs column line leaf.Indented kind.Indented (closed_to t place.depth s) few w refl refl many u
+    by (start.Heading x) w = heading_rests m c f line (heading_piece cs x line) (kind.Heading x.level None) (start_of cs place line) (closed_to t place.depth s) few ink many u
+    by (start.Fence x) w = fence_rests m c f line (leaf.Fenced x) (info_of cs place.cursor x line) (start_of cs place line) (closed_to t place.depth s) few ink refl many u
+    by (start.Html x) w = coded_rests m c f t cs place.cursor.column line (leaf.Html x) kind.Html (closed_to t place.depth s) few v.column refl refl many u
+    by (start.Underline level) w = underline_rests m c f t cs line tail place level s few ink (direct_words place.depth s w) g h
+    by start.Rule w = rule_rests m c f t cs line place s few ink g h
     by (start.Metadata x) w = absurd w
     by (start.Task d) w = absurd w
     by (start.QuoteKind x) w = absurd w
 
-list_started_calm : (c f : ℕ) (i : ItemStart) (x : ℕ) (line : Line) (s : State) → f ≤ x → Calm c f s → Calm c x (list_started i x line s)
+-- a container begins after another one that may go on
+abbrev Begun : ℕ → ℕ → Line → State → Type 0
+Begun c x line s = (n : ℕ) × Calm n line.end c x s
+
+list_started_calm : (m c f : ℕ) (i : ItemStart) (x : ℕ) (line : Line) (s : State) → f ≤ x → x ≤ line.end → m ≤ length s.opened → Calm m line.end c f s → Begun c x line (list_started i x line s)
 unfolding list_started
-list_started_calm c f i x line s l h = by (is_in_list i.sort s)
+list_started_calm m c f i x line s l k g h = by (is_in_list i.sort s)
   where
-    by : (b : Bool) → Calm c x (if b then s else opened_with (container.List i.sort) (kind.List i.number) x line (list_left s))
-    by true = calm_more c c f x s (omega arith) l h
-    by false = opened_with_calm c f (container.List i.sort) (kind.List i.number) x line (list_left s) l (list_left_calm c f s h)
+    n : ℕ
+    n = suc (suc (length (list_left s).opened))
+
+    by : (b : Bool) → Begun c x line (if b then s else opened_with (container.List i.sort) (kind.List i.number) x line (list_left s))
+    by true = (m, calm_more m line.end c c f x s (omega arith) l k h)
+    by false = (n, opened_with_calm m n line.end c f (container.List i.sort) (kind.List i.number) x line (list_left s) l k (omega arith) (inl (omega arith)) (list_left_calm m line.end c f s g h))
+
+opened_with_length : (x : Container) (k : BlockKind) (start : ℕ) (line : Line) (s : State) → length (opened_with x k start line s).opened ≡ suc (length s.opened)
+unfolding opened_with begun
+opened_with_length x k start line s = by (is_quote x)
+  where
+    u : State
+    u = begun k start line.number s
+
+    new : Opened
+    new = record { container = x; block = length u.blocks - 1; end = line.end; line = line.number; had = false }
+
+    v : State
+    v = record u { opened = u.opened ++ new ∷ [] }
+
+    size : length (had_marked s.opened ++ new ∷ []) ≡ suc (length s.opened)
+    size = let w : length (had_marked s.opened ++ new ∷ []) ≡ length (had_marked s.opened) + 1 = length-append (had_marked s.opened) (new ∷ []) in let q : length (had_marked s.opened) ≡ length s.opened = had_length s.opened in omega arith
+
+    by : (b : Bool) → length (if b then record v { quotes = v.quotes ++ (length v.opened - 1) ∷ [] } else v).opened ≡ suc (length s.opened)
+    by true = size
+    by false = size
+
+-- a container that is no list begins in one that may go on
+within_rests : (n c f x : ℕ) (k : Container) (y : BlockKind) (line : Line) (s : State) → f ≤ x → x ≤ line.end → is_list k ≡ false → (opened_with k y x line s).leaf ≡ leaf.Nothing → Calm n line.end c f s
+    → Rests (length (opened_with k y x line s).opened) line.end c x (opened_with k y x line s)
+within_rests n c f x k y line s l z p q h = calm q (opened_with_calm n (length (opened_with k y x line s).opened) line.end c f k y x line s l z (omega arith) (inr (let w : length (opened_with k y x line s).opened ≡ suc (length s.opened) = opened_with_length k y x line s in omega arith, p)) h)
 
 -- a container that begins is not before a place
-abbrev Went : ℕ → ℕ → ℕ → List Cell → Line → State × Option LineStart → Type 0
-Went c f x cs line (u, None) = Rests c f u
-Went c f x cs line (u, Some d) = Rests c x u × Floor cs line x d.cursor
+abbrev Went : ℕ → ℕ → ℕ → ℕ → ℕ → List Cell → Line → State × Option LineStart → Type 0
+Went m c f depth x cs line (u, None) = Rests m line.end c f u × GoOn m depth u
+Went m c f depth x cs line (u, Some d) = Rests (length u.opened) line.end c x u × (length u.opened ≡ d.depth) × Floor cs line x d.cursor
 
-begun_rests : (c f : ℕ) (t : List ℕ) (cs : List Cell) (line : Line) (place : LineStart) (s : State) (o : Option ContainerStart) → f ≤ start_of cs place line → Leads (Floor cs line (start_of cs place line)) cs place.cursor o → Rests c f s → Went c f (start_of cs place line) cs line (begun_at t cs line place s o)
-unfolding item_opened quote_opened
-begun_rests c f t cs line place s None l w h = h
-begun_rests c f t cs line place s (Some begins.Quote) l w h = (
-  calm (quote_shut t cs line place s)
-      (opened_with_calm c f container.Quote (kind.Quote None) (start_of cs place line) line (list_left (closed_to t place.depth s)) l (list_left_calm c f (closed_to t place.depth s) (closed_to_calm c f t place.depth s h))),
+begun_rests : (m c f : ℕ) (t : List ℕ) (cs : List Cell) (line : Line) (place : LineStart) (s : State) (o : Option ContainerStart) → f ≤ start_of cs place line → start_of cs place line ≤ line.end → Leads (Floor cs line (start_of cs place line)) cs place.cursor o → GoOn m place.depth s → Rests m line.end c f s
+    → Went m c f place.depth (start_of cs place line) cs line (begun_at t cs line place s o)
+unfolding item_opened quote_opened is_list
+begun_rests m c f t cs line place s None l z w g h = (h, g)
+begun_rests m c f t cs line place s (Some begins.Quote) l z w g h = (
+  within_rests m c f (start_of cs place line) container.Quote (kind.Quote None) line (list_left (closed_to t place.depth s)) l z refl (quote_shut t cs line place s) (list_left_calm m line.end c f (closed_to t place.depth s) (closed_many m t place.depth s g) (closed_to_calm m line.end c f t place.depth s (g.0) h)),
+  refl,
   w,
 )
-begun_rests c f t cs line place s (Some (begins.Item i)) l w h = (
-  calm (item_shut t cs line place i s)
-      (opened_with_calm c (start_of cs place line) (container.Item i.width) kind.Item (start_of cs place line) line (list_started i (start_of cs place line) line (closed_to t place.depth s)) (omega arith) (list_started_calm c f i (start_of cs place line) line (closed_to t place.depth s) l (closed_to_calm c f t place.depth s h))),
-  w,
-)
-begun_rests c f t cs line place s (Some (begins.Footnote n)) l w h = absurd w
-begun_rests c f t cs line place s (Some (begins.Definition d)) l w h = absurd w
+begun_rests m c f t cs line place s (Some (begins.Item i)) l z w g h = by (list_started_calm m c f i (start_of cs place line) line (closed_to t place.depth s) l z (closed_many m t place.depth s g) (closed_to_calm m line.end c f t place.depth s (g.0) h))
+  where
+    x : ℕ
+    x = start_of cs place line
+
+    u : State
+    u = list_started i x line (closed_to t place.depth s)
+
+    v : State
+    v = opened_with (container.Item i.width) kind.Item x line u
+
+    by : Begun c x line u → Rests (length v.opened) line.end c x v × (length v.opened ≡ length v.opened) × Floor cs line x (moved cs place.cursor i.next)
+    by (n, k) = (within_rests n c x x (container.Item i.width) kind.Item line u (omega arith) z refl (item_shut t cs line place i s) k, refl, w)
+begun_rests m c f t cs line place s (Some (begins.Footnote n)) l z w g h = absurd w
+begun_rests m c f t cs line place s (Some (begins.Definition d)) l z w g h = absurd w
 
 -- a page and a cursor, not before some place
 abbrev Found : ℕ → List Cell → Line → State × LineStart → Type 0
-Found c cs line r = (g : ℕ) × Rests c g (r.0) × Floor cs line g ((r.1).cursor)
+Found c cs line r = (m : ℕ) × (g : ℕ) × GoOn m ((r.1).depth) (r.0) × Rests m line.end c g (r.0) × Floor cs line g ((r.1).cursor)
 
-containers_rest : (c : ℕ) (t : List ℕ) (cs : List Cell) (line : Line) (tail : Tail) → Grounded Any cs line → (n f : ℕ) (place : LineStart) (s : State) → Floor cs line f place.cursor → Rests c f s → Found c cs line (repeated (container_once_in CORE t cs line tail) n place s)
+containers_rest : (m c : ℕ) (t : List ℕ) (cs : List Cell) (line : Line) (tail : Tail) → Grounded Any cs line → (n f : ℕ) (place : LineStart) (s : State) → Floor cs line f place.cursor → GoOn m place.depth s → Rests m line.end c f s → Found c cs line (repeated (container_once_in CORE t cs line tail) n place s)
 unfolding repeated container_once_in
-containers_rest c t cs line tail k zero f place s v h = (f, h, v)
-containers_rest c t cs line tail k (suc n) f place s v h =
-    by (begun_at t cs line place s o) (begun_rests c f t cs line place s o v.ink (containers_floor cs line k tail place.cursor (goes_directly place.depth s)) h)
-    (λ d u x y. containers_rest c t cs line tail k n (start_of cs place line) d u x y)
+containers_rest m c t cs line tail k zero f place s v g h = (m, f, g, h, v)
+containers_rest m c t cs line tail k (suc n) f place s v g h =
+    by (begun_at t cs line place s o) (begun_rests m c f t cs line place s o v.ink (k.within place.cursor.ink) (containers_floor cs line k tail place.cursor (goes_directly place.depth s)) g h)
+    (λ i d u x y z. containers_rest i c t cs line tail k n (start_of cs place line) d u x y z)
   where
     o : Option ContainerStart
     o = container_in CORE cs tail place.cursor (goes_directly place.depth s)
@@ -477,61 +640,84 @@ containers_rest c t cs line tail k (suc n) f place s v h =
     more : LineStart → State → State × LineStart
     more = λ d u. repeated (container_once_in CORE t cs line tail) n d u
 
-    by : (r : State × Option LineStart) → Went c f (start_of cs place line) cs line r
-        → ((d : LineStart) (u : State) → Floor cs line (start_of cs place line) d.cursor → Rests c (start_of cs place line) u → Found c cs line (more d u)) → Found c cs line (going more place r)
-    by (u, None) w g = (f, w, v)
-    by (u, Some d) w g = g d u (w.1) (w.0)
+    by : (r : State × Option LineStart) → Went m c f place.depth (start_of cs place line) cs line r
+        → ((i : ℕ) (d : LineStart) (u : State) → Floor cs line (start_of cs place line) d.cursor → GoOn i d.depth u → Rests i line.end c (start_of cs place line) u → Found c cs line (more d u)) → Found c cs line (going more place r)
+    by (u, None) (w, q) a = (m, f, q, w, v)
+    by (u, Some d) (w, q, x) a = a (length u.opened) d u x (omega arith, omega arith) w
 
-leaf_started_rests : (c f : ℕ) (t : List ℕ) (cs : List Cell) (line : Line) (place : LineStart) (s : State) → Grounded Any cs line → c ≤ 2 ^ 64 - 1 → Floor cs line f place.cursor → Rests c f s → Rests (suc c) line.end (leaf_started_in core_known t cs line place s)
+-- a line has ended: all containers may end
+abbrev Ended : ℕ → Line → State → Type 0
+Ended c line s = Rests 0 line.end (suc c) line.end s
+
+anew : (m c : ℕ) (line : Line) (s : State) → Rests m line.end c line.end s → Rests 0 line.end c line.end s
+anew m c line s (calm q h) = calm q (h.0, h.1, sorted_anew m line.end s.opened s.quotes (extents s.blocks) (h.2))
+anew m c line s (leafed w r front b h) = leafed w r front b (record {
+  floor = h.floor;
+  split = h.split;
+  stack = h.stack;
+  depth = h.depth;
+  after = h.after;
+  low = h.low;
+  count = h.count;
+  first = h.first;
+  words = h.words;
+  past = h.past;
+  sorted = sorted_anew m line.end s.opened s.quotes (extents front) h.sorted;
+})
+
+leaf_started_rests : (m c f : ℕ) (t : List ℕ) (cs : List Cell) (line : Line) (place : LineStart) (s : State) → Grounded Any cs line → c ≤ 2 ^ 64 - 1 → Floor cs line f place.cursor → GoOn m place.depth s → Rests m line.end c f s → Ended c line (leaf_started_in core_known t cs line place s)
 unfolding leaf_started_in
-leaf_started_rests c f t cs line place s k few v h = by (containers_opened_in CORE t cs line (tail_of cs) place s) (containers_rest c t cs line (tail_of cs) k (length cs) f place s v h)
+leaf_started_rests m c f t cs line place s k few v g h = by (containers_opened_in CORE t cs line (tail_of cs) place s) (containers_rest m c t cs line (tail_of cs) k (length cs) f place s v g h)
   where
-    starts : (u : State) (next : LineStart) (g : ℕ) → Rests c g u → Floor cs line g next.cursor → Rests (suc c) line.end (started_at_in core_known t cs line (tail_of cs) (u, next))
-    starts u next g r w =
-        let a : g ≤ cell_place cs next.cursor.ink line.end = w.ink in
-        let b : cell_place cs next.cursor.ink line.end ≤ line.end = k.within next.cursor.ink in
-        subst (Rests (suc c) line.end) (sym (core_begun t cs line (tail_of cs) u next))
-        (rests_more (suc c) (suc c) g line.end (started_in core_known (core_at t cs line (tail_of cs) u next) t cs line (tail_of cs) next u) (omega arith) (omega arith)
-        (started_rests c g t cs line (tail_of cs) next u (core_at t cs line (tail_of cs) u next) few w
-        (leaves_start cs line k g (bytes_between t (start_of cs next line) line.end) (tail_of cs) next.cursor (is_paragraph u.leaf) (goes_directly next.depth u) w) r))
+    starts : (u : State) (next : LineStart) (n i : ℕ) → GoOn n next.depth u → Rests n line.end c i u → Floor cs line i next.cursor → Ended c line (started_at_in core_known t cs line (tail_of cs) (u, next))
+    starts u next n i x r w =
+        subst (Ended c line) (sym (core_begun t cs line (tail_of cs) u next))
+        (anew n (suc c) line (started_in core_known (core_at t cs line (tail_of cs) u next) t cs line (tail_of cs) next u)
+        (started_rests n c i t cs line (tail_of cs) next u (core_at t cs line (tail_of cs) u next) few w
+        (leaves_start cs line k i (bytes_between t (start_of cs next line) line.end) (tail_of cs) next.cursor (is_paragraph u.leaf) (goes_directly next.depth u) w) x r))
 
-    by : (r : State × LineStart) → Found c cs line r → Rests (suc c) line.end (started_at_in core_known t cs line (tail_of cs) r)
-    by (u, next) (g, r, w) = starts u next g r w
+    by : (r : State × LineStart) → Found c cs line r → Ended c line (started_at_in core_known t cs line (tail_of cs) r)
+    by (u, next) (n, i, x, r, w) = starts u next n i x r w
 
-worded_leafed : (c f : ℕ) (s : State) → is_worded s.leaf ≡ true → Rests c f s → (front : List Block) × (b : Block) × Leafed c f s front b
-worded_leafed c f s w (calm e h) = absurd (true≢false (sym w ∙ ap is_worded e))
-worded_leafed c f s w (leafed x front b h) = (front, b, h)
+worded_leafed : (m e c f : ℕ) (s : State) → is_worded s.leaf ≡ true → Rests m e c f s → Words m e c f s
+worded_leafed m e c f s w (calm q h) = absurd (true≢false (sym w ∙ ap is_worded q))
+worded_leafed m e c f s w (leafed x r front b h) = (r, (front, b, h))
 
-turned_rests : (c f : ℕ) (t : List ℕ) (cs : List Cell) (line : Line) (place : LineStart) (s : State) (u : Turn) → Grounded Any cs line → c ≤ 2 ^ 64 - 1 → f ≤ line.end → Floor cs line f place.cursor → Turned s.leaf u → Rests c f s → Rests (suc c) line.end (turn_taken_in core_known u t cs line place s)
+turned_rests : (m c f : ℕ) (t : List ℕ) (cs : List Cell) (line : Line) (place : LineStart) (s : State) (u : Turn) → Grounded Any cs line → c ≤ 2 ^ 64 - 1 → f ≤ line.end → Floor cs line f place.cursor → Turned s.leaf u → GoOn m place.depth s → Rests m line.end c f s → Ended c line (turn_taken_in core_known u t cs line place s)
 unfolding passed_in leaf_ended
-turned_rests c f t cs line place s turn.Closes k few l v w h = by (worded_leafed c f s w h)
+turned_rests m c f t cs line place s turn.Closes k few l v w g h = by (worded_leafed m line.end c f s w h)
   where
-    by : (front : List Block) × (b : Block) × Leafed c f s front b → Rests (suc c) line.end (leaf_finished (record s { end = line.end; line = line.number }))
-    by (front, b, x) = finished_rests (suc c) line.end (record s { end = line.end; line = line.number }) front b (record {
+    u : State
+    u = record s { end = line.end; line = line.number }
+
+    by : Words m line.end c f s → Ended c line (leaf_finished u)
+    by (r, (front, b, x)) = anew m (suc c) line (leaf_finished u) (finished_rests m line.end (suc c) line.end u front b (omega arith) (leafed_more m line.end c (suc c) f line.end u front b (omega arith) l (omega arith) record {
       floor = x.floor;
       split = x.split;
       stack = x.stack;
       depth = x.depth;
       after = x.after;
-      low = let q : x.floor ≤ f = x.low in omega arith;
-      count = let q : length s.pieces ≤ c = x.count in omega arith;
+      low = x.low;
+      count = x.count;
       first = x.first;
       words = x.words;
-    })
-turned_rests c f t cs line place s (turn.Takes column) k few l v w h = by (worded_leafed c f s (w.0) h)
+      past = x.past;
+      sorted = x.sorted;
+    }))
+turned_rests m c f t cs line place s (turn.Takes column) k few l v w g h = by (worded_leafed m line.end c f s (w.0) h)
   where
-    by : (front : List Block) × (b : Block) × Leafed c f s front b → Rests (suc c) line.end (code_taken t cs column line s)
-    by (front, b, x) = rests_more (suc c) (suc c) f line.end (code_taken t cs column line s) (omega arith) l (code_rests c f t cs column line s front b (w.0) (w.1) x)
-turned_rests c f t cs line place s turn.Passes k few l v w h = leaf_started_rests c f t cs line place s k few v h
-turned_rests c f t cs line place s (turn.Row x) k few l v w h = absurd w
+    by : Words m line.end c f s → Ended c line (code_taken t cs column line s)
+    by (r, (front, b, x)) = anew m (suc c) line (code_taken t cs column line s) (code_rests m c f t cs column line s front b (w.0) (w.1) (omega arith) x)
+turned_rests m c f t cs line place s turn.Passes k few l v w g h = leaf_started_rests m c f t cs line place s k few v g h
+turned_rests m c f t cs line place s (turn.Row x) k few l v w g h = absurd w
 
 touched_stack : (f e l depth : ℕ) (qs : List ℕ) (os : List Opened) (bs : List Block) → Stack (length os) f os (extents bs) → Stack (length (touched_from depth e l qs os)) f (touched_from depth e l qs os) (extents bs)
 touched_stack f e l depth qs os bs h = subst (λ n. Stack n f (touched_from depth e l qs os) (extents bs)) (sym (touched_length depth e l qs os)) (stack_grows (length os) f f os (touched_from depth e l qs os) (extents bs) (omega arith) (touched_grows (length os) depth e l qs os) h)
 
-touched_rests : (c f : ℕ) (line : Line) (depth : ℕ) (s : State) → Rests c f s → Rests c f (touched line depth s)
+touched_rests : (m c f : ℕ) (line : Line) (depth : ℕ) (s : State) → m ≤ depth → (length s.opened ≤ m) ⊎ (depth ≤ m) → f ≤ line.end → Rests 0 f c f s → Rests m line.end c f (touched line depth s)
 unfolding touched
-touched_rests c f line depth s (calm e h) = calm e (touched_stack f line.end line.number depth s.quotes s.opened s.blocks (h.0), h.1)
-touched_rests c f line depth s (leafed w front b h) = leafed w front b (record {
+touched_rests m c f line depth s a d l (calm q h) = calm q (touched_stack f line.end line.number depth s.quotes s.opened s.blocks (h.0), h.1, sorted_touched m depth line.end f line.number s.opened s.quotes (extents s.blocks) a d l (h.2))
+touched_rests m c f line depth s a d l (leafed w r front b h) = leafed w r front b (record {
   floor = h.floor;
   split = h.split;
   stack = touched_stack h.floor line.end line.number depth s.quotes s.opened front h.stack;
@@ -541,15 +727,17 @@ touched_rests c f line depth s (leafed w front b h) = leafed w front b (record {
   count = h.count;
   first = h.first;
   words = h.words;
+  past = h.past;
+  sorted = sorted_touched m depth line.end f line.number s.opened s.quotes (extents front) a d l h.sorted;
 })
 
--- a line leaves a page whose blocks nest
-pub cells_rest : (c f : ℕ) (t : List ℕ) (cs : List Cell) (line : Line) (s : State) → Grounded Any cs line → c ≤ 2 ^ 64 - 1 → f ≤ line.end → ((x : ℕ) → f ≤ cell_place cs x line.end) → Rests c f s → Rests (suc c) line.end (cells_taken_in core_known t cs line s)
-unfolding cells_taken_in turn_in
+-- a line leaves a page whose blocks nest and are in order
+pub cells_rest : (c f : ℕ) (t : List ℕ) (cs : List Cell) (line : Line) (s : State) → Grounded Any cs line → c ≤ 2 ^ 64 - 1 → f ≤ line.end → ((x : ℕ) → f ≤ cell_place cs x line.end) → Rests 0 f c f s → Rests 0 line.end (suc c) line.end (cells_taken_in core_known t cs line s)
+unfolding cells_taken_in turn_in touched
 cells_rest c f t cs line s k few l low h = by (matched cs s.opened s.quotes)
   where
-    by : (found : ℕ × Cursor) → Rests (suc c) line.end (taken_at_in core_known t cs line (record { cursor = found.1; depth = found.0 }) (touched line (found.0) s))
-    by (depth, cursor) = turned_rests c f t cs line place u (turn_of t cs line place u) k few l (record { column = low cursor.column; ink = low cursor.ink }) (turn_turned t cs line place u (rests_core c f u w)) w
+    by : (found : ℕ × Cursor) → Ended c line (taken_at_in core_known t cs line (record { cursor = found.1; depth = found.0 }) (touched line (found.0) s))
+    by (depth, cursor) = turns (nat_le (length s.opened) depth) refl
       where
         place : LineStart
         place = record { cursor = cursor; depth = depth }
@@ -557,5 +745,15 @@ cells_rest c f t cs line s k few l low h = by (matched cs s.opened s.quotes)
         u : State
         u = touched line depth s
 
-        w : Rests c f u
-        w = touched_rests c f line depth s h
+        same : length u.opened ≡ length s.opened
+        same = touched_length depth line.end line.number s.quotes s.opened
+
+        goes : (m : ℕ) → m ≤ depth → m ≤ length s.opened → (length s.opened ≤ m) ⊎ (depth ≤ m) → Ended c line (taken_at_in core_known t cs line place u)
+        goes m a b d = turned_rests m c f t cs line place u (turn_of t cs line place u) k few l (record { column = low cursor.column; ink = low cursor.ink }) (turn_turned t cs line place u (rests_core m line.end c f u w)) (a, omega (arith, same)) w
+          where
+            w : Rests m line.end c f u
+            w = touched_rests m c f line depth s a d l h
+
+        turns : (b : Bool) → nat_le (length s.opened) depth ≡ b → Ended c line (taken_at_in core_known t cs line place u)
+        turns true q = let a : length s.opened ≤ depth = grind (arith, nat_tests) in goes (length s.opened) a (omega arith) (inl (omega arith))
+        turns false q = let a : depth < length s.opened = grind (arith, nat_tests) in goes depth (omega arith) (omega arith) (inr (omega arith))

@@ -140,7 +140,7 @@ pub stack_open : (k f : ℕ) (os us : List Opened) (bs : List Extent) (b : Exten
 stack_open k f os us bs b o d l e q gr h = (bs, b, [], o, record { split = refl; got = e; block = q; depth = d; floor = omega arith; nest = tt; inside = tt }, stack_grows k f b.start os us bs l gr h)
 
 -- the innermost container ends
-abbrev ended_at : Extent → ℕ → Extent
+abbrev pub ended_at : Extent → ℕ → Extent
 ended_at b e = record { depth = b.depth; start = b.start; end = e }
 
 all_in : (k : ℕ) (b : Extent) (o : Opened) (seg : List Extent) → AllByRecursion (Inner k b o) seg → AllByRecursion (In (ended_at b o.end)) seg

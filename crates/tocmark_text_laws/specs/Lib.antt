@@ -4,4 +4,6 @@ pub mod EmptyLine
 pub mod Ranges
 pub mod Said
 pub mod Nested
+pub mod Ordered
+pub mod Inside
 pub mod Kept

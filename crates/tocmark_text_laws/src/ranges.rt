@@ -1,6 +1,7 @@
-//! Laws of where the blocks of every text are, and that they nest.
+//! Laws of where the blocks of every text are, that they nest, and that they are in order.
 
 ghost use Rattle.tocmark_text_laws.specs.Nested.{BlocksNest};
+ghost use Rattle.tocmark_text_laws.specs.Ordered.{BlocksAreInOrder};
 ghost use Rattle.tocmark_text_laws.specs.Ranges.{BlockEventsAreInPlace, BlocksAreInPlace, LinesAreInPlace};
 
 /// The range of each CommonMark block of a text is in order, within the text and on boundaries of characters. So a reader
@@ -23,4 +24,10 @@ pub fn block_events_are_in_place()
 /// The range of each CommonMark block of a text lies in those of the blocks that contain it.
 pub fn blocks_nest()
     ensures { BlocksNest }
+{}
+
+/// The CommonMark blocks of a text are in order: one that comes after another, and isn't deeper, begins where that ends
+/// or after it. So the blocks of a page, and those of each container, come one after the other and don't overlap.
+pub fn blocks_are_in_order()
+    ensures { BlocksAreInOrder }
 {}

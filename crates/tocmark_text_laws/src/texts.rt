@@ -1,5 +1,6 @@
-//! Laws of what becomes of the bytes of a leaf: from its lines to its text, and from the text to nodes.
+//! Laws of what becomes of the bytes of a leaf: from its lines to its text, from the text to nodes, and how deep these are.
 
+ghost use Rattle.tocmark_text_laws.specs.Inside.{InlinesStayInside};
 ghost use Rattle.tocmark_text_laws.specs.Kept.{LinesAreKept};
 ghost use Rattle.tocmark_text_laws.specs.Said.{NoByteIsLost};
 
@@ -12,4 +13,10 @@ pub fn lines_are_kept()
 /// text.
 pub fn no_byte_is_lost()
     ensures { NoByteIsLost }
+{}
+
+/// No inline of a leaf ends a container that none of them began, in CommonMark: each is as deep as the first, or deeper. So
+/// the inlines of a leaf never end the leaf, or what it is in.
+pub fn inlines_stay_inside()
+    ensures { InlinesStayInside }
 {}

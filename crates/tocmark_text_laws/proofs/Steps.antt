@@ -1,0 +1,420 @@
+-- Each step of the pass over a leaf's text keeps what is known of the roles.
+use Rattle.std.proofs.Common.{◌≡◌, ℕ, zero, suc, ◌+◌, ◌-◌, ◌^◌, ◌<◌, ◌≤◌, ◌⊎◌, inl, inr, not, ◌==◌, ◌&&◌, ◌||◌, Bool, true, false, if◌then◌else◌, nat_lt, nat_le, List, [], ◌∷◌, ◌++◌, length, take, codes, refl, ap, sym, ◌∙◌, subst, arith, true≢false}
+use Rattle.std.specs.Prelude.{slice_get, slice_set, max, min, unwrap_or, Option, Some, None}
+use Rattle.std.specs.List.{fold}
+use Rattle.std.proofs.lemmas.Bool.Decides.{nat_tests}
+use Rattle.tocmark_read_scan.specs.Basic.{plus, byte_at, bytes_between, starts_at}
+use Rattle.tocmark_read_scan.specs.Class.{is_in, run_end}
+use Rattle.tocmark_read_scan.specs.Repeat.{iterated}
+use Rattle.tocmark_read_scan.specs.declared.class.Class.TheVariants.{Only}
+use Rattle.tocmark_read_scan.specs.declared.syntax.Names.TheVariants.{Four}
+use Rattle.tocmark_read_scan.specs.declared.syntax.TheConstants.{CORE}
+use Rattle.tocmark_read_tokens.specs.Autolink.{uri_end, mail_end}
+use Rattle.tocmark_read_tokens.specs.Html.{raw_html}
+use Rattle.tocmark_read_tokens.specs.Label.{key_of}
+use Rattle.tocmark_read_tokens.specs.Reference.{is_escape, reference_at}
+use Rattle.tocmark_read_tokens.specs.declared.html.LastEnds.{LastEnds}
+use Rattle.tocmark_read_tokens.specs.declared.reference.Reference.{Reference}
+use Rattle.tocmark_event.specs.declared.event.LinkType.{LinkType}
+use Rattle.tocmark_event.specs.declared.event.LinkType.TheVariants.{Autolink, Email}
+use Rattle.tocmark_read_spans.specs.Link.{inline_target, label_asked}
+use Rattle.tocmark_read_spans.specs.Run.{run_between, run_at}
+use Rattle.tocmark_read_spans.specs.Tick.{tick_end}
+use Rattle.tocmark_read_spans.specs.declared.definitions.Entry.{Entry}
+use Rattle.tocmark_read_spans.specs.declared.link.Asked.{Asked}
+use Rattle.tocmark_read_spans.specs.declared.link.Bracket.{Bracket}
+use Rattle.tocmark_read_spans.specs.declared.link.InlineTarget.{InlineTarget}
+use Rattle.tocmark_read_spans.specs.declared.role.Leaf.{Leaf}
+use Rattle.tocmark_read_spans.specs.declared.role.Leaf.TheVariants.{HardBreak, SoftBreak}
+use Rattle.tocmark_read_spans.specs.declared.role.Role.{Role}
+use Rattle.tocmark_read_spans.specs.declared.role.Role.TheVariants.{Fresh, Hidden, Single}
+use Rattle.tocmark_read_spans.specs.declared.role.Span.{Span}
+use Rattle.tocmark_read_spans.specs.declared.role.Span.TheVariants.{Link, Image}
+use Rattle.tocmark_read_spans.specs.declared.role.Target.{Target}
+use Rattle.tocmark_read_spans.specs.declared.run.Run.{Run}
+use Rattle.tocmark_read_inlines.specs.Scan.{State, Known, ahead_in, before_space, kept, kept_code, kept_resolved_in, targeted, put_leaf, escaped, referred_to, referred, code_put, coded_to, coded, run_kept, run_taken, marked_last, marked, opened, imaged, addressed, html_put, tagged_to, tagged, mailed_to, mailed, angled_to, angled, line_ended, spanned, settled, linked, closed_inline_in, missing, looked_up_as, looked_up, closed_asked, closed_by_label, closed_found_in, closed_active_in, popped, closed_last_in, closed_in, looked_mark, looked, is_mark_in, is_tilde_in, is_caret_in, is_dollar_in, is_note_end_in, looked_in, scan_step_in, scanned_in}
+use Rattle.tocmark_text_laws.proofs.Walks.{Safe, Neutral, calm_safe, calm_read}
+use Rattle.tocmark_text_laws.proofs.Tokens.{run_within, run_climbs, run_has, Closed, uri_closed, mail_closed, Spaces, spaces_before, image_bracket}
+use Rattle.tocmark_text_laws.proofs.Scans.{is_run, is_bracket, Good, Opening, Brackets, Fine, fine_more, neutral_put, single_put, pair_put, break_put, runs_more, brackets_more, brackets_fewer, brackets_below, span_put, settled_safe}
+
+abbrev pub Stands : List ℕ → ℕ → State → Type 0
+Stands t f s = Fine t f s.roles s.runs s.brackets
+
+-- the pass goes on after a place, or where the mark that it read ends
+abbrev pub Goes : List ℕ → ℕ → State → Type 0
+Goes t p s = (s.place ≡ p) × Stands t (max (suc p) s.resume) s
+
+stays : (t : List ℕ) (s : State) → Stands t s.place s → Goes t s.place s
+stays t s h = (refl, fine_more t s.place (max (suc s.place) s.resume) s.roles s.runs s.brackets (omega arith) h)
+
+not_white : (t : List ℕ) (p b : ℕ) → byte_at t p ≡ b → (b == 32) ≡ false → byte_at t p ≡ 32 → ⊥
+not_white t p b e n q = true≢false (ap (λ c. c == 32) (sym q ∙ e) ∙ n)
+
+leaf_goes : (t : List ℕ) (l : Leaf) (e : ℕ) (s : State) → (byte_at t s.place ≡ 32 → ⊥) → Stands t s.place s → Goes t s.place (put_leaf l e s)
+unfolding put_leaf
+leaf_goes t l e s b h = (refl, single_put t s.roles s.runs s.brackets s.place l e b h)
+
+escaped_goes : (t : List ℕ) (s : State) → length t < 2 ^ 64 - 1 → s.place < length t → (byte_at t s.place ≡ 32 → ⊥) → Stands t s.place s → Goes t s.place (escaped t s)
+unfolding escaped
+escaped_goes t s short w b h = by (is_escape t s.place) (starts_at t s.place (codes "\\\n"))
+  where
+    first : List Role
+    first = slice_set s.roles s.place Hidden
+
+    one : Fine t s.place first s.runs s.brackets
+    one = neutral_put t s.place s.roles s.runs s.brackets s.place Hidden (h.calm s.place (omega arith)) refl h
+
+    two : Fine t s.place (slice_set first (plus s.place 1) Fresh) s.runs s.brackets
+    two = neutral_put t s.place first s.runs s.brackets (plus s.place 1) Fresh (one.calm (plus s.place 1) (omega arith)) refl one
+
+    by : (x y : Bool) → Goes t s.place (if x then record s { roles = slice_set (slice_set s.roles s.place Hidden) (plus s.place 1) Fresh; resume = plus s.place 2 } else (if y then put_leaf HardBreak (plus s.place 2) s else s))
+    by true y = (refl, fine_more t s.place (max (suc s.place) (plus s.place 2)) (slice_set first (plus s.place 1) Fresh) s.runs s.brackets (omega arith) two)
+    by false true = leaf_goes t HardBreak (plus s.place 2) s b h
+    by false false = stays t s h
+
+referred_goes : (t : List ℕ) (s : State) → (byte_at t s.place ≡ 32 → ⊥) → Stands t s.place s → Goes t s.place (referred t s)
+unfolding referred
+referred_goes t s b h = by (reference_at t s.place)
+  where
+    by : (o : Option Reference) → Goes t s.place (referred_to s o)
+    by None = stays t s h
+    by (Some r) = leaf_goes t _ r.next s b h
+
+coded_goes : (t ticks : List ℕ) (s : State) → (byte_at t s.place ≡ 32 → ⊥) → Stands t s.place s → Goes t s.place (coded t ticks s)
+unfolding coded code_put kept_code
+coded_goes t ticks s b h = by (tick_end t from (from - s.place) ticks)
+  where
+    from : ℕ
+    from = run_end t s.place (Only 96)
+
+    by : (o : Option ℕ) → Goes t s.place (coded_to t from (from - s.place) s o)
+    by None = (refl, fine_more t s.place (max (suc s.place) from) s.roles s.runs s.brackets (omega arith) h)
+    by (Some to) = leaf_goes t _ (plus to (from - s.place)) ((kept_code (bytes_between t from to) s).0) b h
+
+addressed_goes : (t : List ℕ) (l : LinkType) (end : ℕ) (s : State) → (byte_at t s.place ≡ 32 → ⊥) → Closed t s.place (Some end) → Stands t s.place s → Goes t s.place (addressed t l end s)
+unfolding addressed kept targeted
+addressed_goes t l end s b (m, c, e) h = (refl, pair_put t s.roles s.runs s.brackets s.place (end - 1) (Link (length s.targets)) end b (not_white t (end - 1) 62 c refl) m e h)
+
+html_goes : (t : List ℕ) (end : ℕ) (s : State) → (byte_at t s.place ≡ 32 → ⊥) → Stands t s.place s → Goes t s.place (html_put t end s)
+unfolding html_put kept
+html_goes t end s b h = leaf_goes t _ end ((kept (bytes_between t s.place end) s).0) b h
+
+tagged_goes : (t : List ℕ) (ends : LastEnds) (s : State) → (byte_at t s.place ≡ 32 → ⊥) → Stands t s.place s → Goes t s.place (tagged t ends s)
+unfolding tagged
+tagged_goes t ends s b h = by (raw_html t s.place ends)
+  where
+    by : (o : Option ℕ) → Goes t s.place (tagged_to t s o)
+    by None = stays t s h
+    by (Some end) = html_goes t end s b h
+
+mailed_goes : (t : List ℕ) (ends : LastEnds) (s : State) → length t < 2 ^ 64 - 1 → s.place < length t → (byte_at t s.place ≡ 32 → ⊥) → Stands t s.place s → Goes t s.place (mailed t ends s)
+unfolding mailed
+mailed_goes t ends s short w b h = by (mail_end t s.place) (mail_closed t s.place short w)
+  where
+    by : (o : Option ℕ) → Closed t s.place o → Goes t s.place (mailed_to t ends s o)
+    by None c = tagged_goes t ends s b h
+    by (Some end) c = addressed_goes t Email end s b c h
+
+angled_goes : (t : List ℕ) (ends : LastEnds) (s : State) → length t < 2 ^ 64 - 1 → s.place < length t → (byte_at t s.place ≡ 32 → ⊥) → Stands t s.place s → Goes t s.place (angled t ends s)
+unfolding angled
+angled_goes t ends s short w b h = by (uri_end t s.place) (uri_closed t s.place short w)
+  where
+    by : (o : Option ℕ) → Closed t s.place o → Goes t s.place (angled_to t ends s o)
+    by None c = mailed_goes t ends s short w b h
+    by (Some end) c = addressed_goes t Autolink end s b c h
+
+ended_goes : (t : List ℕ) (s : State) → length t < 2 ^ 64 - 1 → s.place < length t → s.resume ≤ s.place → byte_at t s.place ≡ 10 → Stands t s.place s → Goes t s.place (line_ended t s)
+unfolding line_ended
+ended_goes t s short w r b h = by (nat_le 2 (s.place - first)) refl
+  where
+    p : ℕ
+    p = s.place
+
+    first : ℕ
+    first = iterated (before_space t) (length t) p
+
+    spaces : Spaces t first p
+    spaces = spaces_before t (length t) p p (omega arith, λ x l m. absurd (omega arith))
+
+    one : ℕ
+    one = plus p 1
+
+    next : suc p ≡ one
+    next = omega arith
+
+    at_first : s.place - first < 2 → Neutral s.roles first
+    at_first l = cases (nat_lt first p) refl
+      where
+        before : first ≤ p
+        before = spaces.0
+
+        cases : (k : Bool) → nat_lt first p ≡ k → Neutral s.roles first
+        cases true e = let m : first < p = grind (arith, nat_tests) in let q : p ≡ suc first = omega arith in h.white first ((spaces.1) first (omega arith) m) (ap (byte_at t) (sym q) ∙ b)
+        cases false e = let m : p ≤ first = grind (arith, nat_tests) in h.calm first m
+
+    soft : s.place - first < 2 → Fine t (max (suc p) one) (slice_set (slice_set s.roles first Hidden) p (Single SoftBreak one)) s.runs s.brackets
+    soft l = single_put t (slice_set s.roles first Hidden) s.runs s.brackets p SoftBreak one (not_white t p 10 b refl) (neutral_put t p s.roles s.runs s.brackets first Hidden (at_first l) refl h)
+
+    hard : 2 ≤ s.place - first → Fine t (suc p) (slice_set s.roles first (Single HardBreak one)) s.runs s.brackets
+    hard l = subst (λ n. Fine t (suc p) (slice_set s.roles first (Single HardBreak n)) s.runs s.brackets) next (break_put t s.roles s.runs s.brackets first p HardBreak (omega arith) (spaces.1) h)
+
+    by : (k : Bool) → nat_le 2 (s.place - first) ≡ k → Goes t p (if k then record s { roles = slice_set s.roles first (Single HardBreak one) } else record s { roles = slice_set (slice_set s.roles first Hidden) s.place (Single SoftBreak one) })
+    by true e = let l : 2 ≤ s.place - first = grind (arith, nat_tests) in (refl, fine_more t (suc p) (max (suc p) s.resume) (slice_set s.roles first (Single HardBreak one)) s.runs s.brackets (omega arith) (hard l))
+    by false e = let l : s.place - first < 2 = grind (arith, nat_tests) in (refl, fine_more t (max (suc p) one) (max (suc p) s.resume) (slice_set (slice_set s.roles first Hidden) p (Single SoftBreak one)) s.runs s.brackets (omega arith) (soft l))
+
+-- a run of delimiters
+taken_goes : (t : List ℕ) (b : ℕ) (s : State) → length t < 2 ^ 64 - 1 → s.place < length t → is_run b ≡ true → Stands t s.place s → Goes t s.place (run_taken t b s)
+unfolding run_taken run_kept run_at run_between is_in
+taken_goes t b s short w k h = by (r.opens || r.closes)
+  where
+    p : ℕ
+    p = s.place
+
+    r : Run
+    r = run_at t p b
+
+    end : ℕ
+    end = run_end t p (Only b)
+
+    climbs : p ≤ end
+    climbs = run_climbs t p (Only b) (omega arith)
+
+    within : end ≤ length t
+    within = run_within t p (Only b) (omega arith)
+
+    sum : p + (end - p) ≡ end
+    sum = omega (arith, climbs)
+
+    cells : (x : ℕ) → p ≤ x → x < p + (end - p) → Good t s.roles is_run x
+    cells x l m = (h.open_ x l, h.calm x l, by_byte (run_has t p (Only b) x l (omega (arith, sum))))
+      where
+        by_byte : (byte_at t x == b) ≡ true → is_run (byte_at t x) ≡ true
+        by_byte e = let q : byte_at t x ≡ b = grind (arith, nat_tests) in ap is_run q ∙ k
+
+    front : ℕ
+    front = max (suc p) (plus p (end - p))
+
+    more : Fine t front s.roles s.runs s.brackets
+    more = fine_more t p front s.roles s.runs s.brackets (omega arith) h
+
+    with : Fine t front s.roles (s.runs ++ r ∷ []) s.brackets
+    with = record { safe = more.safe; calm = more.calm; open_ = more.open_; white = more.white; runs = runs_more t s.roles p front 0 s.runs r (omega arith) (omega arith) (omega arith) cells (omega (arith, sum, within)) (omega (arith, sum, within)) h.runs; brackets = more.brackets }
+
+    by : (x : Bool) → Goes t p (if x then record s { resume = plus p (end - p); runs = s.runs ++ r ∷ [] } else record s { resume = plus p (end - p) })
+    by true = (refl, with)
+    by false = (refl, more)
+
+-- opening brackets
+marked_brackets : (t : List ℕ) (f : ℕ) (s : State) → Stands t f s → Stands t f (marked s) × ((marked s).place ≡ s.place)
+unfolding marked
+marked_brackets t f s h = by (slice_get s.brackets (length s.brackets - 1)) refl
+  where
+    set : (bs : List Bracket) (i : ℕ) (b : Bracket) (k : ℕ) (d : Bracket) → slice_get bs i ≡ Some b → slice_get (slice_set bs i (record b { nested = true })) k ≡ Some d → (c : Bracket) × (slice_get bs k ≡ Some c) × (c.start ≡ d.start) × (c.inner ≡ d.inner)
+    set [] i b k d e g = absurd cc
+    set (x ∷ xs) zero b zero d e g = let q : record b { nested = true } ≡ d = cc in (b, e, ap (λ (y : Bracket). y.start) q, ap (λ (y : Bracket). y.inner) q)
+    set (x ∷ xs) zero b (suc k) d e g = (d, g, refl, refl)
+    set (x ∷ xs) (suc i) b zero d e g = (d, g, refl, refl)
+    set (x ∷ xs) (suc i) b (suc k) d e g = set xs i b k d e g
+
+    good : (c d : Bracket) → c.start ≡ d.start → c.inner ≡ d.inner → Opening t s.roles f c → Opening t s.roles f d
+    good c d p q (l, m, u, v) = (omega arith, omega arith, subst (Good t s.roles is_bracket) p u, subst (λ x. Good t s.roles is_bracket (x - 1)) q v)
+
+    changed : (b : Bracket) → slice_get s.brackets (length s.brackets - 1) ≡ Some b → Brackets t s.roles f (slice_set s.brackets (length s.brackets - 1) (record b { nested = true }))
+    changed b e = record { good = λ k d g. one k d (set s.brackets (length s.brackets - 1) b k d e g); order = λ k l c d m g q. two k l c d m (set s.brackets (length s.brackets - 1) b k c e g) (set s.brackets (length s.brackets - 1) b l d e q) }
+      where
+        one : (k : ℕ) (d : Bracket) → (c : Bracket) × (slice_get s.brackets k ≡ Some c) × (c.start ≡ d.start) × (c.inner ≡ d.inner) → Opening t s.roles f d
+        one k d (c, g, p, q) = good c d p q (h.brackets.good k c g)
+
+        two : (k l : ℕ) (c d : Bracket) → k < l → (x : Bracket) × (slice_get s.brackets k ≡ Some x) × (x.start ≡ c.start) × (x.inner ≡ c.inner) → (y : Bracket) × (slice_get s.brackets l ≡ Some y) × (y.start ≡ d.start) × (y.inner ≡ d.inner) → c.inner ≤ d.start
+        two k l c d m (x, g, p, q) (y, i, v, w) = let z : x.inner ≤ y.start = h.brackets.order k l x y m g i in omega arith
+
+    by : (o : Option Bracket) → slice_get s.brackets (length s.brackets - 1) ≡ o → Stands t f (marked_last s o) × ((marked_last s o).place ≡ s.place)
+    by None e = (h, refl)
+    by (Some b) e = (record { safe = h.safe; calm = h.calm; open_ = h.open_; white = h.white; runs = h.runs; brackets = changed b e }, refl)
+
+opened_goes : (t : List ℕ) (image : Bool) (width : ℕ) (s : State) → length t < 2 ^ 64 - 1 → s.place < length t → (width ≡ 1) ⊎ (width ≡ 2) → is_bracket (byte_at t s.place) ≡ true → is_bracket (byte_at t (s.place + (width - 1))) ≡ true → Stands t s.place s → Goes t s.place (opened image width s)
+unfolding opened
+opened_goes t image width s short w size b c h = by (marked s) (marked_brackets t s.place s h)
+  where
+    by : (u : State) → Stands t s.place u × (u.place ≡ s.place) → Goes t s.place (record u { brackets = u.brackets ++ record { start = u.place; inner = plus u.place width; runs = length u.runs; image = image; nested = false } ∷ []; resume = plus u.place width })
+    by u (k, e) = (e, record { safe = more.safe; calm = more.calm; open_ = more.open_; white = more.white; runs = more.runs; brackets = brackets_more t u.roles s.place front u.brackets new (omega arith) (omega arith) (widths size) k.brackets })
+      where
+        front : ℕ
+        front = max (suc s.place) (plus u.place width)
+
+        more : Fine t front u.roles u.runs u.brackets
+        more = fine_more t s.place front u.roles u.runs u.brackets (omega arith) k
+
+        new : Bracket
+        new = record { start = u.place; inner = plus u.place width; runs = length u.runs; image = image; nested = false }
+
+        start : Good t u.roles is_bracket u.place
+        start = (k.open_ u.place (omega arith), k.calm u.place (omega arith), subst (λ x. is_bracket (byte_at t x) ≡ true) (sym e) b)
+
+        inner : plus u.place width - 1 ≡ s.place + (width - 1) → Good t u.roles is_bracket (plus u.place width - 1)
+        inner q = (k.open_ (plus u.place width - 1) (omega arith), k.calm (plus u.place width - 1) (omega arith), subst (λ x. is_bracket (byte_at t x) ≡ true) (sym q) c)
+
+        widths : (width ≡ 1) ⊎ (width ≡ 2) → Opening t u.roles front new
+        widths (inl q) = (omega arith, omega arith, start, inner (omega arith))
+        widths (inr q) = (omega arith, omega arith, start, inner (omega arith))
+
+imaged_goes : (t : List ℕ) (s : State) → length t < 2 ^ 64 - 1 → s.place < length t → byte_at t s.place ≡ 33 → Stands t s.place s → Goes t s.place (imaged t s)
+unfolding imaged
+imaged_goes t s short w b h = by (starts_at t s.place (codes "![")) refl
+  where
+    by : (k : Bool) → starts_at t s.place (codes "![") ≡ k → Goes t s.place (if k then opened true 2 s else s)
+    by true e = opened_goes t true 2 s short w (inr refl) (ap is_bracket b) (ap is_bracket (image_bracket t s.place e)) h
+    by false e = stays t s h
+
+-- a bracket that closes
+linked_goes : (t : List ℕ) (b : Bracket) (x : Target) (end : ℕ) (s : State) → length t < 2 ^ 64 - 1 → byte_at t s.place ≡ 93 → Opening t s.roles s.place b → Brackets t s.roles b.start s.brackets → Stands t s.place s → Goes t s.place (linked b x end s)
+unfolding linked spanned targeted settled
+linked_goes t b x end s short z o below h = by (not b.image)
+  where
+    number : ℕ
+    number = length s.targets
+
+    tag : Span
+    tag = if b.image then Image number else Link number
+
+    v : State
+    v = spanned b number end ((targeted x (settled b.runs s)).0)
+
+    whole : Goes t s.place v
+    whole = (refl, span_put t s.roles s.runs s.brackets b.runs b s.place tag end short z o below h)
+
+    by : (k : Bool) → Goes t s.place (if k then record v { inactive = length v.brackets } else v)
+    by true = whole
+    by false = whole
+
+inline_goes : (t : List ℕ) (b : Bracket) (found : InlineTarget) (s : State) → length t < 2 ^ 64 - 1 → byte_at t s.place ≡ 93 → Opening t s.roles s.place b → Brackets t s.roles b.start s.brackets → Stands t s.place s → Goes t s.place (closed_inline_in Four t b found s)
+unfolding closed_inline_in kept_resolved_in kept
+inline_goes t b found s short z o below h = linked_goes t b _ found.end _ short z o below h
+
+looked_up_goes : (t : List ℕ) (definitions : List ℕ → Option Entry) (b : Bracket) (asked : Asked) (s : State) → length t < 2 ^ 64 - 1 → byte_at t s.place ≡ 93 → Opening t s.roles s.place b → Brackets t s.roles b.start s.brackets → Stands t s.place s → Goes t s.place (looked_up t definitions b asked s)
+unfolding looked_up missing kept
+looked_up_goes t definitions b asked s short z o below h = by (definitions (key_of label))
+  where
+    label : List ℕ
+    label = bytes_between t asked.label.start asked.label.end
+
+    by : (x : Option Entry) → Goes t s.place (looked_up_as label b asked s x)
+    by None = stays t s h
+    by (Some e) = linked_goes t b _ asked.end ((kept label s).0) short z o below h
+
+labelled_goes : (t : List ℕ) (definitions : List ℕ → Option Entry) (b : Bracket) (s : State) → length t < 2 ^ 64 - 1 → byte_at t s.place ≡ 93 → Opening t s.roles s.place b → Brackets t s.roles b.start s.brackets → Stands t s.place s → Goes t s.place (closed_by_label t definitions b s)
+unfolding closed_by_label
+labelled_goes t definitions b s short z o below h = by (label_asked t b s.place)
+  where
+    by : (x : Option Asked) → Goes t s.place (closed_asked t definitions b s x)
+    by None = stays t s h
+    by (Some asked) = looked_up_goes t definitions b asked s short z o below h
+
+active_goes : (t : List ℕ) (definitions : List ℕ → Option Entry) (b : Bracket) (s : State) → length t < 2 ^ 64 - 1 → byte_at t s.place ≡ 93 → Opening t s.roles s.place b → Brackets t s.roles b.start s.brackets → Stands t s.place s → Goes t s.place (closed_active_in Four false t definitions b s)
+unfolding closed_active_in
+active_goes t definitions b s short z o below h = by (inline_target t (plus s.place 1))
+  where
+    by : (x : Option InlineTarget) → Goes t s.place (closed_found_in Four false t definitions b s x)
+    by None = labelled_goes t definitions b s short z o below h
+    by (Some found) = inline_goes t b found s short z o below h
+
+closed_goes : (t : List ℕ) (definitions : List ℕ → Option Entry) (s : State) → length t < 2 ^ 64 - 1 → byte_at t s.place ≡ 93 → Stands t s.place s → Goes t s.place (closed_in Four false t definitions s)
+unfolding closed_in popped
+closed_goes t definitions s short z h = by (slice_get s.brackets (length s.brackets - 1)) refl
+  where
+    height : ℕ
+    height = length s.brackets - 1
+
+    u : State
+    u = record s { brackets = take height s.brackets; inactive = min s.inactive height }
+
+    fewer : Stands t s.place u
+    fewer = record { safe = h.safe; calm = h.calm; open_ = h.open_; white = h.white; runs = h.runs; brackets = brackets_fewer t s.roles s.place height s.brackets h.brackets }
+
+    active : (b : Bracket) → slice_get s.brackets height ≡ Some b → (k : Bool) → Goes t s.place (if k then closed_active_in Four false t definitions b u else u)
+    active b e true = active_goes t definitions b u short z (h.brackets.good height b e) (brackets_below t s.roles s.place height s.brackets b e h.brackets) fewer
+    active b e false = stays t u fewer
+
+    by : (x : Option Bracket) → slice_get s.brackets height ≡ x → Goes t s.place (closed_last_in Four false t definitions s x)
+    by None e = stays t s h
+    by (Some b) e = active b e (b.image || nat_le s.inactive height)
+
+mark_goes : (t ticks : List ℕ) (b : ℕ) (s : State) → length t < 2 ^ 64 - 1 → s.place < length t → s.resume ≤ s.place → byte_at t s.place ≡ b → Stands t s.place s → Goes t s.place (looked_mark t ticks b s)
+unfolding looked_mark
+mark_goes t ticks b s short w r e h = by (b == 92) (b == 38) (b == 10) (b == 96) ((b == 42) || (b == 95)) refl refl refl refl refl
+  where
+    plain : (c : ℕ) → b ≡ c → (c == 32) ≡ false → byte_at t s.place ≡ 32 → ⊥
+    plain c q n = not_white t s.place c (e ∙ q) n
+
+    by : (backslash ampersand feed tick run : Bool) → (b == 92) ≡ backslash → (b == 38) ≡ ampersand → (b == 10) ≡ feed → (b == 96) ≡ tick → ((b == 42) || (b == 95)) ≡ run
+        → Goes t s.place (if backslash then escaped t s else (if ampersand then referred t s else (if feed then line_ended t s else (if tick then coded t ticks s else (if run then run_taken t b s else s)))))
+    by true ampersand feed tick run p q f k i = let z : b ≡ 92 = grind (arith, nat_tests) in escaped_goes t s short w (plain 92 z refl) h
+    by false true feed tick run p q f k i = let z : b ≡ 38 = grind (arith, nat_tests) in referred_goes t s (plain 38 z refl) h
+    by false false true tick run p q f k i = let z : b ≡ 10 = grind (arith, nat_tests) in ended_goes t s short w r (e ∙ z) h
+    by false false false true run p q f k i = let z : b ≡ 96 = grind (arith, nat_tests) in coded_goes t ticks s (plain 96 z refl) h
+    by false false false false true p q f k i = taken_goes t b s short w i h
+    by false false false false false p q f k i = stays t s h
+
+looked_goes : (t : List ℕ) (ahead : Known) (definitions : List ℕ → Option Entry) (b : ℕ) (s : State) → length t < 2 ^ 64 - 1 → s.place < length t → s.resume ≤ s.place → byte_at t s.place ≡ b → Stands t s.place s → Goes t s.place (looked t ahead definitions b s)
+unfolding looked
+looked_goes t ahead definitions b s short w r e h = by (b == 91) (b == 33) (b == 93) (b == 60) refl refl refl refl
+  where
+    by : (opening image closing angle : Bool) → (b == 91) ≡ opening → (b == 33) ≡ image → (b == 93) ≡ closing → (b == 60) ≡ angle
+        → Goes t s.place (if opening then opened false 1 s else (if image then imaged t s else (if closing then closed_in Four false t definitions s else (if angle then angled t ahead.ends s else looked_mark t ahead.ticks b s))))
+    by true image closing angle p q c a = let z : b ≡ 91 = grind (arith, nat_tests) in opened_goes t false 1 s short w (inl refl) (ap is_bracket (e ∙ z)) (let y : s.place + (1 - 1) ≡ s.place = omega arith in ap (λ x. is_bracket (byte_at t x)) y ∙ ap is_bracket (e ∙ z)) h
+    by false true closing angle p q c a = let z : b ≡ 33 = grind (arith, nat_tests) in imaged_goes t s short w (e ∙ z) h
+    by false false true angle p q c a = let z : b ≡ 93 = grind (arith, nat_tests) in closed_goes t definitions s short (e ∙ z) h
+    by false false false true p q c a = let z : b ≡ 60 = grind (arith, nat_tests) in angled_goes t ahead.ends s short w (not_white t s.place 60 (e ∙ z) refl) h
+    by false false false false p q c a = mark_goes t ahead.ticks b s short w r e h
+
+-- the pass at a place
+abbrev pub At : List ℕ → ℕ → State → Type 0
+At t p s = (s.place ≡ p) × Stands t (max p s.resume) s
+
+step_goes : (t : List ℕ) (ahead : Known) (definitions : List ℕ → Option Entry) (p : ℕ) (s : State) (b : ℕ) → length t < 2 ^ 64 - 1 → p < length t → byte_at t p ≡ b → At t p s → At t (suc p) (scan_step_in CORE t ahead definitions s b)
+unfolding scan_step_in looked_in is_tilde_in is_caret_in is_dollar_in is_note_end_in
+step_goes t ahead definitions p s b short w e (q, h) = by (is_mark_in CORE b) (nat_le s.resume s.place) refl
+  where
+    next : (u : State) → Goes t p u → (plus u.place 1 ≡ suc p) × Stands t (max (suc p) u.resume) u
+    next u (x, k) = (omega arith, k)
+
+    looks : s.resume ≤ s.place → Goes t p (looked t ahead definitions b s)
+    looks r = subst (λ x. Goes t x (looked t ahead definitions b s)) q (looked_goes t ahead definitions b s short (omega arith) r (ap (byte_at t) q ∙ e) (fine_more t (max p s.resume) s.place s.roles s.runs s.brackets (omega arith) h))
+
+    by : (m k : Bool) → nat_le s.resume s.place ≡ k → At t (suc p) (record (if m && k then looked_in CORE t ahead definitions b s else s) { place = plus (if m && k then looked_in CORE t ahead definitions b s else s).place 1 })
+    by true true r = next (looked t ahead definitions b s) (looks (let l : s.resume ≤ s.place = grind (arith, nat_tests) in l))
+    by true false r = next s (q, fine_more t (max p s.resume) (max (suc p) s.resume) s.roles s.runs s.brackets (omega arith) h)
+    by false k r = next s (q, fine_more t (max p s.resume) (max (suc p) s.resume) s.roles s.runs s.brackets (omega arith) h)
+
+steps_go : (t : List ℕ) (ahead : Known) (definitions : List ℕ → Option Entry) (p : ℕ) (bs : List ℕ) (s : State) → length t < 2 ^ 64 - 1 → p + length bs ≤ length t → ((j b : ℕ) → slice_get bs j ≡ Some b → byte_at t (p + j) ≡ b) → At t p s → At t (p + length bs) (fold (scan_step_in CORE t ahead definitions) s bs)
+steps_go t ahead definitions p [] s short w e h = let n : p ≡ p + 0 = omega arith in subst (λ x. At t x s) n h
+steps_go t ahead definitions p (b ∷ bs) s short w e h = let n : suc p + length bs ≡ p + suc (length bs) = omega arith in subst (λ x. At t x (fold (scan_step_in CORE t ahead definitions) (scan_step_in CORE t ahead definitions s b) bs)) n
+    (steps_go t ahead definitions (suc p) bs (scan_step_in CORE t ahead definitions s b) short (omega arith) (λ j c g. let q : p + suc j ≡ suc p + j = omega arith in ap (byte_at t) (sym q) ∙ e (suc j) c g)
+    (step_goes t ahead definitions p s b short (omega arith) (let q : p + 0 ≡ p = omega arith in ap (byte_at t) (sym q) ∙ e 0 b refl) h))
+
+-- the pass begins where all bytes are neutral
+pub scanned_safe : (t : List ℕ) (definitions : List ℕ → Option Entry) (s : State) → length t < 2 ^ 64 - 1 → ((x : ℕ) → Neutral s.roles x) → s.runs ≡ [] → s.brackets ≡ [] → s.place ≡ 0 → s.resume ≡ 0 → Safe 0 0 0 (scanned_in CORE t definitions s).roles
+unfolding scanned_in settled
+scanned_safe t definitions s short n rs bs p q = settled_safe t (max (0 + length t) last.resume) last.roles last.runs last.brackets short (all.1)
+  where
+    last : State
+    last = fold (scan_step_in CORE t (ahead_in CORE t) definitions) s t
+
+    first : At t 0 s
+    first = (
+      p,
+      subst (λ xs. Fine t (max 0 s.resume) s.roles xs s.brackets) (sym rs) (subst (λ ys. Fine t (max 0 s.resume) s.roles [] ys) (sym bs) (record {
+        safe = calm_safe 0 0 0 s.roles (λ x y l g. n x y g);
+        calm = λ x l. n x;
+        open_ = λ x l. calm_read 0 0 s.roles x (λ y z m g. n y z g) (omega arith);
+        white = λ x a b. n x;
+        runs = tt;
+        brackets = record { good = λ k b e. absurd cc; order = λ k i b d l e. absurd cc };
+      })),
+    )
+
+    all : At t (0 + length t) last
+    all = steps_go t (ahead_in CORE t) definitions 0 t s short (omega arith) (λ j b e. let z : 0 + j ≡ j = omega arith in ap (byte_at t) z ∙ got j b e) first
+      where
+        got : (j b : ℕ) → slice_get t j ≡ Some b → byte_at t j ≡ b
+        got j b e = ap (λ o. unwrap_or o 10) e
