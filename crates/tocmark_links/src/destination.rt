@@ -3,7 +3,9 @@
 ghost use Rattle.std.specs.Prelude.{◌≡◌, IfOk, string_bytes};
 ghost use Rattle.tocmark_links.specs.Destinations.{decoded};
 
-use percent_encoding::{AsciiSet, NON_ALPHANUMERIC, percent_decode, utf8_percent_encode};
+use percent_encoding::{
+    AsciiSet, NON_ALPHANUMERIC, ascii_set, percent_decode, utf8_percent_encode,
+};
 use std::alloc::{AllocError, Global};
 
 /// A destination in parts, each as it is written.
@@ -60,17 +62,31 @@ pub fn decoded(alloc: Global, text: &str) -> Result<String, AllocError>
 }
 
 /// The bytes that a path is written with a percent sign for.
-fn escaped_in_paths() -> AsciiSet {
-    let mut set = NON_ALPHANUMERIC;
-    for byte in b"/~!$&'*+,;=:@-._" {
-        set = set.remove(*byte);
-    }
-    set
-}
+const ESCAPED_IN_PATHS: AsciiSet = ascii_set!(
+    NON_ALPHANUMERIC
+        .remove(b'/')
+        .remove(b'~')
+        .remove(b'!')
+        .remove(b'$')
+        .remove(b'&')
+        .remove(b'\'')
+        .remove(b'*')
+        .remove(b'+')
+        .remove(b',')
+        .remove(b';')
+        .remove(b'=')
+        .remove(b':')
+        .remove(b'@')
+        .remove(b'-')
+        .remove(b'.')
+        .remove(b'_')
+);
 
-/// A path with percent signs for all bytes but letters, numbers and `/~!$&'*+,;=:@-._`.
-pub fn encoded(alloc: Global, path: &str) -> Result<String, AllocError> {
+/// A path with percent signs for all bytes but letters, numbers and `/~!$&'*+,;=:@-._`: it stands for this one.
+pub fn encoded(alloc: Global, path: &str) -> Result<String, AllocError>
+    ensures { IfOk result (λ text. decoded (string_bytes text) ≡ path.now) }
+{
     let mut text = String::new(alloc);
-    utf8_percent_encode(path, escaped_in_paths()).append_to(&mut text)?;
+    utf8_percent_encode(path, ESCAPED_IN_PATHS).append_to(&mut text)?;
     Ok(text)
 }

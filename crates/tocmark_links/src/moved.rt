@@ -1,7 +1,8 @@
 //! Which destination a link needs after a file or a folder has moved.
 
-ghost use Rattle.std.specs.Prelude.{IfOk, IfSome, IsTrue, string_bytes};
+ghost use Rattle.std.specs.Prelude.{IfNone, IfOk, IfSome, IsTrue, string_bytes};
 ghost use Rattle.tocmark_links.specs.Destinations.{LeadsTo};
+ghost use Rattle.tocmark_links.specs.Paths.{IsPlace};
 
 use crate::destination::{decoded, encoded, is_local, parts};
 use crate::paths::{folder_and_name, relative, resolved};
@@ -105,7 +106,8 @@ fn target_of(
 
 /// Whether a path leads from a folder to a place.
 fn leads_to(alloc: Global, folder: &str, path: &str, place: &str) -> Result<bool, AllocError>
-    ensures { IfOk result (λ leads. IsTrue leads → LeadsTo folder.now path.now place.now) }
+    ensures only { IfOk result (λ leads. IsTrue leads → LeadsTo folder.now path.now place.now) }
+    ensures always { IfOk result (λ leads. LeadsTo folder.now path.now place.now → IsTrue leads) }
 {
     let written = decoded(alloc, path)?;
     match resolved(alloc, folder, written.as_str())? {
@@ -117,15 +119,17 @@ fn leads_to(alloc: Global, folder: &str, path: &str, place: &str) -> Result<bool
 /// The path that a page in a folder needs to lead to a place, in place of its old path; `None` if that leads there.
 ///
 /// It is spelled as the old one: relative or from the root, with `./` in front, a slash at the end, and percent signs, if the
-/// old one has them. If that doesn't lead there, it is the path from the root with percent signs, or none.
+/// old one has them. If that doesn't lead there, it is the path from the root with percent signs, which does.
 pub fn path_to(
     alloc: Global,
     old: &str,
     folder: &str,
     place: &str,
 ) -> Result<Option<String>, AllocError>
-    ensures { IfOk result (λ path. IfSome path (λ path.
+    ensures leads { IfOk result (λ path. IfSome path (λ path.
         LeadsTo folder.now (string_bytes path) place.now)) }
+    ensures stays { IfOk result (λ path. IfNone path (IsPlace place.now
+        → LeadsTo folder.now old.now place.now)) }
 {
     if leads_to(alloc, folder, old, place)? {
         return Ok(None);
