@@ -1,6 +1,6 @@
 //! What is wrong in a document: links that lead nowhere, and blocks that formatting leaves as they are.
 
-use crate::formatting::READER;
+use crate::formatting::formatted_as;
 use crate::lined::{Lined, Span};
 use crate::links::{Asking, front_of};
 use crate::message::JsonText;
@@ -8,7 +8,7 @@ use crate::settings::Settings;
 use crate::tree::Files;
 use std::alloc::{AllocError, Global};
 use std::fmt::Write;
-use tocmark_format::{Left, StyledLines, formatted_lines};
+use tocmark_format::Left;
 use tocmark_links::destination::encoded;
 use tocmark_links::page::Link;
 use tocmark_links::paths::{folder_and_name, relative};
@@ -120,11 +120,7 @@ pub(crate) fn problems<F: Files>(
     let lined = Lined::new(alloc, asking.text, asking.encoding)?;
     let mut json = String::from_str(alloc, "[")?;
     add_broken(&mut json, asking, &lined)?;
-    let asked = StyledLines {
-        style: settings.style,
-        lines: None,
-    };
-    let answer = formatted_lines(alloc, asking.text, &READER, settings.flags, asked, &[])?;
+    let answer = formatted_as(alloc, settings, asking.text, None)?;
     for left in &answer.left {
         let reason = left.reason;
         let message = format!(in alloc; "formatting leaves this as it is: {reason}")?;

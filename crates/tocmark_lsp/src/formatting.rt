@@ -1,13 +1,11 @@
 //! The edits that format a text, or some of its lines.
 
-ghost use Rattle.std.specs.Prelude.{◌≡◌, IfOk, string_bytes};
-
 use crate::message::{Code, Fault, JsonText, range_in};
 use crate::settings::Settings;
 use serde_json::Value;
 use std::alloc::{AllocError, Global};
 use std::fmt::Write;
-use tocmark_format::{Lines, StyledLines, formatted_lines};
+use tocmark_format::{Ends, Formatted, Lines, StyledLines, formatted_lines};
 use tocmark_lsp_text::edits::{Edit, line_edits};
 use tocmark_lsp_text::positions::Encoding;
 use tocmark_reader::{ExtendedReader, Names};
@@ -32,6 +30,21 @@ fn json_of(alloc: Global, edits: &[Edit]) -> Result<String, AllocError> {
     Ok(json)
 }
 
+/// Formats the blocks of a text that these lines touch, or all.
+pub(crate) fn formatted_as(
+    alloc: Global,
+    settings: Settings,
+    text: &str,
+    lines: Option<Lines>,
+) -> Result<Formatted, AllocError> {
+    let asked = StyledLines {
+        style: settings.style,
+        lines,
+        ends: Ends::new(),
+    };
+    formatted_lines(alloc, text, &READER, settings.flags, asked, &[])
+}
+
 /// The edits that format a text, as JSON: the blocks that these lines touch, or all.
 fn edits_for(
     alloc: Global,
@@ -40,11 +53,7 @@ fn edits_for(
     text: &str,
     lines: Option<Lines>,
 ) -> Result<String, Fault> {
-    let asked = StyledLines {
-        style: settings.style,
-        lines,
-    };
-    let answer = formatted_lines(alloc, text, &READER, settings.flags, asked, &[])?;
+    let answer = formatted_as(alloc, settings, text, lines)?;
     let edits = line_edits(alloc, encoding, text, answer.text.as_str())?;
     Ok(json_of(alloc, &edits)?)
 }

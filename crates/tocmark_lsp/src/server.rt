@@ -250,6 +250,9 @@ impl Server {
     /// What is wrong in an open text, as JSON.
     fn problems_of<'x, F: Files>(&'x self, files: &'x F, uri: &'x str) -> Result<String, Fault> {
         let text = self.documents.text(uri)?;
+        if !uri.starts_with("file://") {
+            return Ok(String::from_str(self.alloc, "[]")?);
+        }
         let place = Place::of(self.alloc, self.root.as_str(), uri)?;
         Ok(problems(&self.asking(files, &place, uri, text), self.settings)?)
     }
