@@ -1,5 +1,10 @@
 //! The anchors of a file: those of its headings, numbered where the same one is taken, and those of its HTML.
 
+ghost use Rattle.std.specs.Prelude.{◌≡◌, ◌∷◌, List, [], ℕ, IfOk, OnOk, map, string_bytes, unwrap_or};
+ghost use Rattle.std.specs.HashMap.{get_by_text};
+ghost use Rattle.tocmark_links.specs.Anchors.{numbered, AreNumbered, unnumbered};
+ghost use Rattle.tocmark_links.specs.Numbering.{Counts, IsFirstFrom, IsNext, IsGivenBy};
+
 use crate::slug::{Slugs, slug};
 use std::alloc::{AllocError, Global};
 use std::collections::HashMap;
@@ -31,54 +36,100 @@ pub struct Anchor {
     pub line: usize,
 }
 
-/// Gives anchors to headings, each its own.
-#[derive(Drop)]
-pub struct Numbering {
-    alloc: Global,
-    slugs: Slugs,
-    /// Each anchor that is taken, and the last number after it.
-    taken: HashMap<String, usize>,
+/// Each anchor that a heading has, and the last number after it.
+type Taken = HashMap<String, usize>;
+
+/// Takes an anchor that a heading names itself.
+fn take(alloc: Global, taken: &mut Taken, name: &str) -> Result<(), AllocError>
+    ensures { OnOk result ((slugs : Slugs) (names : List (List ℕ)) → Counts slugs names taken.old
+        → Counts slugs (name.now ∷ names) taken.new) }
+{
+    if !taken.contains_key(name) {
+        taken.insert(String::from_str(alloc, name)?, 0)?;
+    }
+    Ok(())
 }
 
-impl Numbering {
-    pub fn new(alloc: Global, slugs: Slugs) -> Numbering {
-        Numbering {
-            alloc,
-            slugs,
-            taken: HashMap::new(alloc),
-        }
-    }
+/// The last number after an anchor; 0 if it isn't taken.
+fn last_number(taken: &Taken, name: &str) -> usize
+    ensures { result ≡ unwrap_or (get_by_text taken.now name.now) 0 }
+{
+    taken.get(name).copied().unwrap_or(0)
+}
 
-    /// Takes an anchor that a heading names itself.
-    pub fn take(&mut self, name: &str) -> Result<(), AllocError> {
-        if !self.taken.contains_key(name) {
-            let name = String::from_str(self.alloc, name)?;
-            self.taken.insert(name, 0)?;
-        }
-        Ok(())
+/// An anchor with a number after it; with 0 itself.
+fn numbered(alloc: Global, slugs: Slugs, base: &str, number: usize) -> Result<String, AllocError>
+    ensures { IfOk result (λ name. string_bytes name ≡ numbered slugs base.now number) }
+{
+    if number == 0 {
+        return String::from_str(alloc, base);
     }
+    match slugs {
+        Slugs::Python => format!(in alloc; "{base}_{number}"),
+        Slugs::GitHub => format!(in alloc; "{base}-{number}"),
+        Slugs::MdBook => format!(in alloc; "{base}-{number}"),
+    }
+}
 
-    /// The anchor of the next heading with these words: its slug, or the slug with the first number that isn't taken.
-    pub fn next(&mut self, words: &str) -> Result<String, AllocError> {
-        let base = slug(self.alloc, words, self.slugs)?;
-        let joint = if self.slugs == Slugs::Python {
-            '_'
-        } else {
-            '-'
-        };
-        let mut number = self.taken.get(base.as_str()).copied().unwrap_or(0);
-        let mut name = base.clone()?;
-        for _ in 0..=self.taken.len() {
-            if !self.taken.contains_key(name.as_str()) {
-                break;
-            }
-            number = number.saturating_add(1);
-            name = format!(in self.alloc; "{base}{joint}{number}")?;
+/// The first number from this one on with which an anchor isn't taken, and the anchor with it.
+fn first_free(
+    alloc: Global,
+    slugs: Slugs,
+    taken: &Taken,
+    base: &str,
+    from: usize,
+) -> Result<(usize, String), AllocError>
+    ensures { IfOk result (λ found. IsFirstFrom slugs taken.now base.now from found.0 (string_bytes found.1)) }
+{
+    for number in from..usize::MAX {
+        let name = numbered(alloc, slugs, base, number)?;
+        if !taken.contains_key(name.as_str()) {
+            return Ok((number, name));
         }
-        if self.taken.contains_key(base.as_str()) {
-            self.taken.insert(base, number)?;
-        }
-        self.take(name.as_str())?;
-        Ok(name)
     }
+    Err(AllocError)
+}
+
+/// The anchor of the next heading with these words: its slug, or the slug with the first number that isn't taken.
+fn next(alloc: Global, slugs: Slugs, taken: &mut Taken, words: &str) -> Result<String, AllocError>
+    ensures { IfOk result (λ name. IsNext slugs words.now taken.old taken.new (string_bytes name)) }
+{
+    let base = slug(alloc, words, slugs)?;
+    let from = last_number(taken, base.as_str());
+    let (number, name) = first_free(alloc, slugs, taken, base.as_str(), from)?;
+    taken.insert(name.clone()?, 0)?;
+    taken.insert(base, number)?;
+    Ok(name)
+}
+
+/// Gives a heading its anchor, unless it names it itself.
+fn give(
+    alloc: Global,
+    slugs: Slugs,
+    taken: &mut Taken,
+    anchor: &mut Anchor,
+) -> Result<(), AllocError>
+    ensures given { OnOk result (IsGivenBy slugs taken.old taken.new anchor.new) }
+    ensures kept { OnOk result (unnumbered anchor.new ≡ unnumbered anchor.old) }
+{
+    match anchor.kind {
+        AnchorKind::Html => Ok(()),
+        AnchorKind::Named => take(alloc, taken, anchor.name.as_str()),
+        AnchorKind::Heading => {
+            anchor.name = next(alloc, slugs, taken, anchor.words.as_str())?;
+            Ok(())
+        }
+    }
+}
+
+/// Gives the headings of a page their anchors.
+pub fn number(alloc: Global, slugs: Slugs, anchors: &mut [Anchor]) -> Result<(), AllocError>
+    ensures numbered { OnOk result (AreNumbered slugs [] anchors.new) }
+    ensures kept { OnOk result (map unnumbered anchors.new ≡ map unnumbered anchors.old) }
+{
+    let mut taken: Taken = HashMap::new(alloc);
+    for anchor in anchors.iter_mut() {
+        give(alloc, slugs, &mut taken, anchor)?;
+    }
+    Ok(())
 }

@@ -3,13 +3,15 @@
 //! Each new text is the old one with other bytes in some places. The reader then compares both texts: whatever isn't meant to
 //! change says the same in both, or else there is no new text but a fault.
 
-ghost use Rattle.std.specs.Prelude.{◌≡◌, IfNone, IfOk, map, string_bytes};
+ghost use Rattle.std.specs.Prelude.{◌≡◌, All, IfNone, IfOk, length, map, string_bytes};
 ghost use Rattle.tocmark_compare.specs.Given.{given_events};
 ghost use Rattle.tocmark_event.specs.Text.{text_of};
 ghost use Rattle.tocmark_event.specs.View.{event_view, tag_view};
 ghost use Rattle.tocmark_links.specs.Changed.{blank, blank_tag, blanked, SayTheSame};
+ghost use Rattle.tocmark_links.specs.Places.{IsAt, IsAsked, DiffersAtPlaces};
 
 use crate::anchors::{Anchor, AnchorKind};
+use crate::edits::{Edit, spliced};
 use crate::page::{LinkKind, Page, READER};
 use crate::slug::Slugs;
 use std::alloc::{AllocError, AllocFailed, Global};
@@ -60,33 +62,6 @@ impl<T: Drop> From<AllocFailed<T>> for Fault {
     }
 }
 
-/// New bytes for a place of a text.
-#[derive(Drop)]
-struct Edit {
-    start: usize,
-    end: usize,
-    new: String,
-}
-
-/// A text with other bytes in these places, which lie one after the other. `None`: they don't.
-fn spliced(alloc: Global, text: &str, edits: &[Edit]) -> Result<Option<String>, AllocError> {
-    let mut new = String::new(alloc);
-    let mut at = 0;
-    for edit in edits {
-        let Some(kept) = text.get(at..edit.start) else {
-            return Ok(None);
-        };
-        new.push_str(kept)?;
-        new.push_str(edit.new.as_str())?;
-        at = edit.end;
-    }
-    let Some(kept) = text.get(at..) else {
-        return Ok(None);
-    };
-    new.push_str(kept)?;
-    Ok(Some(new))
-}
-
 /// A destination with a backslash before each mark.
 fn with_backslashes(alloc: Global, destination: &str) -> Result<String, AllocError> {
     let mut text = String::new(alloc);
@@ -130,12 +105,9 @@ fn spelled_in_html(alloc: Global, destination: &str) -> Result<String, AllocErro
 }
 
 /// The bytes that a link's new destination needs, in its place.
-fn edit_of(
-    alloc: Global,
-    text: &str,
-    page: &Page,
-    change: &(usize, String),
-) -> Result<Edit, Fault> {
+fn edit_of(alloc: Global, text: &str, page: &Page, change: &(usize, String)) -> Result<Edit, Fault>
+    ensures { IfOk result (λ edit. IsAt page.now.links.items change.now.0 edit) }
+{
     let (number, destination) = change;
     let Some(link) = page.links.get(*number) else {
         return Err(Fault::Misread { line: 1 });
@@ -143,13 +115,32 @@ fn edit_of(
     let Some((start, end)) = link.place else {
         return Err(Fault::Misread { line: link.line });
     };
-    let new = if link.kind == LinkKind::Html {
+    let words = if link.kind == LinkKind::Html {
         spelled_in_html(alloc, destination.as_str())?
     } else {
         let has_brackets = byte_at(text.as_bytes(), start) == b'<' && end > start;
         spelled(alloc, destination.as_str(), has_brackets)?
     };
-    Ok(Edit { start, end, new })
+    Ok(Edit { start, end, words })
+}
+
+/// The edits that changes need, in the order of the text.
+fn edits_of(
+    alloc: Global,
+    text: &str,
+    page: &Page,
+    changes: &[(usize, String)],
+) -> Result<Vec<Edit>, Fault>
+    ensures asked { IfOk result (λ edits.
+        All (IsAsked page.now.links.items changes.now) edits.items) }
+    ensures count { IfOk result (λ edits. length edits.items ≡ length changes.now) }
+{
+    let mut edits = Vec::with_capacity(alloc, changes.len())?;
+    for change in changes {
+        edits.push(edit_of(alloc, text, page, change)?)?;
+    }
+    edits.sort_by_key(|edit| edit.start)?;
+    Ok(edits)
 }
 
 /// Takes away where a link or an image leads.
@@ -266,8 +257,8 @@ fn first_astray(
 /// The text in which some links of its page lead elsewhere: each change names a link of `page.links` by its index.
 ///
 /// `page` is the page of this text under these flags. The reader finds the same events in the new text, but for destinations
-/// and HTML, and each link leads where it is to lead. Only bytes of these links' destinations differ. Definitions are changed in
-/// their place, and so all links by their label lead elsewhere, too.
+/// and HTML, and each link leads where it is to lead. The new text is the old one in which the destinations of these links are
+/// replaced. Definitions are changed in their place, and so all links by their label lead elsewhere, too.
 ///
 /// It fails if memory runs out, or if there is no such text: then the fault names the line.
 pub fn with_destinations(
@@ -277,13 +268,11 @@ pub fn with_destinations(
     page: &Page,
     changes: &[(usize, String)],
 ) -> Result<String, Fault>
-    ensures { IfOk result (λ new. SayTheSame flags text.now (string_bytes new)) }
+    ensures events { IfOk result (λ new. SayTheSame flags text.now (string_bytes new)) }
+    ensures bytes { IfOk result (λ new.
+        DiffersAtPlaces page.now.links.items changes.now text.now (string_bytes new)) }
 {
-    let mut edits = Vec::with_capacity(alloc, changes.len())?;
-    for change in changes {
-        edits.push(edit_of(alloc, text, page, change)?)?;
-    }
-    edits.sort_by_key(|edit| edit.start)?;
+    let edits = edits_of(alloc, text, page, changes)?;
     let Some(new) = spliced(alloc, text, &edits)? else {
         return Err(Fault::Misread { line: 1 });
     };
@@ -377,7 +366,7 @@ pub fn with_heading(
     edits.push(Edit {
         start,
         end,
-        new: String::from_str(alloc, words)?,
+        words: String::from_str(alloc, words)?,
     })?;
     let Some(new) = spliced(alloc, text, &edits)? else {
         return Err(Fault::Misread { line });
@@ -537,7 +526,11 @@ pub fn with_contents(
     let new = with_feeds_of(alloc, text, format!(in alloc; "\n{list}\n")?)?;
     let length = new.len();
     let mut edits = Vec::new(alloc);
-    edits.push(Edit { start, end, new })?;
+    edits.push(Edit {
+        start,
+        end,
+        words: new,
+    })?;
     let Some(new) = spliced(alloc, text, &edits)? else {
         return Err(Fault::NoContents);
     };

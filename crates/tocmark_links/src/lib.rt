@@ -6,12 +6,13 @@
 //! `page` finds the links and anchors of a text. `tree` is the index of all files, and says where a link leads. `moved` says
 //! which destination a link needs after a move. `changed` puts new destinations, words or contents into a text, and compares
 //! what the reader finds before and after. `paths`, `destination` and `slug` are the rules below them; `html` finds the
-//! attributes of HTML, `anchors` numbers headings.
+//! attributes of HTML, `anchors` numbers headings, `edits` replaces bytes of a text.
 #![tactic(auto)]
 
 pub mod anchors;
 pub mod changed;
 pub mod destination;
+mod edits;
 mod html;
 pub mod moved;
 pub mod page;

@@ -1,6 +1,9 @@
 //! What one Markdown text has: its links and its anchors.
 
-use crate::anchors::{Anchor, AnchorKind, Numbering};
+ghost use Rattle.std.specs.Prelude.{[], IfOk};
+ghost use Rattle.tocmark_links.specs.Anchors.{AreNumbered};
+
+use crate::anchors::{Anchor, AnchorKind, number};
 use crate::html::{Value, values};
 use crate::slug::Slugs;
 use std::alloc::{AllocError, Global};
@@ -78,14 +81,13 @@ struct OpenHeading {
     place: Option<(usize, usize)>,
 }
 
-/// Collects links and anchors from events.
+/// Collects links and anchors from events. Headings get their anchors in the end.
 #[derive(Drop)]
 struct Collecting<'t> {
     alloc: Global,
     text: &'t str,
     links: Vec<FoundLink>,
     anchors: Vec<Anchor>,
-    numbering: Numbering,
     open_links: Vec<OpenLink>,
     open_images: usize,
     heading: Option<OpenHeading>,
@@ -165,13 +167,12 @@ fn named(words: &str) -> Option<(&str, &str)> {
 }
 
 impl<'t> Collecting<'t> {
-    fn new(alloc: Global, text: &'t str, slugs: Slugs) -> Collecting<'t> {
+    fn new(alloc: Global, text: &'t str) -> Collecting<'t> {
         Collecting {
             alloc,
             text,
             links: Vec::new(alloc),
             anchors: Vec::new(alloc),
-            numbering: Numbering::new(alloc, slugs),
             open_links: Vec::new(alloc),
             open_images: 0,
             heading: None,
@@ -301,10 +302,9 @@ impl<'t> Collecting<'t> {
             return self.add_named(id, words, level, place, start);
         }
         let words = String::from_str(self.alloc, words.as_str().trim())?;
-        let name = self.numbering.next(words.as_str())?;
         self.anchors.push(Anchor {
             kind: AnchorKind::Heading,
-            name,
+            name: String::new(self.alloc),
             words,
             level,
             place,
@@ -322,7 +322,6 @@ impl<'t> Collecting<'t> {
         place: Option<(usize, usize)>,
         start: usize,
     ) -> Result<(), AllocError> {
-        self.numbering.take(name.as_str())?;
         self.anchors.push(Anchor {
             kind: AnchorKind::Named,
             name,
@@ -502,11 +501,26 @@ fn with_lines(
     Ok(links)
 }
 
+/// A page with these links and anchors, whose headings get their anchors.
+fn numbered_page(
+    alloc: Global,
+    slugs: Slugs,
+    links: Vec<Link>,
+    mut anchors: Vec<Anchor>,
+) -> Result<Page, AllocError>
+    ensures { IfOk result (λ page. AreNumbered slugs [] page.anchors.items) }
+{
+    number(alloc, slugs, &mut anchors)?;
+    Ok(Page { links, anchors })
+}
+
 impl Page {
     /// The links and anchors of a text, read under these flags, with the anchors that a site makes.
     ///
     /// Links are inline links and images, definitions of links, used or not, and `href` and `src` of HTML. Anchors are those of
-    /// headings, `{#id}` and `{: #id}` after their words, and `id` and `name` of HTML. It fails if memory runs out.
+    /// headings, `{#id}` and `{: #id}` after their words, and `id` and `name` of HTML. A heading that names no anchor itself has
+    /// the slug of its words, with the first number after it by which no heading before it has the same anchor. It fails if
+    /// memory runs out.
     ///
     /// ```
     /// let page = Page::read(alloc, "# One\n\n[two](b.md#two)\n", flags, Slugs::GitHub)?;
@@ -517,8 +531,10 @@ impl Page {
         text: &str,
         flags: ParserOptions,
         slugs: Slugs,
-    ) -> Result<Page, AllocError> {
-        let mut collecting = Collecting::new(alloc, text, slugs);
+    ) -> Result<Page, AllocError>
+        ensures { IfOk result (λ page. AreNumbered slugs [] page.anchors.items) }
+    {
+        let mut collecting = Collecting::new(alloc, text);
         let (blocks, definitions) = READER.blocks_and_definitions(alloc, text, flags)?;
         let found = blocks.rest()?;
         collecting.events(&found)?;
@@ -534,6 +550,6 @@ impl Page {
             cursor.go(anchor.line);
             anchor.line = cursor.line;
         }
-        Ok(Page { links, anchors })
+        numbered_page(alloc, slugs, links, anchors)
     }
 }
