@@ -78,7 +78,8 @@ uint32_t tocmark_version(void);
 ptrdiff_t tocmark_error_text(ptrdiff_t code, uint8_t *out, size_t out_len);
 
 /* Parses Markdown, and writes its events as JSON: an array of [event, {"start": .., "end": ..}]. Ranges count bytes of the
- * text. Errors: TOCMARK_OUT_OF_MEMORY, TOCMARK_NOT_UTF8. */
+ * text. A byte order mark at the front is no text: what follows it is parsed, and ranges count the mark's bytes. This holds for
+ * all functions that parse a text. Errors: TOCMARK_OUT_OF_MEMORY, TOCMARK_NOT_UTF8. */
 ptrdiff_t tocmark_read_json(const uint8_t *text, size_t text_len, uint32_t flags, uint8_t *out, size_t out_len);
 
 /* Parses Markdown, and writes the bytes of which Python's marshal.loads makes a tuple: the names of the form; a list of the
@@ -191,7 +192,8 @@ ptrdiff_t tocmark_write_marshal_at(const uint8_t *bytes, size_t bytes_len, const
                                    uint8_t *out, size_t out_len);
 
 /* Replaces the events of a source by others: all lines whose events stay are kept byte for byte, and the result parses to just
- * the new events. Texts side by side count as one. If the events are those of the source, the result is the source.
+ * the new events. Texts side by side count as one. If the events are those of the source, the result is the source. A byte order
+ * mark at the front of the source stays there.
  *
  * json, flags, options: as of tocmark_write_json. The events need no ranges. The options concern new blocks alone.
  * where: NULL, or what an error fills.

@@ -324,6 +324,19 @@ class Rewriting(unittest.TestCase):
         for text in ("", "\n", "a", "\r\n\r\na\r\n", "\ufeff*  a\n"):
             self.assertEqual(tocmark.edit(text, lambda event: None), text)
 
+    def test_a_byte_order_mark_is_no_text_and_stays(self):
+        source = "# One\n\n[a]\n\n[a]: /b\n"
+        whole = "\ufeff" + source
+        self.assertEqual(tocmark.read(whole), [(event, range(at.start + 3, at.stop + 3)) for event, at in tocmark.read(source)])
+        self.assertEqual([(it.text, it.range) for it in tocmark.headings(whole)], [("One", range(3, 8))])
+        self.assertEqual([it.range for it in tocmark.links(whole)], [range(it.range.start + 3, it.range.stop + 3) for it in tocmark.links(source)])
+        self.assertEqual(tocmark.definitions(whole)[0].range.start, tocmark.definitions(source)[0].range.start + 3)
+        self.assertEqual(tocmark.text(whole), tocmark.text(source))
+        self.assertEqual(tocmark.tree(tocmark.read(whole), whole)[0].text, "One")
+        self.assertEqual(tocmark.edit(whole, lambda event: {"Text": "Two"} if event == {"Text": "One"} else None), whole.replace("One", "Two"))
+        self.assertEqual(tocmark.rewrite(whole, [event for event, _ in tocmark.read(whole)]), whole)
+        self.assertEqual(tocmark.write(tocmark.read(whole), source=whole), tocmark.write(tocmark.read(source), source=source))
+
     def test_another_event_is_taken(self):
         found = tocmark.edit(ODD, lambda event: {"Text": "g"} if event == {"Text": "f"} else event)
         self.assertEqual(found, ODD.replace("[^1]:  f", "[^1]:  g"))
@@ -362,7 +375,8 @@ class Rewriting(unittest.TestCase):
     def test_errors_name_the_key_and_what_is_wanted(self):
         link = {"link_type": "Inline", "dest_url": "a", "title": "", "id": ""}
         heading = {"level": "H1", "id": None, "classes": [], "attrs": []}
-        for event, said in (("Rul", "event: expected an event, by its name or as an object with its name as the only key"),
+        for event, said in (("Rul", 'found "Rul", expected an event, by its name or as an object with its name as the only key'),
+                            ({"Txt": "a" * 40}, 'found {"Txt":"' + "a" * 32 + ".., expected an event, by its name or as an object with its name as the only key"),
                             ({"Text": 1}, "Text: expected a string"),
                             ({"Start": {"Heading": {**heading, "level": "H7"}}}, "level: expected a level, H1 to H6"),
                             ({"Start": {"Heading": {**heading, "attrs": [["a"]]}}}, "attrs: expected an array of two, a string and a string or null"),
@@ -401,6 +415,19 @@ class Rewriting(unittest.TestCase):
         self.refused(tocmark.UnexpectedEvent, "a\n", [*PARAGRAPH, {"Start": "Paragraph"}], 3, None)
         self.refused(tocmark.InvalidOptions, "a\n", PARAGRAPH, None, None, list_token="x")
         self.refused(tocmark.InvalidOptions, "a\n", PARAGRAPH, None, None, syntax="all", use_html_for_super_sub_script=True)
+
+    def test_links_that_share_a_definition(self):
+        source = "[a][x] and [b][x]\n\n[x]: /u\n"
+        events = tocmark.read(source)
+        links = [event["Start"]["Link"] for event, _ in events if "Link" in event.get("Start", ())]
+        links[0]["dest_url"] = "/v"
+        said = self.refused(tocmark.Changed, source, events, 0, (1, 1))
+        self.assertEqual(said, "event 0, line 1: no text was found that parses to these events: links by the label x share its "
+                         "definition, so give them one destination and title, or make one Inline")
+        links[1]["dest_url"] = "/v"
+        self.assertEqual(tocmark.rewrite(source, events), source.replace("/u", "/v"))
+        links[1].update(dest_url="/u", link_type="Inline", id="")
+        self.assertEqual(tocmark.rewrite(source, events), "[a][x] and [b](/u)\n\n[x]: /v\n")
 
     def test_errors_are_pickled(self):
         for error in (tocmark.Error(-5), tocmark.NotEvents(-6, 3), tocmark.Unrepresentable(-11, 3, (4, 5)),

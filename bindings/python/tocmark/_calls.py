@@ -7,8 +7,8 @@ import sys
 from typing import TYPE_CHECKING, Any, Callable, Iterable, Iterator, List, Optional, Sequence, Tuple, Union
 
 from . import _library
-from ._errors import NotEvents, error_of
-from ._faults import fault_of
+from ._errors import Changed, NotEvents, error_of
+from ._faults import contested_label, fault_of
 from ._options import flags_of, flags_of_each, options_of, style_of, with_look
 from .events import Change, Event, Found, Options, Placed, Style
 
@@ -47,6 +47,10 @@ def _placed(function: Any, data: bytes, source: bytes, flags: int, options: byte
     error = error_of(code, event, lines)
     if isinstance(error, NotEvents) and event is not None and event < len(items):
         error = NotEvents(code, event, lines, cause=fault_of(items[event]) or None)
+    label = contested_label(items) if isinstance(error, Changed) and function is _library.rewrite else None
+    if label is not None:
+        error = Changed(code, event, lines, cause="no text was found that parses to these events: links by the label "
+                        f"{label} share its definition, so give them one destination and title, or make one Inline")
     raise error
 
 

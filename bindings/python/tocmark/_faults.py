@@ -1,5 +1,6 @@
-"""What is wrong with a value that should be an event, in the words of the command `tocmark-events`."""
-from typing import Any, Callable, Mapping, Optional
+"""What is wrong with events, in the words of the command `tocmark-events`."""
+import json
+from typing import Any, Callable, Dict, Iterable, Mapping, Optional, Tuple
 
 # A check of a value returns the nearest key and what is wanted there, or "".
 _Check = Callable[[Any], str]
@@ -101,14 +102,48 @@ _EVENT = _named("event", f"an event, {_NAMED}", ("SoftBreak", "HardBreak", "Rule
     "Start": _TAG, "End": _END, "TaskListMarker": _truth("TaskListMarker"), **{name: _text(name) for name in _LEAVES}})
 
 
+_SHOWN = 40
+_BY_LABEL = ("Reference", "Collapsed", "Shortcut")
+
+
+def _shown(value: Any) -> str:
+    """Returns the front of a value's JSON."""
+    text = json.dumps(value, ensure_ascii=False, separators=(",", ":"), default=repr)
+    return text if len(text) <= _SHOWN else f"{text[:_SHOWN]}.."
+
+
+def _event(value: Any) -> str:
+    said = _EVENT(value)
+    return f"found {_shown(value)}, {said[len('event: '):]}" if said.startswith("event: ") else said
+
+
+def _target_of(item: Any) -> Optional[Tuple[str, Tuple[str, str]]]:
+    """Returns the label by which a Start leads to a definition, with the destination and the title, or `None`."""
+    event = item[0] if isinstance(item, (list, tuple)) else item
+    start = event.get("Start") if isinstance(event, dict) else None
+    link = (start.get("Link") or start.get("Image")) if isinstance(start, dict) else None
+    if not link or link["link_type"] not in _BY_LABEL:
+        return None
+    return link["id"], (link["dest_url"], link["title"])
+
+
+def contested_label(items: Iterable[Any]) -> Optional[str]:
+    """Returns the first label by which links lead to two destinations, or have two titles. `None`: there is none."""
+    targets: Dict[str, Tuple[str, str]] = {}
+    for label, target in filter(None, map(_target_of, items)):
+        if targets.setdefault(label, target) != target:
+            return label
+    return None
+
+
 def fault_of(item: Any) -> str:
     """Returns what is wrong with an element of a list of events, or "" if nothing is that this module knows."""
     if not isinstance(item, (list, tuple)):
-        return _EVENT(item)
+        return _event(item)
     if len(item) != 2:
         return "pair: expected an array of two, an event and its range"
     event, place = item
     ends = [place.start, place.stop] if isinstance(place, range) else place if isinstance(place, (tuple, list)) else []
     if not (place is None or isinstance(place, dict) or len(ends) == 2):
         return "range: expected a range, two numbers or None"
-    return _EVENT(event) if all(map(_is_number, ends)) else f"range: expected twice {_NUMBER}"
+    return _event(event) if all(map(_is_number, ends)) else f"range: expected twice {_NUMBER}"

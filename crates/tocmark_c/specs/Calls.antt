@@ -2,7 +2,7 @@
 use Rattle.std.specs.Prelude.{◌≡◌, ◌==◌, ℕ, List, Bool, false, not, length, map, true, IsUtf8, Err, None, Some}
 use Rattle.serde_json.specs.Data.{Data}
 use Rattle.serde_json.specs.Read.{read}
-use Rattle.serde_json.specs.Written.{IsInOrder}
+use Rattle.serde_json.specs.Written.{compact_text}
 use Rattle.tocmark_event.specs.Options.{OptionsView}
 use Rattle.tocmark_event.specs.Validation.{OptionsFault, validation}
 use Rattle.tocmark_event.specs.declared.event.flags.ParserOptions.{ParserOptions}
@@ -36,7 +36,7 @@ flags_of bits = record { 0 = bits }
 
 -- a text is the JSON of what is read in a text under these flags
 abbrev pub IsReadFrom : ℕ → List ℕ → List ℕ → Type 0
-IsReadFrom bits text output = IsInOrder output (reading_json (flags_of bits) text)
+IsReadFrom bits text output = output ≡ compact_text (reading_json (flags_of bits) text)
 
 -- why a text is not read
 abbrev pub IsReadCause : List ℕ → Cause → Type 0

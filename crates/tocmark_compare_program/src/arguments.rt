@@ -201,7 +201,7 @@ fn flags_of(matches: &ArgMatches<'_>) -> Result<ParserOptions, Fault> {
 }
 
 /// What may differ.
-fn allowed_of(matches: &ArgMatches<'_>) -> Result<Allowed, Fault> {
+fn allowed_of(alloc: Global, matches: &ArgMatches<'_>) -> Result<Allowed, Fault> {
     let mut allowed = match matches.get_str("as") {
         None | Some("rendered") => Allowed::unrendered(),
         Some("events") => Allowed::nothing(),
@@ -209,7 +209,7 @@ fn allowed_of(matches: &ArgMatches<'_>) -> Result<Allowed, Fault> {
     };
     for kind in matches.get_strs("allow").unwrap_or(&[]) {
         let Some(more) = allowed.with(kind) else {
-            return Err(Fault::Kind);
+            return Err(Fault::no_kind(alloc, kind));
         };
         allowed = more;
     }
@@ -244,7 +244,7 @@ fn measure_of(matches: &ArgMatches<'_>) -> Result<Measure, Fault> {
 }
 
 /// How texts are compared, by a command line.
-pub fn terms_of(matches: &ArgMatches<'_>) -> Result<Terms, Fault> {
+pub fn terms_of(alloc: Global, matches: &ArgMatches<'_>) -> Result<Terms, Fault> {
     let form = match (matches.get_flag("json"), matches.get_flag("github")) {
         (false, false) => Form::Lines,
         (true, false) => Form::Json,
@@ -257,7 +257,7 @@ pub fn terms_of(matches: &ArgMatches<'_>) -> Result<Terms, Fault> {
     }
     Ok(Terms {
         flags: flags_of(matches)?,
-        allowed: allowed_of(matches)?,
+        allowed: allowed_of(alloc, matches)?,
         measure: measure_of(matches)?,
         form,
         replaces,

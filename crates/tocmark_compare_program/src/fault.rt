@@ -11,8 +11,8 @@ use tocmark_files::replace::ReplaceError;
 pub enum Fault {
     /// The arguments are wrong.
     Usage(&'static str),
-    /// `--allow` names no kind.
-    Kind,
+    /// `--allow` has this value, which names no kind.
+    NoKind(String),
     /// One path is a folder, and the other one isn't.
     Mixed(String, String),
     Unreadable(String, io::Error),
@@ -25,6 +25,14 @@ pub enum Fault {
 }
 
 impl Fault {
+    /// `--allow` has this value, which names no kind.
+    pub fn no_kind(alloc: Global, value: &str) -> Fault {
+        match in_quotes(alloc, value) {
+            Ok(value) => Fault::NoKind(value),
+            Err(_) => Fault::OutOfMemory,
+        }
+    }
+
     /// The first path is a folder, and the other one isn't.
     pub fn mixed(alloc: Global, folder: &str, other: &str) -> Result<Fault, AllocError> {
         Ok(Fault::Mixed(in_quotes(alloc, folder)?, in_quotes(alloc, other)?))
@@ -71,13 +79,13 @@ impl Fault {
     }
 }
 
-/// Writes why `--allow` is wrong.
-fn write_kinds<W: fmt::Write>(f: &mut fmt::Formatter<W>) -> fmt::Result {
-    f.write_str("--allow wants one of")?;
-    let mut mark = ' ';
+/// Writes that `--allow` has this value, which names no kind.
+fn write_no_kind<W: fmt::Write>(f: &mut fmt::Formatter<W>, value: &str) -> fmt::Result {
+    write!(f, "--allow has no kind {value}; it wants one of")?;
+    let mut mark = " ";
     for (name, _) in &KINDS {
         write!(f, "{mark}{name}")?;
-        mark = ',';
+        mark = ", ";
     }
     Ok(())
 }
@@ -86,7 +94,7 @@ impl fmt::Display for Fault {
     fn fmt<W: fmt::Write>(&self, f: &mut fmt::Formatter<W>) -> fmt::Result {
         match self {
             Fault::Usage(why) => f.write_str(why),
-            Fault::Kind => write_kinds(f),
+            Fault::NoKind(value) => write_no_kind(f, value.as_str()),
             Fault::Mixed(folder, other) => write!(f, "{folder} is a folder, but {other} is none"),
             Fault::Unreadable(name, error) => write!(f, "{name}: cannot be read: {error}"),
             Fault::NotUtf8(name, line) => write!(f, "{name}: line {line} is not UTF-8"),

@@ -164,7 +164,7 @@ fn fail(rt: &HostRuntime, fault: &Fault) -> ExitCode {
 
 /// Does what right arguments ask for.
 fn start(rt: &HostRuntime, matches: &ArgMatches<'_>) -> Result<u8, Fault> {
-    let terms = terms_of(matches)?;
+    let terms = terms_of(rt.alloc(), matches)?;
     match pair_of(matches, terms)? {
         Some(pair) => perform(rt, terms, pair),
         None => Ok(0),

@@ -1,20 +1,18 @@
 -- The events of pairs, as values of both forms.
 use Rattle.std.proofs.Common.{◌≡◌, ℕ, List, Option, map, sym, ap, ◌∙◌}
 use mathlib.Core.List.{map-map}
-use Rattle.tocmark_reader.specs.Reading.{reading_of}
 use Rattle.tocmark_event.specs.Reading.{ReadingView, reading_view}
 use Rattle.tocmark_event.specs.Text.{ParserEvent, text_of}
 use Rattle.tocmark_event.specs.View.{EventView, event_view}
 use Rattle.tocmark_event.specs.declared.event.flags.ParserOptions.{ParserOptions}
 use Rattle.tocmark_event.specs.declared.reader.Reading.{Reading}
-use Rattle.tocmark_reader.specs.Flags.{syntax_of}
+use Rattle.tocmark_marked.specs.Marked.{marked_reading}
 use Rattle.tocmark_json.specs.Json.{pair_view}
-use Rattle.tocmark_read_scan.specs.declared.syntax.Names.TheVariants.{All}
 use Rattle.tocmark_compare.specs.Given.{given_events}
 use Rattle.tocmark_documents.specs.Document.{events_read, without_range}
 
--- the events of a reading are those that the reader finds
-pub found_read : (r : Reading) (flags : ParserOptions) (text : List ℕ) → reading_view r ≡ reading_of (syntax_of All flags) text → given_events r.events.items ≡ events_read flags text
+-- the events of a reading are those that are read
+pub found_read : (r : Reading) (flags : ParserOptions) (text : List ℕ) → reading_view r ≡ marked_reading flags text → given_events r.events.items ≡ events_read flags text
 found_read r flags text is =
     sym (map-map (λ (e : EventView × (ℕ × ℕ)). e.0) (λ e. (event_view text_of e.0, e.1)) r.events.items)
     ∙ ap (λ (v : ReadingView). map (λ e. e.0) v.events) is

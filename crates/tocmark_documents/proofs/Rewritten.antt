@@ -1,5 +1,5 @@
 -- The events that are handed to rewriting are those of the JSON text.
-use Rattle.std.proofs.Common.{◌≡◌, ◌≢◌, ℕ, List, Option, Result, map, subst, sym, ap, ◌∙◌}
+use Rattle.std.proofs.Common.{◌≡◌, ◌≢◌, ◌++◌, [], ℕ, List, Option, Result, false, map, refl, subst, sym, ap, ◌∙◌, string_bytes}
 use mathlib.Core.List.{map-map}
 use Rattle.std.specs.Borrow.{Bor}
 use Rattle.std.specs.Iterator.{Drains, YieldsFirstBy}
@@ -12,6 +12,8 @@ use Rattle.tocmark_event.specs.declared.event.flags.ParserOptions.{ParserOptions
 use Rattle.tocmark_compare.specs.Given.{given_events}
 use Rattle.tocmark_json.specs.Json.{pair_view}
 use Rattle.tocmark_laws.proofs.Handed.{drained}
+use Rattle.tocmark_judge.specs.Marks.{after_mark, has_mark, mark}
+use Rattle.tocmark_judge.proofs.Marking.{rest-unmarked}
 use Rattle.tocmark_rewrite.specs.Edited.{HasItsCause, IsWrittenFor, edited_events}
 use Rattle.tocmark_rewrite.specs.declared.answer.Rewritten.{Rewritten}
 use Rattle.tocmark_rewrite.specs.declared.fault.Fault.{Fault}
@@ -19,7 +21,7 @@ use Rattle.tocmark_rewrite.specs.declared.fault.Fault.TheVariants as fault
 use Rattle.tocmark_state.specs.Ranges.{Pair, Range}
 use Rattle.tocmark_documents.specs.Document.{without_range}
 use Rattle.tocmark_documents.specs.Interchange.{IsTextOf, in_source, kept, places_left}
-use Rattle.tocmark_documents.specs.Rewriting.{IsOfBlock, IsRewriteCause, IsRewrittenFrom, reading_under}
+use Rattle.tocmark_documents.specs.Rewriting.{IsAfterMark, IsOfBlock, IsRewriteCause, IsRewrittenFrom, IsWrittenAfterMark, mark_of, reading_under}
 use Rattle.tocmark_documents.specs.declared.fault.RewriteError.{RewriteError}
 use Rattle.tocmark_documents.specs.declared.fault.RewriteError.TheVariants as rewrite_error
 use Rattle.tocmark_documents.specs.declared.pairs.EventPairs.{EventPairs}
@@ -44,15 +46,15 @@ events_handed xs it given ps same left all =
     ∙ sym (given_read ps)
 
 -- what is written for the events of a JSON text is written from that text
-pub written_from : (flags : ParserOptions) (source input : List ℕ) (ps : List (ParserEvent × Option (ℕ × ℕ))) (r : Result Rewritten RewriteError) → IsTextOf input (map (pair_view text_of) ps) → IfOk r (IsWrittenFor (reading_under flags) source (given_events ps)) → IfOk r (IsRewrittenFrom flags source input)
+pub written_from : (flags : ParserOptions) (source input : List ℕ) (ps : List (ParserEvent × Option (ℕ × ℕ))) (r : Result Rewritten RewriteError) → IsTextOf input (map (pair_view text_of) ps) → IfOk r (IsWrittenAfterMark (reading_under flags) source (given_events ps)) → IfOk r (IsRewrittenFrom flags source input)
 written_from flags source input ps r is h =
-    IfOk-weaker r (IsWrittenFor (reading_under flags) source (given_events ps)) (IsRewrittenFrom flags source input) (λ answer w. record {
+    IfOk-weaker r (IsWrittenAfterMark (reading_under flags) source (given_events ps)) (IsRewrittenFrom flags source input) (λ answer w. record {
       pairs = map (pair_view text_of) ps;
       is_text = is;
-      is_written = subst (λ (es : List EventView). IsWrittenFor (reading_under flags) source es answer) (given_read ps) w;
+      is_written = subst (λ (es : List EventView). IsWrittenAfterMark (reading_under flags) source es answer) (given_read ps) w;
     }) h
 
-of_block : (flags : ParserOptions) (source input : List ℕ) (pairs : List Pair) → IsTextOf input pairs → (e : RewriteError) → IsOfBlock (reading_under flags) source (without_range pairs) e → IsRewriteCause flags source input e
+of_block : (flags : ParserOptions) (source input : List ℕ) (pairs : List Pair) → IsTextOf input pairs → (e : RewriteError) → IsOfBlock (reading_under flags) (after_mark source) (without_range pairs) e → IsRewriteCause flags source input e
 of_block flags source input pairs is (rewrite_error.NotJson e) h = absurd h
 of_block flags source input pairs is (rewrite_error.NotEvents e) h = absurd h
 of_block flags source input pairs is (rewrite_error.Refused p e) h = (pairs, is, h)
@@ -60,10 +62,22 @@ of_block flags source input pairs is (rewrite_error.ReadOtherwise p) h = (pairs,
 of_block flags source input pairs is rewrite_error.OutOfMemory h = tt
 
 -- an error that names a block comes from events that were changed
-pub blocks_of : {A : Type 0} (flags : ParserOptions) (source input : List ℕ) (ps : List (ParserEvent × Option (ℕ × ℕ))) (r : Result A RewriteError) → IsTextOf input (map (pair_view text_of) ps) → IfErr r (IsOfBlock (reading_under flags) source (given_events ps)) → IfErr r (IsRewriteCause flags source input)
+pub blocks_of : {A : Type 0} (flags : ParserOptions) (source input : List ℕ) (ps : List (ParserEvent × Option (ℕ × ℕ))) (r : Result A RewriteError) → IsTextOf input (map (pair_view text_of) ps) → IfErr r (IsOfBlock (reading_under flags) (after_mark source) (given_events ps)) → IfErr r (IsRewriteCause flags source input)
 blocks_of flags source input ps r is h =
-    IfErr-weaker r (IsOfBlock (reading_under flags) source (given_events ps)) (IsRewriteCause flags source input) (λ e w.
-    of_block flags source input (map (pair_view text_of) ps) is e (subst (λ (es : List EventView). IsOfBlock (reading_under flags) source es e) (given_read ps) w)) h
+    IfErr-weaker r (IsOfBlock (reading_under flags) (after_mark source) (given_events ps)) (IsRewriteCause flags source input) (λ e w.
+    of_block flags source input (map (pair_view text_of) ps) is e (subst (λ (es : List EventView). IsOfBlock (reading_under flags) (after_mark source) es e) (given_read ps) w)) h
+
+no_mark : (text : List ℕ) → has_mark text ≡ false → mark_of text ≡ []
+no_mark text e = rw e refl
+
+-- without a mark, what is rewritten is the source
+pub unmarked : (reading : List ℕ → ReadingView) (source : List ℕ) (given : List EventView) (r : Result Rewritten RewriteError) → has_mark source ≡ false → IfOk r (IsWrittenFor reading source given) → IfOk r (IsWrittenAfterMark reading source given)
+unmarked reading source given r none h =
+    IfOk-weaker r (IsWrittenFor reading source given) (IsWrittenAfterMark reading source given) (λ answer w. record {
+      rest = answer;
+      is_written = subst (λ (s : List ℕ). IsWrittenFor reading s given answer) (sym (rest-unmarked source none)) w;
+      is_marked = record { text = ap (λ (s : List ℕ). s ++ string_bytes answer.text) (sym (no_mark source none)); parts = refl; trees = refl };
+    }) h
 
 -- a fault that isn't of memory has its cause, so each has
 pub caused : (reading : List ℕ → ReadingView) (source : List ℕ) (given : List EventView) (f : Fault) → (f ≢ fault.OutOfMemory → HasItsCause reading source given f) → HasItsCause reading source given f

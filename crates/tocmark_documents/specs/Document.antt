@@ -1,9 +1,7 @@
 -- When a written document says what its events say.
 use Rattle.std.specs.Prelude.{◌≡◌, ◌+◌, ◌<◌, ◌&&◌, ℕ, List, ◌∷◌, Bool, false, drop, length, map}
 use Rattle.std.specs.List.{common_prefix_len}
-use Rattle.tocmark_reader.specs.Reading.{reading_of}
-use Rattle.tocmark_reader.specs.Flags.{syntax_of}
-use Rattle.tocmark_read_scan.specs.declared.syntax.Names.TheVariants.{All}
+use Rattle.tocmark_marked.specs.Marked.{marked_reading}
 use Rattle.tocmark_event.specs.Merged.{merged}
 use Rattle.tocmark_event.specs.Options.{OptionsView}
 use Rattle.tocmark_event.specs.View.{EventView}
@@ -15,9 +13,9 @@ use Rattle.tocmark_spelling.specs.Kinds.{is_text}
 use Rattle.tocmark_spelling.specs.SameEvents.{same_event}
 use Rattle.tocmark_state.specs.Ranges.{Pair}
 
--- the events that the reader of extensions finds in a text under these flags
+-- the events that are read in a text under these flags
 abbrev pub events_read : ParserOptions → List ℕ → List EventView
-events_read flags text = map (λ e. e.0) (reading_of (syntax_of All flags) text).events
+events_read flags text = map (λ e. e.0) (marked_reading flags text).events
 
 -- the events without their ranges
 abbrev pub without_range : List Pair → List EventView

@@ -5,9 +5,9 @@ use Rattle.std.specs.List.{concat}
 use Rattle.std.specs.Slice.Iter.{iter_rest}
 use Rattle.serde_json.specs.Data.{Data}
 use Rattle.serde_json.specs.Read.{read}
-use Rattle.serde_json.specs.Written.{IsInOrder}
+use Rattle.serde_json.specs.Written.{compact_text}
 use Rattle.tocmark_reader.specs.Reading.{reading_of}
-use Rattle.tocmark_reader.specs.Flags.{syntax_of, unit_syntax_of}
+use Rattle.tocmark_reader.specs.Flags.{unit_syntax_of}
 use Rattle.tocmark_read_scan.specs.declared.syntax.Names.TheVariants.{All}
 use Rattle.tocmark_event.specs.Options.{OptionsView, default_options}
 use Rattle.tocmark_event.specs.Text.{text_of}
@@ -21,6 +21,7 @@ use Rattle.tocmark_json.specs.Json.{IsPairsJson, events_json, listed, located_js
 use Rattle.tocmark_json.specs.Positions.{span_of}
 use Rattle.tocmark_documents.specs.Options.{IsOptionFault, IsOptionsJson, fault_line, is_options_object}
 use Rattle.tocmark_json.specs.declared.positions.Span.{Span}
+use Rattle.tocmark_marked.specs.Marked.{marked_reading}
 use Rattle.tocmark_rewrite.specs.declared.fault.Place.{Place}
 use Rattle.tocmark_documents.specs.Places.{IsPlaceIn}
 use Rattle.tocmark_state.specs.Ranges.{Pair, Range, unranged}
@@ -51,17 +52,17 @@ abbrev pub source_text : Option (Bor (List ℕ)) → List ℕ
 source_text (Some text) = text.now
 source_text None = []
 
--- the JSON of what the reader of extensions finds in a text under these flags
+-- the JSON of what is read in a text under these flags
 abbrev pub reading_json : ParserOptions → List ℕ → Data
-reading_json flags text = pairs_json (map (λ e. (e.0, Some e.1)) (reading_of (syntax_of All flags) text).events)
+reading_json flags text = pairs_json (map (λ e. (e.0, Some e.1)) (marked_reading flags text).events)
 
 -- an event with its range in a text, and the lines and columns of that
 abbrev pub located_in : List ℕ → EventView × Range → Pair × Option Span
 located_in text e = ((e.0, Some e.1), Some (span_of text e.1))
 
--- the JSON of what the reader of extensions finds in a text under these flags, with lines and columns
+-- the JSON of what is read in a text under these flags, with lines and columns
 abbrev pub reading_located : ParserOptions → List ℕ → Data
-reading_located flags text = listed located_json (map (located_in text) (reading_of (syntax_of All flags) text).events)
+reading_located flags text = listed located_json (map (located_in text) (marked_reading flags text).events)
 
 -- what events with ranges come to over a source, under these options and flags: a unit that is read back needs no
 -- definitions of footnotes, since these are units of their own
@@ -96,9 +97,9 @@ IsPlainForm value form =
     ((pairs : List Pair) × IsPairsJson value pairs × (form ≡ pairs_json pairs))
     ⊎ ((es : List EventView) × (value ≡ events_json es) × (form ≡ events_json es))
 
--- the text of such a value: each item and member once and in order
+-- the text of such a value, without spaces and with each member in order
 abbrev pub IsAgain : Data → List ℕ → Type 0
-IsAgain value output = (form : Data) × IsPlainForm value form × IsInOrder output form
+IsAgain value output = (form : Data) × IsPlainForm value form × (output ≡ compact_text form)
 
 -- the JSON of some events, written again without lines and columns
 pub record IsWrittenAgain (input output : List ℕ) : Type 0 where

@@ -18,9 +18,7 @@ use Rattle.tocmark_json.specs.declared.fault.Fault.TheVariants as fault
 use Rattle.tocmark_json.specs.declared.fault.JsonError.{JsonError}
 use Rattle.tocmark_json.specs.declared.fault.JsonError.TheVariants as error
 use Rattle.tocmark_json.specs.declared.positions.Positions.{Positions}
-use Rattle.tocmark_read_scan.specs.declared.syntax.Names.TheVariants.{All}
-use Rattle.tocmark_reader.specs.Flags.{syntax_of}
-use Rattle.tocmark_reader.specs.Reading.{reading_of}
+use Rattle.tocmark_marked.specs.Marked.{marked_reading}
 use Rattle.tocmark_state.specs.Ranges.{Pair, Range}
 
 -- a comma is before each byte after a line feed
@@ -40,13 +38,13 @@ json_of false input = input
 
 -- ---- read
 
--- the lines of JSON of what the reader of extensions finds in a text under these flags
+-- the lines of JSON of what is read in a text under these flags
 abbrev pub reading_lines : ParserOptions → List ℕ → List ℕ
-reading_lines flags text = lines_text (map (λ e. (e.0, Some e.1)) (reading_of (syntax_of All flags) text).events)
+reading_lines flags text = lines_text (map (λ e. (e.0, Some e.1)) (marked_reading flags text).events)
 
 -- the same with lines and columns
 abbrev pub reading_located_lines : ParserOptions → List ℕ → List ℕ
-reading_located_lines flags text = located_lines (map (located_in text) (reading_of (syntax_of All flags) text).events)
+reading_located_lines flags text = located_lines (map (located_in text) (marked_reading flags text).events)
 
 -- the lines of some events, with lines and columns if the text's places are known
 abbrev pub lines_with : Option Positions → List (EventView × Range) → List ℕ

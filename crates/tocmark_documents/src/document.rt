@@ -19,7 +19,7 @@ use tocmark::event::{Event, ParserOptions};
 use tocmark::reader::Reader;
 use tocmark_compare::event::same_event;
 use tocmark_compare::same::{are_same, is_text, merged_events};
-use tocmark_reader::{ExtendedReader, Names};
+use tocmark_marked::MarkedReader;
 
 /// What a reader found: events with their ranges.
 type Found<'f> = (Event<'f>, (usize, usize));
@@ -112,8 +112,7 @@ fn lost(
     ensures place { IfOk result (λ answer. IfSome answer (IsFirstLost (events_read flags text.now)
         (without_range (map (pair_view text_of) given.now)))) }
 {
-    let reader = ExtendedReader { names: Names::All };
-    let reading = reader.read(alloc, text, flags)?;
+    let reading = MarkedReader.read(alloc, text, flags)?;
     difference(alloc, &reading.events, given)
 }
 

@@ -4,7 +4,7 @@ ghost use Rattle.std.specs.Prelude.{◌≡◌, [], ◌∷◌, ◌++◌, IfOk, On
 ghost use Rattle.std.specs.Io.KnownBytes.{Appends};
 ghost use Rattle.tocmark_event.specs.Reading.{reading_view};
 ghost use Rattle.tocmark_documents.specs.Lines.{AppendsFront, AppendsUpTo, AreRight, array_of, lines_with, reading_lines, reading_located_lines, with_commas};
-ghost use Rattle.tocmark_reader.specs.Left.{reading_left};
+ghost use Rattle.tocmark_marked.specs.Marked.{blocks_left};
 
 use std::alloc::{AllocError, Global};
 use std::io;
@@ -14,7 +14,7 @@ use tocmark::reader::Reading;
 use tocmark_json::locating::indexed_to_lines;
 use tocmark_json::positions::Positions;
 use tocmark_json::printing::ranged_to_lines;
-use tocmark_reader::{BlockReading, ExtendedReader, Names};
+use tocmark_marked::{MarkedBlocks, MarkedReader};
 
 /// How many bytes of lines are gathered before they are written.
 const GATHERED: usize = 65_536;
@@ -118,15 +118,15 @@ fn pass_on<O: Write>(lines: &mut String, output: &mut O) -> io::Result<()>
 /// Writes the lines of all events that are left.
 fn stream<O: Write>(
     alloc: Global,
-    blocks: &mut BlockReading<'_>,
+    blocks: &mut MarkedBlocks<'_>,
     positions: &Option<Positions<'_>>,
     output: &mut O,
 ) -> Result<(), StreamError>
     requires { AreRight positions.now }
     ensures whole { OnOk result (Appends (O.contents output.old) (O.contents output.new)
-        (lines_with positions.now (reading_left blocks.old).events)) }
+        (lines_with positions.now (blocks_left blocks.old).events)) }
     ensures front { OnErr result (AppendsFront (O.contents output.old) (O.contents output.new)
-        (lines_with positions.now (reading_left blocks.old).events)) }
+        (lines_with positions.now (blocks_left blocks.old).events)) }
 {
     let mut lines = String::new(alloc);
     while let Some(part) = blocks.next_events()? {
@@ -140,7 +140,8 @@ fn stream<O: Write>(
 }
 
 /// Parses Markdown with the extended reader under these flags, and writes its events as JSON: a line for each event
-/// with its range in bytes. Neither all events nor all lines are in memory at once. The output isn't flushed.
+/// with its range in bytes. A byte order mark at the front is no text, as for `read_json`. Neither all events nor all lines
+/// are in memory at once. The output isn't flushed.
 ///
 /// It fails if the output does (`Output`), or if memory runs out (`OutOfMemory`). Then the output has a front of the lines.
 ///
@@ -160,8 +161,7 @@ pub fn stream_lines<O: Write>(
     ensures front { OnErr result (AppendsFront (O.contents output.old) (O.contents output.new)
         (reading_lines flags text.now)) }
 {
-    let reader = ExtendedReader { names: Names::All };
-    let mut blocks = reader.blocks(alloc, text, flags)?;
+    let mut blocks = MarkedReader.blocks(alloc, text, flags)?;
     let positions = None;
     let streamed = stream(alloc, &mut blocks, &positions, output);
     drop(blocks);
@@ -184,8 +184,7 @@ pub fn stream_located_lines<O: Write>(
 {
     let places = Positions::new(alloc, text)?;
     let positions = Some(places);
-    let reader = ExtendedReader { names: Names::All };
-    let mut found = reader.blocks(alloc, text, flags)?;
+    let mut found = MarkedReader.blocks(alloc, text, flags)?;
     let streamed = stream(alloc, &mut found, &positions, output);
     drop(found);
     streamed

@@ -8,10 +8,11 @@ use std::alloc::Global;
 use tocmark::event::ParserOptions;
 use tocmark::reader::Reader;
 use tocmark_json::marshalling::{MarshalError, events_to_marshal};
-use tocmark_reader::{ExtendedReader, Names};
+use tocmark_marked::MarkedReader;
 
 /// Parses Markdown with the extended reader under these flags, and returns the bytes of which Python's `marshal.loads`
-/// makes its events, as `events_to_marshal` has them. The ranges count bytes.
+/// makes its events, as `events_to_marshal` has them. The ranges count bytes, and a byte order mark at the front is no text,
+/// as for `read_json`.
 ///
 /// It fails if the bytes would be too many for Python, or if memory runs out.
 pub fn read_marshal(
@@ -22,8 +23,7 @@ pub fn read_marshal(
     ensures bytes { IfOk result (λ output. output.items ≡ reading_bytes flags text.now) }
     ensures error { IfErr result (IsTooLong (reading_bytes flags text.now)) }
 {
-    let reader = ExtendedReader { names: Names::All };
-    match reader.read(alloc, text, flags) {
+    match MarkedReader.read(alloc, text, flags) {
         Ok(reading) => events_to_marshal(alloc, &reading.events),
         Err(_) => Err(MarshalError::OutOfMemory),
     }

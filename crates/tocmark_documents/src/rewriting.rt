@@ -1,18 +1,19 @@
 //! Rewrites documents to the events of a JSON text.
 
-ghost use Rattle.std.specs.Prelude.{ℕ, IfErr, IfOk, List, map};
+ghost use Rattle.std.specs.Prelude.{◌++◌, ℕ, IfErr, IfOk, List};
 ghost use Rattle.tocmark_event.specs.Reading.{ReadingView};
 ghost use Rattle.tocmark_event.specs.Text.{text_of};
 ghost use Rattle.tocmark_event.specs.View.{EventView};
 ghost use Rattle.tocmark_compare.specs.Given.{given_events};
 ghost use Rattle.tocmark_json.specs.Json.{pair_view};
 ghost use Rattle.tocmark_event.specs.declared.event.flags.ParserOptions.{ParserOptions};
+ghost use Rattle.tocmark_judge.specs.Marks.{after_mark, mark};
 ghost use Rattle.tocmark_rewrite.specs.Edited.{HasItsCause, IsWrittenFor};
 ghost use Rattle.tocmark_documents.specs.Document.{without_range};
 ghost use Rattle.tocmark_documents.specs.Interchange.{IsNoEvents};
-ghost use Rattle.tocmark_documents.specs.Rewriting.{IsOfBlock, IsRewriteCause, IsRewrittenFrom, reading_under};
+ghost use Rattle.tocmark_documents.specs.Rewriting.{IsAfterMark, IsOfBlock, IsRewriteCause, IsRewrittenFrom, IsWrittenAfterMark, reading_under};
 
-use crate::aligning::aligned;
+use crate::aligning::{aligned, in_rest};
 use crate::fault::{RewriteError, WriteError};
 use crate::pairs::{EventPairs, Placed};
 use crate::refusal::{place_at, unbalanced};
@@ -20,6 +21,7 @@ use crate::writing::{lent, pairs_in};
 use std::alloc::{AllocError, Global};
 use tocmark::event::ParserOptions;
 use tocmark::{Error, Options};
+use tocmark_judge::mark::{with_mark, without_mark};
 use tocmark_reader::{ExtendedReader, Names};
 use tocmark_rewrite::{Fault, Place, Rewritten, rewritten};
 
@@ -80,6 +82,55 @@ fn rewritten_pairs(
     }
 }
 
+/// The answer for the text after a mark, with the mark in front of its text.
+fn with_mark_again(alloc: Global, rest: Rewritten) -> Result<Rewritten, AllocError>
+    ensures { IfOk result (λ answer. (after : List ℕ)
+        → IsAfterMark (mark ++ after) rest.entry answer) }
+{
+    let Rewritten { text, parts, trees } = rest;
+    let text = with_mark(alloc, text.as_str())?;
+    Ok(Rewritten { text, parts, trees })
+}
+
+/// The source that has a mark before this text, rewritten to these events.
+fn rewritten_after_mark(
+    alloc: Global,
+    pairs: Vec<Placed<'static>>,
+    rest: &str,
+    flags: ParserOptions,
+    options: Options<'_>,
+) -> Result<Rewritten, RewriteError>
+    ensures edited { IfOk result (IsWrittenAfterMark (reading_under flags) (mark ++ rest.now)
+        (given_events pairs.entry.items)) }
+    ensures block { IfErr result (IsOfBlock (reading_under flags) rest.now
+        (given_events pairs.entry.items)) }
+{
+    let placed = in_rest(alloc, pairs)?;
+    match rewritten_pairs(alloc, placed, rest, flags, options) {
+        Ok(answer) => Ok(with_mark_again(alloc, answer)?),
+        Err(error) => Err(error),
+    }
+}
+
+/// The source, rewritten to these events. Its byte order mark is no text, and stays.
+fn rewritten_source(
+    alloc: Global,
+    pairs: Vec<Placed<'static>>,
+    source: &str,
+    flags: ParserOptions,
+    options: Options<'_>,
+) -> Result<Rewritten, RewriteError>
+    ensures edited { IfOk result (IsWrittenAfterMark (reading_under flags) source.now
+        (given_events pairs.entry.items)) }
+    ensures block { IfErr result (IsOfBlock (reading_under flags) (after_mark source.now)
+        (given_events pairs.entry.items)) }
+{
+    match without_mark(source) {
+        Some(rest) => rewritten_after_mark(alloc, pairs, rest, flags, options),
+        None => rewritten_pairs(alloc, pairs, source, flags, options),
+    }
+}
+
 /// Why a text is not the JSON of events.
 fn not_events(error: WriteError) -> RewriteError
     ensures { (flags : ParserOptions) → (source input : List ℕ) → IsNoEvents input error
@@ -100,7 +151,9 @@ fn not_events(error: WriteError) -> RewriteError
 /// removed some. If no event has a range, blocks of the source are found by their events. Else a new event has no
 /// range, or the range of what it replaces.
 ///
-/// The new text parses to just these events, with neighbouring texts joined. It is the source if nothing was changed.
+/// The new text parses to just these events, with neighbouring texts joined. It is the source if nothing was changed. A
+/// byte order mark at the front of the source stays there. It is no text: the events are those of what follows it, and the
+/// bytes in the answer's parts and trees are counted from there.
 ///
 /// It fails if the text isn't JSON (`NotJson`), or not the JSON of events (`NotEvents`, with the number of the first
 /// element that is none), if a block has no text (`Refused` and `ReadOtherwise`, with the number of the block's first
@@ -125,7 +178,7 @@ pub fn rewrite_json(
     ensures cause { IfErr result (IsRewriteCause flags source.now json.now) }
 {
     match pairs_in(alloc, json) {
-        Ok(pairs) => rewritten_pairs(alloc, pairs, source, flags, options),
+        Ok(pairs) => rewritten_source(alloc, pairs, source, flags, options),
         Err(error) => Err(not_events(error)),
     }
 }

@@ -1,7 +1,7 @@
 -- What the program reads and writes.
 use Rattle.std.specs.Prelude.{◌≡◌, ◌⊎◌, ◌&&◌, ℕ, Bool, List, None, Option, Some, false, is_some, true}
 use Rattle.std.specs.Io.KnownBytes.{Appends}
-use Rattle.serde_json.specs.Written.{IsInOrder}
+use Rattle.serde_json.specs.Written.{compact_text}
 use Rattle.tocmark_event.specs.Options.{options_view}
 use Rattle.tocmark_event.specs.declared.event.flags.ParserOptions.{ParserOptions}
 use Rattle.tocmark_documents.specs.Document.{IsWrittenTheSame}
@@ -26,8 +26,8 @@ joins_lines (job.Rewrite flags options file reports lines) = lines
 
 -- an array of events is read from a text, with lines and columns or without
 abbrev pub IsReadAs : ParserOptions → Bool → List ℕ → List ℕ → Type 0
-IsReadAs flags false text output = IsInOrder output (reading_json flags text)
-IsReadAs flags true text output = IsInOrder output (reading_located flags text)
+IsReadAs flags false text output = output ≡ compact_text (reading_json flags text)
+IsReadAs flags true text output = output ≡ compact_text (reading_located flags text)
 
 -- the lines of events that are read from a text, with lines and columns or without
 abbrev pub lines_read : ParserOptions → Bool → List ℕ → List ℕ
@@ -61,8 +61,10 @@ IsWriteFault (fault.NotOptions e) = ⊥
 IsWriteFault fault.NotUtf8 = ⊥
 IsWriteFault (fault.NotJson e) = ⊥
 IsWriteFault (fault.NotEvents e) = ⊥
+IsWriteFault (fault.NoEvent n value wanted) = ⊥
 IsWriteFault (fault.Refused e) = ⊥
 IsWriteFault (fault.NotRewritten e) = ⊥
+IsWriteFault (fault.Contested e label) = ⊥
 IsWriteFault (fault.Changed n) = ⊥
 IsWriteFault fault.OutOfMemory = ⊥
 IsWriteFault fault.Write = Unit {0}

@@ -1,7 +1,7 @@
 //! The answers to calls.
 
 ghost use Rattle.std.specs.Prelude.{◌≡◌, IfErr, IfOk, string_bytes};
-ghost use Rattle.serde_json.specs.Written.{IsInOrder};
+ghost use Rattle.serde_json.specs.Written.{compact_text};
 ghost use Rattle.tocmark_event.specs.Options.{options_view};
 ghost use Rattle.tocmark_documents.specs.Document.{IsWrittenTheSame};
 ghost use Rattle.tocmark_documents.specs.Interchange.{IsWrittenAgain, IsWrittenFrom, reading_json, reading_located};
@@ -11,6 +11,7 @@ ghost use Rattle.tocmark_outline.specs.Defining.{IsDefinitionsJson};
 ghost use Rattle.tocmark_events_program.specs.Events.{IsAnswer, IsMade, IsReadAs, IsWriteFault};
 
 use crate::arguments::Job;
+use crate::explained::explained;
 use crate::fault::Fault;
 use std::alloc::Global;
 use tocmark::Options;
@@ -45,7 +46,7 @@ fn only(alloc: Global, text: String) -> Answer
 fn read_events(alloc: Global, text: &str, flags: ParserOptions) -> Result<Answer, Fault>
     ensures fault { IfErr result (λ fault. ¬ (IsWriteFault fault)) }
     ensures read { IfOk result (λ answer.
-        IsInOrder (string_bytes answer.text) (reading_json flags text.now)) }
+        string_bytes answer.text ≡ compact_text (reading_json flags text.now)) }
 {
     let output = read_json(alloc, text, flags)?;
     Ok(only(alloc, output))
@@ -55,7 +56,7 @@ fn read_events(alloc: Global, text: &str, flags: ParserOptions) -> Result<Answer
 fn read_located_events(alloc: Global, text: &str, flags: ParserOptions) -> Result<Answer, Fault>
     ensures fault { IfErr result (λ fault. ¬ (IsWriteFault fault)) }
     ensures read { IfOk result (λ answer.
-        IsInOrder (string_bytes answer.text) (reading_located flags text.now)) }
+        string_bytes answer.text ≡ compact_text (reading_located flags text.now)) }
 {
     let output = read_located(alloc, text, flags)?;
     Ok(only(alloc, output))
@@ -213,8 +214,8 @@ fn made_of_lines(alloc: Global, job: Job<'_>, source: &str, lines: &str) -> Resu
     made(alloc, job, source, json.as_str())
 }
 
-/// What a job makes of its input.
-pub fn answered(alloc: Global, job: Job<'_>, source: &str, input: &str) -> Result<Answer, Fault>
+/// What a job makes of its input, if there is no fault.
+fn tried(alloc: Global, job: Job<'_>, source: &str, input: &str) -> Result<Answer, Fault>
     ensures fault { IfErr result (λ fault. ¬ (IsWriteFault fault)) }
     ensures answers { IfOk result (λ answer.
         IsAnswer job.entry source.now input.now (string_bytes answer.text)) }
@@ -223,5 +224,17 @@ pub fn answered(alloc: Global, job: Job<'_>, source: &str, input: &str) -> Resul
         made_of_lines(alloc, job, source, input)
     } else {
         made(alloc, job, source, input)
+    }
+}
+
+/// What a job makes of its input.
+pub fn answered(alloc: Global, job: Job<'_>, source: &str, input: &str) -> Result<Answer, Fault>
+    ensures fault { IfErr result (λ fault. ¬ (IsWriteFault fault)) }
+    ensures answers { IfOk result (λ answer.
+        IsAnswer job.entry source.now input.now (string_bytes answer.text)) }
+{
+    match tried(alloc, job, source, input) {
+        Ok(answer) => Ok(answer),
+        Err(fault) => Err(explained(alloc, job, input, fault)),
     }
 }

@@ -28,10 +28,16 @@ pub enum Fault {
     NotJson(serde_json::Error),
     #[error("{0}")]
     NotEvents(JsonError),
+    /// The element of this number has this value in the place of an event, and not what is wanted.
+    #[error("event {0}: found {1}, expected {2}")]
+    NoEvent(usize, String, &'static str),
     #[error("{0}")]
     Refused(WriteError),
     #[error("{0}")]
     NotRewritten(RewriteError),
+    /// Links by this label lead to different destinations.
+    #[error("{0}: links by the label {1} share its definition, so give them one destination and title, or make one Inline")]
+    Contested(RewriteError, String),
     #[error("event {0}: the output would parse differently (--unchecked writes it)")]
     Changed(usize),
     #[error("out of memory")]

@@ -3,12 +3,14 @@
 //!
 //! It is on `tocmark_documents`, which makes its answers, and on `tocmark_command`, which has what it shares with the
 //! formatter. `answer` asks for the answer to a call, and `edited` puts it in the place of a file. `arguments` has the
-//! program's options, `settings` sets those of the writer, and `fault` has the messages on standard error.
+//! program's options, `settings` sets those of the writer, and `fault` has the messages on standard error. `explained` adds
+//! what the input says about a fault.
 #![tactic(auto)]
 
 mod answer;
 mod arguments;
 mod edited;
+mod explained;
 mod fault;
 mod settings;
 

@@ -3,9 +3,8 @@ use Rattle.std.specs.Prelude.{◌≡◌, ℕ, List, [], ◌∷◌, ◌++◌, Boo
 use Rattle.json.specs.Print.{print}
 use Rattle.json.specs.Token.{Token, begin_array, begin_object, boolean, end_array, end_object, key, number, string}
 use Rattle.tocmark_event.specs.declared.event.flags.ParserOptions.{ParserOptions}
-use Rattle.tocmark_read_scan.specs.declared.syntax.Names.TheVariants.{All}
-use Rattle.tocmark_reader.specs.Definitions.{SaidDefinition, definitions_of, said_view}
-use Rattle.tocmark_reader.specs.Flags.{syntax_of}
+use Rattle.tocmark_marked.specs.Marked.{marked_definitions}
+use Rattle.tocmark_reader.specs.Definitions.{SaidDefinition, said_view}
 use Rattle.tocmark_outline.specs.declared.defining.Listed.{Listed}
 
 -- a definition, and whether it is used
@@ -36,5 +35,5 @@ definition_tokens d =
 -- an array of the definitions of a text, each with a boolean
 abbrev pub IsDefinitionsJson : ParserOptions → List ℕ → List ℕ → Type 0
 IsDefinitionsJson flags text output =
-    (all : List (SaidDefinition × Bool)) × (map (λ d. d.0) all ≡ definitions_of (syntax_of All flags) text)
+    (all : List (SaidDefinition × Bool)) × (map (λ d. d.0) all ≡ marked_definitions flags text)
     × (output ≡ print (begin_array ∷ flat_map definition_tokens all ++ end_array ∷ []))

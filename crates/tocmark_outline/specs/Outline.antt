@@ -7,9 +7,7 @@ use Rattle.tocmark_event.specs.View.{EventView, Start, End, Leaf, TagView, Headi
 use Rattle.tocmark_event.specs.declared.event.flags.ParserOptions.{ParserOptions}
 use Rattle.tocmark_json.specs.Json.{pairs_json}
 use Rattle.tocmark_read_scan.specs.Basic.{plus}
-use Rattle.tocmark_read_scan.specs.declared.syntax.Names.TheVariants.{All}
-use Rattle.tocmark_reader.specs.Flags.{syntax_of}
-use Rattle.tocmark_reader.specs.Reading.{reading_of}
+use Rattle.tocmark_marked.specs.Marked.{marked_reading}
 use Rattle.tocmark_outline.specs.declared.selecting.Selection.{Selection}
 use Rattle.tocmark_outline.specs.declared.selecting.Wanted.{Wanted}
 use Rattle.tocmark_outline.specs.declared.selecting.Wanted.TheVariants as wanted
@@ -58,4 +56,4 @@ selected w es = (fold (select w) ([], 0) es).0
 -- their JSON, with their ranges
 abbrev pub listed : Wanted → ParserOptions → List ℕ → Data
 listed w flags text =
-    pairs_json (map (λ e. (e.0, Some e.1)) (selected w (reading_of (syntax_of All flags) text).events))
+    pairs_json (map (λ e. (e.0, Some e.1)) (selected w (marked_reading flags text).events))

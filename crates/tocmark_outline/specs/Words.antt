@@ -5,9 +5,7 @@ use Rattle.tocmark_event.specs.View.{EventView, Start, End, Leaf, TagView, Metad
 use Rattle.tocmark_event.specs.declared.event.TagEnd.{TagEnd}
 use Rattle.tocmark_event.specs.declared.event.TagEnd.TheVariants as end
 use Rattle.tocmark_event.specs.declared.event.flags.ParserOptions.{ParserOptions}
-use Rattle.tocmark_read_scan.specs.declared.syntax.Names.TheVariants.{All}
-use Rattle.tocmark_reader.specs.Flags.{syntax_of}
-use Rattle.tocmark_reader.specs.Reading.{reading_of}
+use Rattle.tocmark_marked.specs.Marked.{marked_reading}
 use Rattle.tocmark_spelling.specs.Kinds.{is_inline_end}
 use Rattle.tocmark_outline.specs.declared.saying.Saying.{Saying}
 
@@ -64,4 +62,4 @@ silent = record { text = []; is_open = false; is_hidden = false }
 -- the words of what is read in a text under these flags
 abbrev pub words_under : ParserOptions → List ℕ → List ℕ
 words_under flags text =
-    (fold (λ s (e : EventView × (ℕ × ℕ)). say s e.0) silent (reading_of (syntax_of All flags) text).events).text
+    (fold (λ s (e : EventView × (ℕ × ℕ)). say s e.0) silent (marked_reading flags text).events).text

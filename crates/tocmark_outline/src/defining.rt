@@ -11,8 +11,9 @@ use std::alloc::{AllocError, Global};
 use std::collections::HashMap;
 use tocmark_event::event::{Event, LinkType, ParserOptions, Tag};
 use tocmark_event::reader::Reader;
+use tocmark_marked::MarkedReader;
 use tocmark_read_tokens::label::{first_places, key_of};
-use tocmark_reader::{ExtendedReader, Names, ReferenceDefinition};
+use tocmark_reader::ReferenceDefinition;
 
 /// A definition, and whether a link or an image leads to it.
 #[derive(Drop)]
@@ -177,9 +178,8 @@ fn listing(alloc: Global, all: &[Listed]) -> Result<String, AllocError>
 pub fn definitions(alloc: Global, text: &str, flags: ParserOptions) -> Result<String, AllocError>
     ensures { IfOk result (λ output. IsDefinitionsJson flags text.now (string_bytes output)) }
 {
-    let reader = ExtendedReader { names: Names::All };
-    let found = reader.definitions(alloc, text, flags)?;
-    let reading = reader.read(alloc, text, flags)?;
+    let found = MarkedReader.definitions(alloc, text, flags)?;
+    let reading = MarkedReader.read(alloc, text, flags)?;
     let uses = uses(alloc, &found, &reading.events)?;
     let all = with_uses(alloc, found, &uses)?;
     listing(alloc, &all)

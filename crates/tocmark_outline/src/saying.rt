@@ -8,7 +8,7 @@ ghost use Rattle.tocmark_outline.specs.Words.{add_words, begin, break_line, clos
 use std::alloc::{AllocError, Global};
 use tocmark_event::event::{Event, ParserOptions, Tag, TagEnd};
 use tocmark_event::reader::Reader;
-use tocmark_reader::{ExtendedReader, Names};
+use tocmark_marked::MarkedReader;
 use tocmark_spelling::kinds::is_inline_end;
 
 /// The words so far.
@@ -108,8 +108,7 @@ impl Saying {
 pub fn words(alloc: Global, text: &str, flags: ParserOptions) -> Result<String, AllocError>
     ensures { IfOk result (λ output. string_bytes output ≡ words_under flags text.now) }
 {
-    let reader = ExtendedReader { names: Names::All };
-    let reading = reader.read(alloc, text, flags)?;
+    let reading = MarkedReader.read(alloc, text, flags)?;
     let mut saying = Saying {
         text: String::new(alloc),
         is_open: false,

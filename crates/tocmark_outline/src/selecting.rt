@@ -1,7 +1,7 @@
 //! The events of links, or of headings.
 
 ghost use Rattle.std.specs.Prelude.{◌≡◌, IfOk, OnOk, map, string_bytes};
-ghost use Rattle.serde_json.specs.Written.{IsInOrder};
+ghost use Rattle.serde_json.specs.Written.{compact_text};
 ghost use Rattle.tocmark_event.specs.Text.{text_of};
 ghost use Rattle.tocmark_event.specs.View.{event_view, tag_view};
 ghost use Rattle.tocmark_outline.specs.Outline.{depth_after, is_wanted, listed, select, selected, selection_view, placed};
@@ -10,7 +10,7 @@ use std::alloc::{AllocError, Global};
 use tocmark_event::event::{Event, ParserOptions, Tag};
 use tocmark_event::reader::Reader;
 use tocmark_json::printing::ranged_to_text;
-use tocmark_reader::{ExtendedReader, Names};
+use tocmark_marked::MarkedReader;
 
 /// What is wanted of a text.
 #[derive(Clone, Copy)]
@@ -110,10 +110,9 @@ fn listed(
     wanted: Wanted,
 ) -> Result<String, AllocError>
     ensures { IfOk result (λ output.
-        IsInOrder (string_bytes output) (listed wanted flags text.now)) }
+        string_bytes output ≡ compact_text (listed wanted flags text.now)) }
 {
-    let reader = ExtendedReader { names: Names::All };
-    let reading = reader.read(alloc, text, flags)?;
+    let reading = MarkedReader.read(alloc, text, flags)?;
     let kept = selected(alloc, wanted, &reading.events)?;
     let output = ranged_to_text(alloc, &kept)?;
     Ok(output)
@@ -129,7 +128,7 @@ fn listed(
 /// It fails if memory runs out.
 pub fn links(alloc: Global, text: &str, flags: ParserOptions) -> Result<String, AllocError>
     ensures { IfOk result (λ output.
-        IsInOrder (string_bytes output) (listed Wanted.Links flags text.now)) }
+        string_bytes output ≡ compact_text (listed Wanted.Links flags text.now)) }
 {
     listed(alloc, text, flags, Wanted::Links)
 }
@@ -143,7 +142,7 @@ pub fn links(alloc: Global, text: &str, flags: ParserOptions) -> Result<String, 
 /// It fails if memory runs out.
 pub fn headings(alloc: Global, text: &str, flags: ParserOptions) -> Result<String, AllocError>
     ensures { IfOk result (λ output.
-        IsInOrder (string_bytes output) (listed Wanted.Headings flags text.now)) }
+        string_bytes output ≡ compact_text (listed Wanted.Headings flags text.now)) }
 {
     listed(alloc, text, flags, Wanted::Headings)
 }

@@ -11,4 +11,4 @@ returns-in_err-blocks-clause-front g c =
 
 pub returns-clause-front : goal.returns-clause-front
 returns-clause-front g c =
-    subst (λ (v : ReadingView). OnErr c.stream-streamed.result (AppendsFront (g.O.Write.contents c.args.output.now) (g.O.Write.contents c.stream-streamed.new.output) (lines_with None v.events))) c.in_ok-blocks.ensures.left c.stream-streamed.ensures.front
+    subst (λ (v : ReadingView). OnErr c.stream-streamed.result (AppendsFront (g.O.Write.contents c.args.output.now) (g.O.Write.contents c.stream-streamed.new.output) (lines_with None v.events))) c.in_ok-blocks.ensures c.stream-streamed.ensures.front

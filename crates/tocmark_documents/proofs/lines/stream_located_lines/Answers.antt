@@ -2,7 +2,7 @@ use Rattle.std.proofs.Common.{ℕ, List, map, subst}
 use Rattle.std.specs.Prelude.{OnErr}
 use Rattle.tocmark_event.specs.Reading.{ReadingView}
 use Rattle.tocmark_json.specs.Printed.{located_lines}
-use Rattle.tocmark_reader.specs.Left.{reading_left}
+use Rattle.tocmark_marked.specs.Marked.{blocks_left}
 use Rattle.tocmark_documents.specs.Interchange.{located_in}
 use Rattle.tocmark_documents.specs.Lines.{AppendsFront, reading_located_lines}
 use Rattle.tocmark_documents.proofs.LinesStreamed.{nothing_written, on_error}
@@ -20,5 +20,5 @@ pub returns-clause-front : goal.returns-clause-front
 returns-clause-front g c =
     let front = AppendsFront (g.O.Write.contents c.args.output.now) (g.O.Write.contents c.stream-streamed.new.output) in
     let text = c.args.text.now in
-    subst (λ (v : ReadingView). OnErr c.stream-streamed.result (front (located_lines (map (located_in text) v.events)))) c.in_ok-found.ensures.left
-    (subst (λ (t : List ℕ). OnErr c.stream-streamed.result (front (located_lines (map (located_in t) (reading_left c.in_ok-found.found).events)))) c.in_ok-places.ensures.text c.stream-streamed.ensures.front)
+    subst (λ (v : ReadingView). OnErr c.stream-streamed.result (front (located_lines (map (located_in text) v.events)))) c.in_ok-found.ensures
+    (subst (λ (t : List ℕ). OnErr c.stream-streamed.result (front (located_lines (map (located_in t) (blocks_left c.in_ok-found.found).events)))) c.in_ok-places.ensures.text c.stream-streamed.ensures.front)

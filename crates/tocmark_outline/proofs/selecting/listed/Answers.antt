@@ -1,7 +1,6 @@
-use Rattle.std.proofs.Common.{◌≡◌, ◌∙◌, ℕ, Option, Some, map, sym, ap, subst, string_bytes}
+use Rattle.std.proofs.Common.{◌≡◌, ◌∙◌, ℕ, Option, Some, map, sym, ap}
 use mathlib.Core.List.{map-map}
-use Rattle.serde_json.specs.Data.{Data}
-use Rattle.serde_json.specs.Written.{IsInOrder}
+use Rattle.serde_json.specs.Written.{compact_text}
 use Rattle.tocmark_event.specs.Text.{text_of}
 use Rattle.tocmark_event.specs.View.{EventView}
 use Rattle.tocmark_event.specs.Reading.{ReadingView}
@@ -16,4 +15,4 @@ returns c =
     let read = ap (map placed) c.deref.ensures.value ∙ ap (λ (r : ReadingView). r.events) c.in_ok-reading.ensures.reading in
     let all : pairs_json (map (ranged_view text_of) c.deref-2.result.now) ≡ listed c.args.wanted c.args.flags c.args.text.now =
     ap pairs_json (kept ∙ ap (map ranged) (c.in_ok-kept.ensures ∙ ap (selected c.args.wanted) read)) in
-    subst (λ (d : Data). IsInOrder (string_bytes c.in_ok-output.output) d) all c.in_ok-output.ensures.order
+    c.in_ok-output.ensures.text ∙ ap compact_text all
