@@ -1,1 +1,3 @@
 pub mod Erasing
+pub mod Fronts
+pub mod Stretches

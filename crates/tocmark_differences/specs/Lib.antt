@@ -1,3 +1,4 @@
 pub mod Erased
+pub mod First
 pub mod Said
 pub mod Spots

@@ -10,6 +10,7 @@ ghost use Rattle.tocmark_judge.specs.LinkDefinitions.{link_defined};
 ghost use Rattle.tocmark_judge.specs.Marks.{after_mark};
 ghost use Rattle.tocmark_judge.specs.Same.{counted};
 ghost use Rattle.tocmark_differences.specs.Erased.{erased};
+ghost use Rattle.tocmark_differences.specs.First.{IsFirst};
 ghost use Rattle.tocmark_differences.specs.Said.{SayTheSame, definition_event, definition_events, said, said_by};
 
 use crate::align::differences_between;
@@ -18,7 +19,6 @@ use crate::difference::Difference;
 use crate::erase::erased;
 use crate::fold::folded;
 use std::alloc::{AllocError, Global};
-use tocmark_compare::same::are_same;
 use tocmark_event::event::{CowStr, Event, LinkType, ParserOptions, Tag};
 use tocmark_event::reader::Reading;
 use tocmark_judge::PartReader;
@@ -120,7 +120,9 @@ pub fn after_mark(text: &str) -> &str
 }
 
 /// What differs between two texts. There is no difference exactly if both say the same: if a reader finds in both the same
-/// events and the same link definitions but for what is allowed to differ (`same`). A byte order mark at the front is no text.
+/// events and the same link definitions but for what is allowed to differ (`same`). The first difference that is listed is where
+/// both begin to say something else: before it are just the events that they have in common at their front (`first`). A byte
+/// order mark at the front is no text.
 ///
 /// It fails if memory runs out.
 ///
@@ -141,6 +143,10 @@ pub fn compared<R: PartReader>(
 ) -> Result<Vec<Difference>, AllocError>
     ensures same { IfOk result (λ all. (all.items ≡ []) ↔ SayTheSame allowed flags
         (R.reading reader.now) (R.definitions reader.now) old.now new.now) }
+    ensures first { IfOk result (λ all. IsFirst
+        (said_by allowed flags (R.reading reader.now) (R.definitions reader.now) old.now)
+        (said_by allowed flags (R.reading reader.now) (R.definitions reader.now) new.now)
+        all.items) }
 {
     let comparer = Comparer {
         alloc,
@@ -150,8 +156,5 @@ pub fn compared<R: PartReader>(
     };
     let (old, new) = (after_mark(old), after_mark(new));
     let (was, is) = (comparer.said_in(old)?, comparer.said_in(new)?);
-    if are_same(alloc, &was, &is)? {
-        return Ok(Vec::new(alloc));
-    }
     differences_between(alloc, (old, was), (new, is))
 }

@@ -4,7 +4,9 @@ use crate::erase::Within;
 use crate::marks::Mark;
 use std::alloc::{AllocError, Global};
 use std::fmt;
-use tocmark_event::event::{Alignment, BlockQuoteKind, CodeBlockKind, Event, HeadingLevel, Tag};
+use tocmark_event::event::{
+    Alignment, BlockQuoteKind, CodeBlockKind, Event, HeadingLevel, Tag, TagEnd,
+};
 
 /// How many characters of a text a message shows.
 const SHOWN: usize = 60;
@@ -51,6 +53,9 @@ pub struct Difference {
     pub kind: Kind,
     /// What it is, in words.
     pub what: &'static str,
+    /// How many events are before it in the old text and in the new one. Only those that count are events here, and each stretch of
+    /// texts is one. The link definitions come after all others, and letters have no events.
+    pub before: (usize, usize),
     /// The first and the last line in the old text, counted from 1. If only the new text has it: where it would be.
     pub old: (usize, usize),
     /// The same in the new text.
@@ -85,39 +90,39 @@ impl Kind {
 }
 
 /// What a container is, in words.
-fn container_word(tag: &Tag<'_>) -> &'static str {
-    match tag {
-        Tag::Paragraph => "paragraph",
-        Tag::Heading { .. } => "heading",
-        Tag::BlockQuote(_) => "quote",
-        Tag::CodeBlock(_) => "code block",
-        Tag::HtmlBlock => "HTML block",
-        Tag::List(Some(_)) => "numbered list",
-        Tag::List(None) => "list",
-        Tag::Item => "list item",
-        Tag::FootnoteDefinition(_) => "footnote",
-        Tag::DefinitionList => "definition list",
-        Tag::DefinitionListTitle => "title of a definition list",
-        Tag::DefinitionListDefinition => "definition of a definition list",
-        Tag::Table(_) => "table",
-        Tag::TableHead => "table header",
-        Tag::TableRow => "table row",
-        Tag::TableCell => "table cell",
-        Tag::Emphasis => "emphasis",
-        Tag::Strong => "strong emphasis",
-        Tag::Strikethrough => "strikethrough",
-        Tag::Superscript => "superscript",
-        Tag::Subscript => "subscript",
-        Tag::Link { .. } => "link",
-        Tag::Image { .. } => "image",
-        Tag::MetadataBlock(_) => "front matter",
+fn container_word(end: TagEnd) -> &'static str {
+    match end {
+        TagEnd::Paragraph => "paragraph",
+        TagEnd::Heading(_) => "heading",
+        TagEnd::BlockQuote(_) => "quote",
+        TagEnd::CodeBlock => "code block",
+        TagEnd::HtmlBlock => "HTML block",
+        TagEnd::List(true) => "numbered list",
+        TagEnd::List(false) => "list",
+        TagEnd::Item => "list item",
+        TagEnd::FootnoteDefinition => "footnote",
+        TagEnd::DefinitionList => "definition list",
+        TagEnd::DefinitionListTitle => "title of a definition list",
+        TagEnd::DefinitionListDefinition => "definition of a definition list",
+        TagEnd::Table => "table",
+        TagEnd::TableHead => "table header",
+        TagEnd::TableRow => "table row",
+        TagEnd::TableCell => "table cell",
+        TagEnd::Emphasis => "emphasis",
+        TagEnd::Strong => "strong emphasis",
+        TagEnd::Strikethrough => "strikethrough",
+        TagEnd::Superscript => "superscript",
+        TagEnd::Subscript => "subscript",
+        TagEnd::Link => "link",
+        TagEnd::Image => "image",
+        TagEnd::MetadataBlock(_) => "front matter",
     }
 }
 
 /// What a mark is, in words.
 pub fn word_of(mark: &Mark) -> &'static str {
     match &mark.event {
-        Event::Start(tag) => container_word(tag),
+        Event::Start(tag) => container_word(tag.to_end()),
         Event::End(_) => "end",
         Event::Text(_) => match mark.within {
             Within::Prose => "text",
@@ -135,6 +140,19 @@ pub fn word_of(mark: &Mark) -> &'static str {
         Event::Rule => "thematic break",
         Event::TaskListMarker(_) => "task marker",
     }
+}
+
+/// What a mark is, in words, which name the container that ends. Without a mark it is the end of the text.
+pub fn place_words(alloc: Global, mark: Option<&Mark>) -> Result<String, AllocError> {
+    let Some(mark) = mark else {
+        return String::from_str(alloc, "end of the text");
+    };
+    let Event::End(end) = &mark.event else {
+        return String::from_str(alloc, word_of(mark));
+    };
+    let mut words = String::from_str(alloc, "end of ")?;
+    words.push_str(container_word(*end))?;
+    Ok(words)
 }
 
 fn level_text(level: HeadingLevel) -> &'static str {

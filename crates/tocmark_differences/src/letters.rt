@@ -88,6 +88,7 @@ fn first_difference(alloc: Global, old: &str, new: &str) -> Result<Difference, A
     Ok(Difference {
         kind: Kind::Letters,
         what: "letters",
+        before: (0, 0),
         old: (old_line, old_line),
         new: (new_line, new_line),
         was: String::from_str(alloc, word_at(old, was))?,

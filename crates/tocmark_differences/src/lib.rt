@@ -14,6 +14,8 @@ pub mod erase;
 pub mod fold;
 pub mod letters;
 pub mod marks;
+pub mod merge;
+pub mod parting;
 
 pub use allowed::{Allowed, KINDS};
 pub use compare::compared;
