@@ -423,8 +423,8 @@ static void nulls(void) {
   expect(tocmark_write_json(NULL, 0, NULL, 0, 0, NULL, 0, NULL, 0), TOCMARK_NOT_JSON, "no JSON");
   expect(tocmark_write_checked((const uint8_t *)"[]", 2, NULL, 0, 0, NULL, 0, NULL, 0), 0, "no events");
   expect(tocmark_format(NULL, 0, 0, NULL, NULL, 0), 0, "no text in no style");
-  expect(tocmark_format((const uint8_t *)"+  a", 4, 0, NULL, NULL, 0), 4, "a text in no style");
-  expect(tocmark_format_also((const uint8_t *)"+  a", 4, 0, NULL, 0, NULL, NULL, 0), 4, "a text under no other flags");
+  expect(tocmark_format((const uint8_t *)"+  a", 4, 0, NULL, NULL, 0), 5, "a text in no style");
+  expect(tocmark_format_also((const uint8_t *)"+  a", 4, 0, NULL, 0, NULL, NULL, 0), 5, "a text under no other flags");
 }
 
 static ptrdiff_t formats(const char *text, struct tocmark_style style, const char *wanted) {
@@ -452,9 +452,9 @@ static void styles(void) {
   static const uint32_t size = sizeof(struct tocmark_style);
   struct tocmark_style style = {.size = size};
   formats("", style, "");
-  expect(formats("*  a\n*  b", style, "* a\n* b\n"), 8, "the bullets of the source");
+  expect(formats("*  a\n*  b", style, "*  a\n*  b\n"), 10, "the bullets of the source");
   style.bullet = '-';
-  expect(formats("*  a\n*  b", style, "- a\n- b\n"), 8, "other bullets");
+  expect(formats("*  a\n*  b", style, "-  a\n-  b\n"), 10, "other bullets");
   expect(formats("1. a\n2. b", (struct tocmark_style){.size = size, .delimiter = ')', .numbering = 1}, "1) a\n1) b\n"), 10,
          "delimiters and numbers");
   expect(formats("*a* **b**", (struct tocmark_style){.size = size, .emphasis = '_', .strong = '_'}, "_a_ __b__\n"), 10,
@@ -470,7 +470,8 @@ static void styles(void) {
          "a line for each sentence");
   expect(formats("_a_ __b__\n", (struct tocmark_style){.size = size}, "_a_ __b__\n"), 10, "emphasis of the source");
   expect(formats("|ab|\n|-|\n", (struct tocmark_style){.size = size, .tables = 1}, "|ab|\n|-|\n"), 9, "tables of the source");
-  expect(formats("-   a\n", (struct tocmark_style){.size = size, .list_indent = UINT32_MAX}, "-   a\n"), 6, "indents of the source");
+  expect(formats("-   a\n", (struct tocmark_style){.size = size, .list_indent = 1}, "- a\n"), 4, "indents by the marker");
+  expect(formats("-   a\n", (struct tocmark_style){.size = size}, "-   a\n"), 6, "indents of the source");
   expect(formats("- a\n\n  b\n", (struct tocmark_style){.size = size, .list_indent = 4}, "-   a\n\n    b\n"), 13,
          "indented items");
   expect(formats("\xFF", style, ""), TOCMARK_NOT_UTF8, "text that is formatted");
@@ -485,7 +486,7 @@ static void styles(void) {
                                    {.size = size, .fence = '"'},
                                    {.size = size, .hard_break = 3},
                                    {.size = size, .rule = 2},
-                                   {.size = size, .list_indent = 2},
+                                   {.size = size, .list_indent = UINT32_MAX},
                                    {.size = size, .tables = 2}};
   for (size_t i = 0; i < sizeof wrongs / sizeof *wrongs; i++)
     expect(formats("a", wrongs[i], ""), TOCMARK_INVALID_STYLE, "a style");

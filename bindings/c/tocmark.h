@@ -205,9 +205,9 @@ ptrdiff_t tocmark_rewrite(const uint8_t *json, size_t json_len, const uint8_t *s
 
 /* The style of a formatted text. A character is its own number, and 0 is the default:
  * struct tocmark_style style = {.size = sizeof style, .bullet = '-'};
- * As --look source of tocmark-format: {.size = sizeof style, .rule = 1, .list_indent = UINT32_MAX, .tables = 1}. As --look one:
+ * As --look source of tocmark-format: {.size = sizeof style, .rule = 1, .tables = 1}. As --look one:
  * {.size = sizeof style, .bullet = '-', .delimiter = '.', .numbering = 2, .emphasis = '*', .strong = '*', .fence = '`',
- * .hard_break = 1}. */
+ * .hard_break = 1, .list_indent = 1}. */
 struct tocmark_style {
   uint32_t size;         /* sizeof(struct tocmark_style) */
   uint32_t bullet;       /* '*', '-' or '+'; 0: as in the source */
@@ -222,8 +222,7 @@ struct tocmark_style {
   uint32_t table_width;  /* tables are padded up to this many columns, and wider ones if they are aligned; 0: up to 120 */
   uint32_t wrap;         /* lines of paragraphs: 0: as in the source; UINT32_MAX: joined; UINT32_MAX - 1: one for each sentence;
                           * else filled up to this many columns */
-  uint32_t list_indent;  /* columns before the content of items: 0: as many as the marker takes; 4: four; UINT32_MAX: as in the
-                          * source */
+  uint32_t list_indent;  /* columns before the content of items: 0: as in the source; 1: as many as the marker takes; 4: four */
   uint32_t tables;       /* tables: 0: aligned; 1: rows as in the source */
 };
 

@@ -497,8 +497,8 @@ class Formatting(unittest.TestCase):
         self.assertEqual(caught.exception.code, -15)
 
     def test_styles(self):
-        self.assertEqual(tocmark.format("*  a\n*  b"), "* a\n* b\n")
-        self.assertEqual(tocmark.format("*  a\n*  b", bullet="+"), "+ a\n+ b\n")
+        self.assertEqual(tocmark.format("*  a\n*  b"), "*  a\n*  b\n")
+        self.assertEqual(tocmark.format("*  a\n*  b", bullet="+"), "+  a\n+  b\n")
         self.assertEqual(tocmark.format("1. a\n2. b", ordered=")", numbering="first"), "1) a\n1) b\n")
         self.assertEqual(tocmark.format("1. a\n1. b", numbering="increment"), "1. a\n2. b\n")
         self.assertEqual(tocmark.format("*a* **b**", emphasis="_", strong="_"), "_a_ __b__\n")
@@ -521,7 +521,7 @@ class Formatting(unittest.TestCase):
 
     def test_names_and_values_of_the_command(self):
         text = "+  a\n\n1) **b**\n\n~~~\nc\n~~~\n"
-        kept = "+ a\n\n1) **b**\n\n~~~\nc\n~~~\n"
+        kept = "+  a\n\n1) **b**\n\n~~~\nc\n~~~\n"
         self.assertEqual(tocmark.format(text, bullet="source", ordered="source", fence="source", strong="**"), kept)
         self.assertEqual(tocmark.format(text, bullet="", ordered="", fence="", strong=""), kept)
         self.assertEqual(tocmark.format(text, strong="__"), tocmark.format(text, strong="_"))
@@ -566,7 +566,7 @@ class Formatting(unittest.TestCase):
                     tocmark.format("a", **{part: size})
         with self.assertRaisesRegex(ValueError, "keep, no, sentence, or from 1 to 1000, and not 0"):
             tocmark.format("a", wrap=0)
-        with self.assertRaisesRegex(ValueError, "marker, 4 or source, and not 2"):
+        with self.assertRaisesRegex(ValueError, "source, marker or 4, and not 2"):
             tocmark.format("a", list_indent=2)
         with self.assertRaisesRegex(TypeError, r"^format\(\) got an unexpected keyword argument 'bulet'$"):
             tocmark.format("a", bulet="-")
@@ -577,11 +577,12 @@ class Formatting(unittest.TestCase):
         self.assertEqual(tocmark.format("one\ntwo\n"), "one\ntwo\n")
         self.assertEqual(tocmark.format("One two. Three\nfour.\n", wrap="sentence"), "One two.\nThree four.\n")
         self.assertEqual(tocmark.format("- a\n\n  b\n", list_indent=4), "-   a\n\n    b\n")
-        self.assertEqual(tocmark.format("-  a\n\n   b\n", list_indent="source"), "-  a\n\n   b\n")
+        self.assertEqual(tocmark.format("-  a\n\n   b\n", list_indent="marker"), "- a\n\n  b\n")
+        self.assertEqual(tocmark.format("-  a\n\n   b\n"), "-  a\n\n   b\n")
 
     def test_the_same_is_read(self):
         styles = ({}, {"bullet": "-", "ordered": ")", "numbering": "first", "emphasis": "_", "fence": "~", "hard_break": "backslash", "rule": "source", "table_width": 1},
-                  {"tables": "source", "list_indent": "source", "emphasis": "*", "strong": "__"})
+                  {"tables": "source", "list_indent": "marker", "emphasis": "*", "strong": "__"})
         for text in examples():
             for style in styles:
                 found = tocmark.format(text, syntax="all", **style)
@@ -646,7 +647,7 @@ class Files(unittest.TestCase):
         folder = tempfile.TemporaryDirectory()
         self.addCleanup(folder.cleanup)
         self.folder = folder.name
-        self.path = self.put("a.md", "*  a\r\n")
+        self.path = self.put("a.md", "#  a\r\n")
 
     def put(self, name, text):
         path = os.path.join(self.folder, name)
@@ -662,9 +663,9 @@ class Files(unittest.TestCase):
     def test_a_file_is_replaced(self):
         os.chmod(self.path, 0o640)
         self.assertTrue(tocmark.format_file(self.path, check=True))
-        self.has(self.path, "*  a\r\n")
+        self.has(self.path, "#  a\r\n")
         self.assertTrue(tocmark.format_file(self.path))
-        self.has(self.path, "* a\r\n")
+        self.has(self.path, "# a\r\n")
         self.assertEqual(stat.S_IMODE(os.stat(self.path).st_mode), 0o640)
         number = os.stat(self.path).st_ino
         self.assertFalse(tocmark.format_file(self.path))
@@ -672,7 +673,8 @@ class Files(unittest.TestCase):
 
     def test_a_configuration_counts(self):
         self.put(".tocmark.toml", 'bullet = "-"\nexclude = ["b.md"]\n')
-        other = self.put("b.md", "*  a\n")
+        self.put("a.md", "* a\r\n")
+        other = self.put("b.md", "* a\n")
         self.assertEqual([tocmark.format_file(it) for it in (self.path, other)], [True, False])
         self.assertTrue(tocmark.format_file(self.path, bullet="+", syntax="commonmark", extensions=["tables"], also_read="gfm"))
         self.put(".tocmark.toml", "bulet = 1\n")
@@ -680,14 +682,14 @@ class Files(unittest.TestCase):
             tocmark.format_file(self.path)
         os.unlink(os.path.join(self.folder, ".tocmark.toml"))
         self.has(self.path, "+ a\r\n")
-        self.has(other, "*  a\n")
+        self.has(other, "* a\n")
 
     def test_wrong_arguments(self):
         for wrong, fault in (({"bullet": "x"}, tocmark.InvalidStyle), ({"syntax": "x"}, ValueError), ({"extensions": "tables"}, TypeError),
                              ({"also": "x"}, ValueError), ({"wrap": 0}, ValueError), ({"bulet": "-"}, TypeError)):
             with self.assertRaises(fault):
                 tocmark.format_file(self.path, **wrong)
-        self.has(self.path, "*  a\r\n")
+        self.has(self.path, "#  a\r\n")
 
     def test_the_program_is_found(self):
         with mock.patch.dict(os.environ, TOCMARK_FORMAT="/bin/cat"), self.assertRaisesRegex(FileNotFoundError, "/bin/cat, which isn't"):
@@ -699,16 +701,17 @@ class Files(unittest.TestCase):
         _program._find.cache_clear()
 
     def test_a_link_is_followed(self):
+        self.put("a.md", "*  a\r\n")
         link = os.path.join(self.folder, "link.md")
         os.symlink("a.md", link)
         self.assertTrue(tocmark.format_file(link, bullet="-"))
         self.assertTrue(os.path.islink(link))
-        self.has(self.path, "- a\r\n")
+        self.has(self.path, "-  a\r\n")
 
     def test_a_file_stays_after_an_error(self):
         with mock.patch("os.rename", side_effect=OSError("no")), self.assertRaises(OSError):
             tocmark.format_file(self.path)
-        self.has(self.path, "*  a\r\n")
+        self.has(self.path, "#  a\r\n")
         with mock.patch("os.fsync", side_effect=lambda _: self.put("a.md", "b\n")), self.assertRaisesRegex(OSError, "meanwhile"):
             tocmark.format_file(self.path)
         self.has(self.path, "b\n")
@@ -738,24 +741,24 @@ class Files(unittest.TestCase):
         with self.assertRaisesRegex(OSError, "meanwhile"):
             self.swap_at_sync(swap)
         self.has(victim, "secret\n")
-        self.has(self.path, "*  a\r\n")
+        self.has(self.path, "#  a\r\n")
         self.assertEqual(stat.S_IMODE(os.stat(victim).st_mode), 0o600)
         self.assertEqual(sorted(os.listdir(self.folder)), ["a.md", "victim"])
 
     def test_another_file_of_the_name_stays(self):
         def swap():
             os.rename(self.path, self.path + ".old")
-            self.put("a.md", "*  a\r\n")
+            self.put("a.md", "#  a\r\n")
 
         with self.assertRaisesRegex(OSError, "meanwhile"):
             self.swap_at_sync(swap)
-        self.has(self.path, "*  a\r\n")
+        self.has(self.path, "#  a\r\n")
 
     def test_another_folder_of_the_name_stays(self):
         inner, other = os.path.join(self.folder, "inner"), os.path.join(self.folder, "other")
         for folder in (inner, other):
             os.mkdir(folder)
-            self.put(os.path.join(folder, "a.md"), "*  a\r\n")
+            self.put(os.path.join(folder, "a.md"), "#  a\r\n")
         self.path = os.path.join(inner, "a.md")
 
         def swap():
@@ -763,15 +766,15 @@ class Files(unittest.TestCase):
             os.symlink("other", inner)
 
         self.swap_at_sync(swap)
-        self.has(os.path.join(other, "a.md"), "*  a\r\n")
-        self.has(os.path.join(inner + ".old", "a.md"), "* a\r\n")
+        self.has(os.path.join(other, "a.md"), "#  a\r\n")
+        self.has(os.path.join(inner + ".old", "a.md"), "# a\r\n")
 
     def test_a_read_only_file_stays(self):
         os.chmod(self.path, 0o444)
         with self.assertRaisesRegex(PermissionError, "read-only"):
             tocmark.format_file(self.path)
         self.assertTrue(tocmark.format_file(self.path, check=True))
-        self.has(self.path, "*  a\r\n")
+        self.has(self.path, "#  a\r\n")
 
     def test_an_access_control_list_stays(self):
         def entries(*entries):
@@ -788,7 +791,7 @@ class Files(unittest.TestCase):
         self.assertEqual(os.getxattr(self.path, "system.posix_acl_access"), wanted)
         os.removexattr(self.path, "system.posix_acl_access")
         os.chmod(self.path, 0o640)
-        self.put("a.md", "*  a\r\n")
+        self.put("a.md", "#  a\r\n")
         self.assertTrue(tocmark.format_file(self.path))
         self.assertNotIn("system.posix_acl_access", os.listxattr(self.path))
 

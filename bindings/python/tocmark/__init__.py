@@ -2,7 +2,7 @@
 
 >>> import tocmark
 >>> tocmark.format("*  a\\n*  b", bullet="-")
-'- a\\n- b\\n'
+'-  a\\n-  b\\n'
 
 An event is what `json.loads` makes of it in the form in which pulldown-cmark 0.13 writes its events: a string or a
 dictionary with one key. A document is a list of pairs of an event and its range in bytes of UTF-8, or `None`.

@@ -345,12 +345,12 @@ def format(text: str, *, syntax: str = "gfm", extensions: Iterable[str] = (), al
     default), or "source", which keeps their rows. Aligned tables are padded up to `table_width` columns, from 1
     to 1,000 (the default is 120), and wider ones if they are aligned. `wrap` is "keep" (the default), "no", which joins the
     lines of a paragraph, "sentence", which gives each sentence a line, or a number of columns up to which lines are filled.
-    `list_indent` is "marker" (the default), 4 columns before the content of items, or "source". `look` sets what isn't passed:
+    `list_indent` is "source" (the default), "marker", which is one blank after it, or 4 columns before the content. `look` sets what isn't passed:
     "source" keeps all that the source has, and "one" makes all texts alike.
 
     >>> import tocmark
     >>> tocmark.format("Title\\n=====\\n*  a\\n*  b", bullet="-")
-    '# Title\\n\\n- a\\n- b\\n'
+    '# Title\\n\\n-  a\\n-  b\\n'
     >>> tocmark.format("a\\n|b|\\n|-|\\n", also_read="commonmark")
     'a\\n|b|\\n|-|\\n'
     >>> tocmark.format("a", bullet="x")

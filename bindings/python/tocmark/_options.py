@@ -30,14 +30,14 @@ _MARKS = {"bullet": ("*", "-", "+", "source"), "ordered": (".", ")", "source"), 
           "fence": ("`", "~", "source"), "emphasis": ("*", "_", "source"), "strong": ("*", "_", "**", "__", "source")}
 _TABLES = {"aligned": 0, "source": 1}
 _WRAPS: dict[int | str, int] = {"keep": 0, "no": 2**32 - 1, "sentence": 2**32 - 2}
-_LIST_INDENTS: dict[int | str, int] = {"marker": 0, 4: 4, "source": 2**32 - 1}
+_LIST_INDENTS: dict[int | str, int] = {"source": 0, "marker": 1, 4: 4}
 
 #: What each look sets, if the style doesn't.
 _LOOKS: dict[str, dict[str, Any]] = {
     "": {},
-    "source": {"rule": "source", "tables": "source", "list_indent": "source"},
+    "source": {"rule": "source", "tables": "source"},
     "one": {"bullet": "-", "ordered": ".", "numbering": "increment", "emphasis": "*", "strong": "**", "fence": "`",
-            "hard_break": "backslash"},
+            "hard_break": "backslash", "list_indent": "marker"},
 }
 
 _TOKENS = {"code_block_token": ("`", "~"), "list_token": ("*", "-", "+"), "ordered_list_token": (".", ")"),
@@ -121,7 +121,7 @@ def with_look(style: Mapping[str, Any]) -> dict[str, Any]:
 def style_of(*, bullet: str = "", ordered: str = "", delimiter: str = "", numbering: str = "source", emphasis: str = "",
              strong: str = "", fence: str = "", fence_length: int = 3, hard_break: str = "source", rule: str = "---",
              tables: str = "aligned", table_width: int = 120, wrap: int | str = "keep",
-             list_indent: int | str = "marker") -> _library.Style:
+             list_indent: int | str = "source") -> _library.Style:
     """Returns a style, or raises `ValueError` if a name or a number can't be, and `InvalidStyle` if a character can't."""
     for name, known in ((numbering, _NUMBERINGS), (hard_break, _HARD_BREAKS), (rule, _RULES), (tables, _TABLES)):
         if name not in known:
@@ -133,7 +133,7 @@ def style_of(*, bullet: str = "", ordered: str = "", delimiter: str = "", number
     if wrap not in _WRAPS and not _is_size(wrap, 1):
         raise ValueError(f"wrap must be keep, no, sentence, or from 1 to 1000, and not {wrap!r}")
     if list_indent not in _LIST_INDENTS:
-        raise ValueError(f"list_indent must be marker, 4 or source, and not {list_indent!r}")
+        raise ValueError(f"list_indent must be source, marker or 4, and not {list_indent!r}")
     codes = _codes_of({"bullet": bullet, "ordered": ordered, "delimiter": delimiter, "emphasis": emphasis, "strong": strong,
                        "fence": fence})
     return _library.Style(size=ctypes.sizeof(_library.Style), numbering=_NUMBERINGS[numbering],

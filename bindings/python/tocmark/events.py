@@ -130,4 +130,4 @@ class Style(TypedDict, total=False):
     tables: Literal["aligned", "source"]
     table_width: int
     wrap: int | Literal["keep", "no", "sentence"]
-    list_indent: Literal["marker", 4, "source"]
+    list_indent: Literal["source", "marker", 4]

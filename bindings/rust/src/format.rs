@@ -117,13 +117,13 @@ pub enum Wrap {
 /// Where the content of items begins.
 #[derive(Clone, Copy, Debug, Default, PartialEq, Eq, Hash)]
 pub enum ListIndent {
-    /// One space after the marker.
+    /// As in the source.
     #[default]
+    Source,
+    /// One space after the marker.
     Marker,
     /// Four columns after the marker's front.
     Four,
-    /// As in the source.
-    Source,
 }
 
 /// The style that [`format()`] gives. `FormatOptions { bullet: Bullet::Hyphen, ..Default::default() }` changes one field.
@@ -194,7 +194,6 @@ impl FormatOptions {
         FormatOptions {
             rule: Rule::Source,
             tables: Tables::Source,
-            list_indent: ListIndent::Source,
             ..Default::default()
         }
     }
@@ -209,6 +208,7 @@ impl FormatOptions {
             strong: Marker::Asterisk,
             fence: Fence::Backtick,
             hard_break: HardBreak::Backslash,
+            list_indent: ListIndent::Marker,
             ..Default::default()
         }
     }
@@ -247,9 +247,9 @@ impl FormatOptions {
                 Wrap::Columns(columns) => u32::from(columns.get()),
             },
             list_indent: match self.list_indent {
-                ListIndent::Marker => 0,
+                ListIndent::Source => 0,
+                ListIndent::Marker => 1,
                 ListIndent::Four => 4,
-                ListIndent::Source => u32::MAX,
             },
             ..Style::default()
         }
@@ -267,7 +267,7 @@ impl FormatOptions {
 ///
 /// let options = FormatOptions { bullet: Bullet::Hyphen, ..Default::default() };
 /// let text = tocmark::format("Title\n=====\n*  a\n*  b", pulldown_cmark::Options::empty(), &options)?;
-/// assert_eq!(text, "# Title\n\n- a\n- b\n");
+/// assert_eq!(text, "# Title\n\n-  a\n-  b\n");
 /// # Ok::<(), tocmark::Error>(())
 /// ```
 pub fn format(text: &str, flags: ParserOptions, options: &FormatOptions) -> Result<String, Error> {

@@ -711,7 +711,7 @@ fn events_that_are_read_are_written() {
 fn a_text_is_formatted() {
     let source = "Title\n=====\n*  a\n*  b _c_ __d__\n\n1.  e\n";
     let plain = format(source, NONE, &FormatOptions::default()).unwrap();
-    assert_eq!(plain, "# Title\n\n* a\n* b _c_ __d__\n\n1. e\n");
+    assert_eq!(plain, "# Title\n\n*  a\n*  b _c_ __d__\n\n1.  e\n");
     let options = FormatOptions {
         bullet: Bullet::Plus,
         ordered: Delimiter::Parenthesis,
@@ -729,7 +729,6 @@ fn a_text_is_formatted() {
     assert_eq!(format("a\nb\n", NONE, &joined).unwrap(), "a b\n");
     let own = FormatOptions {
         tables: Tables::Source,
-        list_indent: ListIndent::Source,
         ..Default::default()
     };
     let text = "*  a\n*  b\n\n| c | ddd |\n| - | --- |\n| e | f |\n";

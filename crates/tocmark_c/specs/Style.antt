@@ -86,12 +86,12 @@ wrap_of n =
     else if n == 4294967295 then wrap.No
     else wrap.At n
 
--- so many columns, 0 for those of the marker, and the largest number for those of the source
+-- 0 for the columns of the source, 1 for those that the marker takes, or four columns
 abbrev pub list_indent_of : ℕ → Option ListIndent
 list_indent_of n =
-    if n == 0 then Some indent.Marker
+    if n == 0 then Some indent.Source
+    else if n == 1 then Some indent.Marker
     else if n == 4 then Some indent.Four
-    else if n == 4294967295 then Some indent.Source
     else None
 
 -- the size of the struct is known, and each number means something

@@ -139,13 +139,13 @@ fn wrap_of(columns: u32) -> Wrap
     }
 }
 
-fn list_indent_of(columns: u32) -> Option<ListIndent>
-    ensures { result ≡ list_indent_of columns }
+fn list_indent_of(code: u32) -> Option<ListIndent>
+    ensures { result ≡ list_indent_of code }
 {
-    match columns {
-        0 => Some(ListIndent::Marker),
+    match code {
+        0 => Some(ListIndent::Source),
+        1 => Some(ListIndent::Marker),
         4 => Some(ListIndent::Four),
-        4_294_967_295 => Some(ListIndent::Source),
         _ => None,
     }
 }
