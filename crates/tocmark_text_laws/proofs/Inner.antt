@@ -20,7 +20,7 @@ use Rattle.tocmark_text_laws.proofs.RoleCounts.{copies, roles_count}
 use Rattle.tocmark_text_laws.proofs.Walks.{Safe, skips, opens, Ends, is_neutral}
 use Rattle.tocmark_text_laws.proofs.Steps.{scanned_safe}
 
-abbrev Deep : ℕ → List Node → Type 0
+abbrev pub Deep : ℕ → List Node → Type 0
 Deep depth ns = AllByRecursion (λ (n : Node). depth ≤ n.depth) ns
 
 -- the pass at a place, with so many containers open
@@ -149,7 +149,7 @@ unfolding moved
 moved_deep depth places [] h = tt
 moved_deep depth places (n ∷ ns) h = (h.0, moved_deep depth places ns (h.1))
 
-copies_plain : (n i : ℕ) (r : Role) → slice_get (replicate n role.Plain) i ≡ Some r → is_neutral r ≡ true
+pub copies_plain : (n i : ℕ) (r : Role) → slice_get (replicate n role.Plain) i ≡ Some r → is_neutral r ≡ true
 copies_plain zero i r e = absurd cc
 copies_plain (suc n) zero r e = let q : role.Plain ≡ r = cc in sym (ap is_neutral q)
 copies_plain (suc n) (suc i) r e = copies_plain n i r e

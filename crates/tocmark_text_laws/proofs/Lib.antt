@@ -46,3 +46,7 @@ pub mod Tokens
 pub mod Scans
 pub mod Steps
 pub mod Inner
+pub mod Houses
+pub mod HouseWalk
+pub mod Emitting
+pub mod Assembling

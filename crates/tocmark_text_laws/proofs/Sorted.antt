@@ -341,7 +341,7 @@ under_touched f depth e l (q ∷ qs) os k h = by (nat_le depth q) (under_touched
     by true w = h
     by false w = w
 
-touched_containers : (depth e l : ℕ) (qs : List ℕ) (os : List Opened) → containers (touched_from depth e l qs os) ≡ containers os
+pub touched_containers : (depth e l : ℕ) (qs : List ℕ) (os : List Opened) → containers (touched_from depth e l qs os) ≡ containers os
 touched_containers depth e l [] os = refl
 touched_containers depth e l (q ∷ qs) os = by (nat_le depth q) (touched_containers depth e l qs (raised_at os q e l) ∙ raised_containers os q e l)
   where

@@ -6,4 +6,6 @@ pub mod Said
 pub mod Nested
 pub mod Ordered
 pub mod Inside
+pub mod Housed
+pub mod Proper
 pub mod Kept

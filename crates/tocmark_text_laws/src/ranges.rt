@@ -1,5 +1,6 @@
-//! Laws of where the blocks of every text are, that they nest, and that they are in order.
+//! Laws of where the blocks of every text are, that they nest and are in order, and which of them are in which.
 
+ghost use Rattle.tocmark_text_laws.specs.Housed.{BlocksAreHoused};
 ghost use Rattle.tocmark_text_laws.specs.Nested.{BlocksNest};
 ghost use Rattle.tocmark_text_laws.specs.Ordered.{BlocksAreInOrder};
 ghost use Rattle.tocmark_text_laws.specs.Ranges.{BlockEventsAreInPlace, BlocksAreInPlace, LinesAreInPlace};
@@ -30,4 +31,10 @@ pub fn blocks_nest()
 /// or after it. So the blocks of a page, and those of each container, come one after the other and don't overlap.
 pub fn blocks_are_in_order()
     ensures { BlocksAreInOrder }
+{}
+
+/// Each block of a text is one that CommonMark has, and is in containers alone: quotes, lists and items. Items, and nothing
+/// else, are directly in lists.
+pub fn blocks_are_housed()
+    ensures { BlocksAreHoused }
 {}
