@@ -37,9 +37,8 @@ use Rattle.tocmark_standard_laws.specs.Contents.{HasNoZero}
 use Rattle.tocmark_standard_laws.specs.Nesting.{sort_of, is_common}
 use Rattle.tocmark_standard_laws.specs.Wordless.{is_fed, is_wordless}
 use Rattle.tocmark_standard_laws.proofs.Ended.{piece_as_text}
-use Rattle.tocmark_standard_laws.proofs.FlatBlocks.{one_said}
-use Rattle.tocmark_standard_laws.proofs.SaidBlocks.{html_at, line_said, html_said, block_said, said_if}
-use Rattle.tocmark_standard_laws.proofs.Shown.{node_shows, nodes_show, IsSome}
+use Rattle.tocmark_standard_laws.specs.SaidBlocks.{html_at, line_said, html_said, block_said, said_if, one_said}
+use Rattle.tocmark_standard_laws.specs.Ended.{node_shows, nodes_show, IsSome}
 
 -- lines of code and HTML
 

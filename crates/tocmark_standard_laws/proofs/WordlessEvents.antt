@@ -33,14 +33,16 @@ use Rattle.tocmark_standard_laws.specs.Labels.{IsOfLeaves, collected_of, entry_i
 use Rattle.tocmark_standard_laws.specs.Lettered.{lettered, as_text}
 use Rattle.tocmark_standard_laws.specs.Nesting.{Sort, sort_of, is_common, Outer, Shape, shape, IsIn, after_as, after, Nested}
 use Rattle.tocmark_standard_laws.specs.Wordless.{are_wordless, is_wordless, IsWordless, events_read, WordlessTextsAreReadAsDeclared}
-use Rattle.tocmark_standard_laws.proofs.Ended.{merged_lettered, ended, said_events, piece_as_text, ended_as_text}
+use Rattle.tocmark_standard_laws.proofs.Ended.{events-said, piece_as_text, ended_as_text}
 use Rattle.tocmark_standard_laws.proofs.Fitting.{shapes}
 use Rattle.tocmark_standard_laws.proofs.FitWalk.{Found, found_fits}
-use Rattle.tocmark_standard_laws.proofs.FlatBlocks.{inside, behind, both_parts, Falls, falls_less, inside_none, take_short, after_long, placed_falls, one_said, blocks_flat}
+use Rattle.tocmark_standard_laws.proofs.FlatBlocks.{inside, behind, both_parts, Falls, falls_less, inside_none, take_short, after_long, placed_falls, tree-said}
 use Rattle.tocmark_standard_laws.proofs.Leaves.{covered_zero_free}
 use Rattle.tocmark_standard_laws.proofs.LineBlocks.{IsWhole, IsText, IsKept, wordless_if, IsPlainBlock, AddAll, blocks_add}
-use Rattle.tocmark_standard_laws.proofs.SaidBlocks.{blocks_said, told_said}
-use Rattle.tocmark_standard_laws.proofs.Shown.{nodes_show, nodes_emitted}
+use Rattle.tocmark_standard_laws.specs.SaidBlocks.{blocks_said, one_said}
+use Rattle.tocmark_standard_laws.specs.Ended.{ended}
+use Rattle.tocmark_standard_laws.proofs.SaidBlocks.{told_said}
+use Rattle.tocmark_standard_laws.proofs.Shown.{nodes_emitted}
 use Rattle.tocmark_standard_laws.proofs.WholeLines.{lines_give, pieces_text}
 
 -- a block of the tree is one of the reader's, and its words are
@@ -181,14 +183,14 @@ unfolding found_under
 found_nodes text = refl
 
 pub wordless-declared : WordlessTextsAreReadAsDeclared
-unfolding reading_of events_of
+unfolding reading_of
 wordless-declared text h =
     ap (λ (ns : List NodeView). lettered (map (λ (e : EventView × (ℕ × ℕ)). e.0) (emitted text ns))) (found_nodes text ∙ ap (λ (s : State). s.nodes) adds.is)
     ∙ nodes_emitted text adds.nodes adds.some
     ∙ ap (ended []) adds.shown
     ∙ ended_as_text [] (flat_map (one_said labels all text pieces) all)
-    ∙ ap (λ ps. map as_text (ended [] ps)) (blocks_flat labels text pieces all nest ∙ ap (blocks_said labels 0 false) tree ∙ told_said labels 0 false (blocks_of text))
-    ∙ ap (map as_text) (said_events labels (blocks_of text) ∙ sym (merged_lettered (block_events labels false (blocks_of text))))
+    ∙ ap (λ ps. map as_text (ended [] ps)) (tree-said labels text ∙ ap (blocks_said labels 0 false) tree ∙ told_said labels 0 false (blocks_of text))
+    ∙ ap (map as_text) (sym (events-said text))
   where
     view : BlocksView
     view = blocks_in commonmark text
