@@ -315,7 +315,17 @@ opened_as_text (Start (Link k d t i)) stack = refl
 opened_as_text (Start (Image k d t i)) stack = refl
 opened_as_text (Start (MetadataBlock k)) stack = refl
 opened_as_text (End e) stack = refl
-opened_as_text (Leaf l) stack = refl
+opened_as_text (Leaf (Text t)) stack = refl
+opened_as_text (Leaf (Code t)) stack = refl
+opened_as_text (Leaf (InlineMath t)) stack = refl
+opened_as_text (Leaf (DisplayMath t)) stack = refl
+opened_as_text (Leaf (Html t)) stack = refl
+opened_as_text (Leaf (InlineHtml t)) stack = refl
+opened_as_text (Leaf (FootnoteReference t)) stack = refl
+opened_as_text (Leaf SoftBreak) stack = refl
+opened_as_text (Leaf HardBreak) stack = refl
+opened_as_text (Leaf Rule) stack = refl
+opened_as_text (Leaf (TaskListMarker b)) stack = refl
 
 pub ended_as_text : (stack : List TagEnd) (ps : List Piece) → ended stack (map piece_as_text ps) ≡ map as_text (ended stack ps)
 ended_as_text stack [] = sym (ends_as_text (reverse (drop 0 stack)))
