@@ -5,7 +5,8 @@ use Rattle.std.proofs.lemmas.List.{map-append, reverse-append}
 use Rattle.tocmark_event.specs.declared.event.TagEnd.{TagEnd}
 use Rattle.tocmark_event.specs.Merged.{after_text, merged}
 use Rattle.tocmark_event.specs.View.{TagView, Paragraph, Heading, BlockQuote, CodeBlock, Indented, Fenced, HtmlBlock, ListOf, Item, FootnoteDefinition, DefinitionList, DefinitionListTitle, DefinitionListDefinition, Table, TableHead, TableRow, TableCell, Emphasis, Strong, Strikethrough, Superscript, Subscript, Link, Image, MetadataBlock, EventView, Start, End, Leaf, LeafView, Text, Code, InlineMath, DisplayMath, Html, InlineHtml, FootnoteReference, SoftBreak, HardBreak, Rule, TaskListMarker, end_of}
-use Rattle.tocmark_commonmark.specs.Events.{element, inline_events, inline_event, paragraph_events, code_events, fed, html_events, block_events, block_event}
+use Rattle.tocmark_commonmark.specs.Blocks.{blocks_of}
+use Rattle.tocmark_commonmark.specs.Events.{events_of, element, inline_events, inline_event, paragraph_events, code_events, fed, html_events, block_events, block_event}
 use Rattle.tocmark_commonmark.specs.InlineTree as inline
 use Rattle.tocmark_commonmark.specs.Inlines.{inlines}
 use Rattle.tocmark_commonmark.specs.Links.{Destination}
@@ -13,7 +14,9 @@ use Rattle.tocmark_commonmark.specs.Tokens.{resolved}
 use Rattle.tocmark_commonmark.specs.Tree as block
 use Rattle.tocmark_inline_laws.specs.Said.{Piece, letters, declared, declared_one}
 use Rattle.tocmark_standard_laws.specs.Lettered.{letter_events, html_letters, lettered, as_text}
-use Rattle.tocmark_standard_laws.proofs.SaidBlocks.{html_at, line_said, html_said, words_said, blocks_said, block_said}
+use Rattle.tocmark_standard_laws.specs.Ended.{end_events, ends_from, opened, ended, DeclaredEventsAreSaid}
+use Rattle.tocmark_standard_laws.specs.Labels.{destinations_of}
+use Rattle.tocmark_standard_laws.specs.SaidBlocks.{html_at, line_said, html_said, words_said, blocks_said, block_said}
 
 -- texts of letters
 
@@ -69,24 +72,6 @@ merged_lettered (Leaf Rule ∷ es) = ap (λ zs. Leaf Rule ∷ zs) (merged_letter
 merged_lettered (Leaf (TaskListMarker b) ∷ es) = ap (λ zs. Leaf (TaskListMarker b) ∷ zs) (merged_lettered es)
 merged_lettered (Start t ∷ es) = ap (λ zs. Start t ∷ zs) (merged_lettered es)
 merged_lettered (End e ∷ es) = ap (λ zs. End e ∷ zs) (merged_lettered es)
-
--- ends
-
-abbrev pub end_events : List TagEnd → List EventView
-end_events ends = map (λ (e : TagEnd). End e) (reverse ends)
-
--- the ends of the containers from a depth on, the innermost first
-abbrev pub ends_from : ℕ → List TagEnd → List EventView
-ends_from depth stack = end_events (drop depth stack)
-
-abbrev pub opened : EventView → List TagEnd → List TagEnd
-opened (Start t) stack = stack ++ end_of t ∷ []
-opened e stack = stack
-
--- the events of what is said, in these containers
-abbrev pub ended : List TagEnd → List Piece → List EventView
-ended stack [] = ends_from 0 stack
-ended stack (p ∷ ps) = ends_from (p.0) stack ++ (p.1 ∷ ended (opened (p.1) (take (p.0) stack)) ps)
 
 -- what comes next isn't deeper
 abbrev pub IsLow : ℕ → List Piece → Type 0
@@ -330,7 +315,17 @@ opened_as_text (Start (Link k d t i)) stack = refl
 opened_as_text (Start (Image k d t i)) stack = refl
 opened_as_text (Start (MetadataBlock k)) stack = refl
 opened_as_text (End e) stack = refl
-opened_as_text (Leaf l) stack = refl
+opened_as_text (Leaf (Text t)) stack = refl
+opened_as_text (Leaf (Code t)) stack = refl
+opened_as_text (Leaf (InlineMath t)) stack = refl
+opened_as_text (Leaf (DisplayMath t)) stack = refl
+opened_as_text (Leaf (Html t)) stack = refl
+opened_as_text (Leaf (InlineHtml t)) stack = refl
+opened_as_text (Leaf (FootnoteReference t)) stack = refl
+opened_as_text (Leaf SoftBreak) stack = refl
+opened_as_text (Leaf HardBreak) stack = refl
+opened_as_text (Leaf Rule) stack = refl
+opened_as_text (Leaf (TaskListMarker b)) stack = refl
 
 pub ended_as_text : (stack : List TagEnd) (ps : List Piece) → ended stack (map piece_as_text ps) ≡ map as_text (ended stack ps)
 ended_as_text stack [] = sym (ends_as_text (reverse (drop 0 stack)))
@@ -339,3 +334,7 @@ ended_as_text stack (p ∷ ps) =
     ∙ ap (λ (xs : List EventView). ends_from (p.0) stack ++ (as_text (p.1) ∷ xs)) (ended_as_text (opened (p.1) (take (p.0) stack)) ps)
     ∙ ap (λ (xs : List EventView). xs ++ (as_text (p.1) ∷ map as_text (ended (opened (p.1) (take (p.0) stack)) ps))) (sym (ends_as_text (reverse (drop (p.0) stack))))
     ∙ sym (map-append as_text (ends_from (p.0) stack) (p.1 ∷ ended (opened (p.1) (take (p.0) stack)) ps))
+
+pub events-said : DeclaredEventsAreSaid
+unfolding events_of
+events-said text = merged_lettered (block_events (destinations_of text) false (blocks_of text)) ∙ sym (said_events (destinations_of text) (blocks_of text))

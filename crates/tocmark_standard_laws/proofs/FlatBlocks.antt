@@ -16,10 +16,13 @@ use Rattle.tocmark_commonmark.specs.Links.{Destination}
 use Rattle.tocmark_commonmark.specs.Tree as block
 use Rattle.tocmark_block_laws.specs.Trees.{block_as, list_in as list_tree, paragraph_in, Placed, more_if, tree_of, pieces_of, put_with, put, placed_in}
 use Rattle.tocmark_block_laws.proofs.Told.{leaf_as}
-use Rattle.tocmark_inline_laws.specs.Said.{Piece}
+use Rattle.tocmark_read_blocks.specs.Blocks.{blocks_in}
+use Rattle.tocmark_read_scan.specs.declared.syntax.Names.TheVariants.{All}
+use Rattle.tocmark_inline_laws.specs.Said.{commonmark, Piece}
 use Rattle.tocmark_standard_laws.specs.Nesting.{Sort, OfQuote, OfList, OfItem, sort_of, is_common, Outer, list_at, list_in, Shape, shape, HasList, IsIn, after_as, after, Nested}
 use Rattle.tocmark_standard_laws.proofs.Fitting.{shapes}
-use Rattle.tocmark_standard_laws.proofs.SaidBlocks.{blocks_said, block_said, said_if}
+use Rattle.tocmark_standard_laws.specs.SaidBlocks.{blocks_said, block_said, said_if, one_said, BlocksSayTheirTree}
+use Rattle.tocmark_standard_laws.proofs.FitWalk.{blocks-nested}
 
 -- the blocks that lie directly in one are not deeper than those before them
 
@@ -161,10 +164,6 @@ placed_said labels all path p = said_if labels p.depth (tight_at all path p.dept
 
 abbrev all_said : List Destination → List ReadBlock → List Outer → List Placed → List Piece
 all_said labels all path ps = flat_map (placed_said labels all path) ps
-
--- of one block, without what is in it
-abbrev pub one_said : List Destination → List ReadBlock → List ℕ → List Line → ReadBlock → List Piece
-one_said labels all text pieces b = said_if labels b.depth (is_unwrapped all b) (leaf_as text pieces b)
 
 if_more : (labels : List Destination) (d : ℕ) (tight : Bool) (o : Option block.Block) (bs : block.Blocks) → blocks_said labels d tight (more_if o bs) ≡ said_if labels d tight o ++ blocks_said labels d tight bs
 if_more labels d tight None bs = refl
@@ -315,10 +314,10 @@ step_said labels text pieces all path at b rest found i falls = by (sort_of b.ki
         empty : within ≡ []
         empty = inside_none d rest (falls_less (length next) d rest short falls)
 
-flat_said : (labels : List Destination) (text : List ℕ) (pieces : List Line) (all : List ReadBlock) (path : List Outer) (before bs : List ReadBlock) → all ≡ before ++ bs → Nested path (length before) (shapes bs) → flat_map (one_said labels all text pieces) bs ≡ all_said labels all path (placed_in text pieces bs)
-flat_said labels text pieces all path before [] e h = refl
-flat_said labels text pieces all path before (b ∷ bs) e h =
-    ap (λ qs. one_said labels all text pieces b ++ qs) (flat_said labels text pieces all next (before ++ b ∷ []) bs (e ∙ sym (append_assoc before (b ∷ []) bs)) (subst (λ n. Nested next n (shapes bs)) size (h.1)))
+nested_said : (labels : List Destination) (text : List ℕ) (pieces : List Line) (all : List ReadBlock) (path : List Outer) (before bs : List ReadBlock) → all ≡ before ++ bs → Nested path (length before) (shapes bs) → flat_map (one_said labels all text pieces) bs ≡ all_said labels all path (placed_in text pieces bs)
+nested_said labels text pieces all path before [] e h = refl
+nested_said labels text pieces all path before (b ∷ bs) e h =
+    ap (λ qs. one_said labels all text pieces b ++ qs) (nested_said labels text pieces all next (before ++ b ∷ []) bs (e ∙ sym (append_assoc before (b ∷ []) bs)) (subst (λ n. Nested next n (shapes bs)) size (h.1)))
     ∙ step_said labels text pieces all path (length before) b (placed_in text pieces bs) (ap (λ (xs : List ReadBlock). slice_get xs (length before)) e ∙ got before bs b) (h.0) (placed_falls text pieces next (suc (length before)) bs (h.1))
   where
     next : List Outer
@@ -338,5 +337,8 @@ falls_at (p ∷ ps) h = let q : p.depth ≤ 0 = h.0 in let z : p.depth ≡ 0 = o
 -- all blocks of a text
 pub blocks_flat : (labels : List Destination) (text : List ℕ) (pieces : List Line) (all : List ReadBlock) → Nested [] 0 (shapes all) → flat_map (one_said labels all text pieces) all ≡ blocks_said labels 0 false (tree_of (placed_in text pieces all))
 blocks_flat labels text pieces all h =
-    flat_said labels text pieces all [] [] all refl h
+    nested_said labels text pieces all [] [] all refl h
     ∙ tree_said labels all [] 0 false (placed_in text pieces all) refl (falls_at (placed_in text pieces all) (placed_falls text pieces [] 0 all h))
+
+pub tree-said : BlocksSayTheirTree
+tree-said labels text = blocks_flat labels text (blocks_in commonmark text).pieces (blocks_in commonmark text).blocks (blocks-nested All text)

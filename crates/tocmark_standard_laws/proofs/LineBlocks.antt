@@ -8,7 +8,7 @@ use Rattle.std.proofs.lemmas.Bool.Decides.{nat_tests}
 use Rattle.std.proofs.lemmas.Grind.{flat_map-append}
 use Rattle.std.proofs.lemmas.List.{map-append}
 use Rattle.std.proofs.lemmas.Str.{utf8_lossy-IsUtf8}
-use Rattle.tocmark_event.specs.View.{TagView, Paragraph, BlockQuote, CodeBlock, Indented, Fenced, HtmlBlock, ListOf, Item, EventView, Start, Leaf, Text, Html, Rule}
+use Rattle.tocmark_event.specs.View.{TagView, Paragraph, Heading, BlockQuote, CodeBlock, Indented, Fenced, HtmlBlock, ListOf, Item, EventView, Start, Leaf, Text, Html, Rule}
 use Rattle.tocmark_read_scan.specs.Basic.{plus, bytes_between}
 use Rattle.tocmark_read_scan.specs.declared.syntax.Names.TheVariants.{All}
 use Rattle.tocmark_read_tokens.specs.Reference.{unescaped_in}
@@ -20,26 +20,27 @@ use Rattle.tocmark_read_page.specs.declared.page.Task.{Task}
 use Rattle.tocmark_read_page.specs.declared.piece.Piece.{Piece as Line}
 use Rattle.tocmark_read_spans.specs.declared.definitions.Entry.{Entry}
 use Rattle.tocmark_reader.specs.Emitted.{ItemView, NodeView, Container, Given}
-use Rattle.tocmark_reader.specs.Pages.{State, node, space_nodes, line_item, line_nodes, lines_nodes, block_tag, block_node, task_nodes, with_block, with_lines, fence_node_in, with_fence_in, with_rule, bare_in, wrapped_in, paragraph_taken_in, taken_as_in, block_taken_in, block_step_in, is_unwrapped}
+use Rattle.tocmark_reader.specs.Pages.{State, node, leaf_inlines_in, with_task, space_nodes, line_item, line_nodes, lines_nodes, block_tag, block_node, task_nodes, with_block, with_lines, fence_node_in, with_fence_in, with_rule, bare_in, wrapped_in, paragraph_taken_in, taken_as_in, block_taken_in, block_step_in, is_unwrapped}
 use Rattle.tocmark_reader.specs.Pages as pages
 use Rattle.tocmark_reader.specs.Words.{cleaned, feed_if, info_text_in, spaces_text}
 use Rattle.tocmark_reader.proofs.Zeros.{without_zeros, none_between}
+use Rattle.tocmark_commonmark.specs.Inlines.{inlines}
 use Rattle.tocmark_commonmark.specs.Links.{Destination}
 use Rattle.tocmark_commonmark.specs.Tokens.{resolved}
 use Rattle.tocmark_commonmark.specs.Tree as block
-use Rattle.tocmark_block_laws.specs.Trees.{whole_text, code_text, paragraph_in, block_as, pieces_of}
+use Rattle.tocmark_block_laws.specs.Trees.{whole_text, leaf_text, code_text, paragraph_in, block_as, pieces_of}
 use Rattle.tocmark_block_laws.proofs.Texts.{between_none}
 use Rattle.tocmark_block_laws.proofs.Told.{leaf_as}
-use Rattle.tocmark_inline_laws.specs.Said.{commonmark, Piece, letters}
+use Rattle.tocmark_inline_laws.specs.Said.{commonmark, Piece, letters, declared}
 use Rattle.tocmark_inline_laws.proofs.Resolved.{resolved_so}
 use Rattle.tocmark_inline_laws.proofs.Stretches.{letters_append}
 use Rattle.tocmark_standard_laws.specs.Contents.{HasNoZero}
+use Rattle.tocmark_standard_laws.specs.Lettered.{tag_as_text}
 use Rattle.tocmark_standard_laws.specs.Nesting.{sort_of, is_common}
-use Rattle.tocmark_standard_laws.specs.Wordless.{is_fed, is_wordless}
+use Rattle.tocmark_standard_laws.specs.Wordless.{is_fed}
 use Rattle.tocmark_standard_laws.proofs.Ended.{piece_as_text}
-use Rattle.tocmark_standard_laws.proofs.FlatBlocks.{one_said}
-use Rattle.tocmark_standard_laws.proofs.SaidBlocks.{html_at, line_said, html_said, block_said, said_if}
-use Rattle.tocmark_standard_laws.proofs.Shown.{node_shows, nodes_show, IsSome}
+use Rattle.tocmark_standard_laws.specs.SaidBlocks.{html_at, line_said, html_said, words_said, block_said, said_if, one_said}
+use Rattle.tocmark_standard_laws.specs.Ended.{node_shows, nodes_show, IsSome}
 
 -- lines of code and HTML
 
@@ -178,23 +179,47 @@ same_pieces pieces b l = by (nat_le b.first b.last) (nat_le b.last (length piece
 
 -- a block of the reader
 
--- the nodes that a block adds to a state
-pub record Adds (labels : List Destination) (all : List ReadBlock) (text : List ℕ) (pieces : List Line) (s u : State) (b : ReadBlock) : Type 0 where
+-- the nodes that a change adds to a state, with further texts
+pub record Adds (text : List ℕ) (s u : State) (said : List Piece) : Type 0 where
   pub nodes : List NodeView
-  pub is : u ≡ record s { nodes = s.nodes ++ nodes }
-  pub shown : Shows text nodes (map piece_as_text (one_said labels all text pieces b))
+  pub more : List ℕ
+  pub is : u.nodes ≡ s.nodes ++ nodes
+  pub texts : u.inlines.texts ≡ s.inlines.texts ++ more
+  pub shown : Shows text nodes (map piece_as_text said)
 
-abbrev pub wordless_if : Option block.Block → Bool
-wordless_if None = true
-wordless_if (Some b) = is_wordless b
+-- what the inlines of a document look up: what labels are declared to lead to, the entries, and the texts of the definitions
+pub record Looks : Type 0 where
+  pub labels : List Destination
+  pub find : List ℕ → Option Entry
+  pub base : List ℕ
 
--- what is known of a block without inlines
-pub record IsPlainBlock (text : List ℕ) (pieces : List Line) (b : ReadBlock) : Type 0 where
+-- the texts are those of the definitions, and more
+abbrev pub IsBeside : Looks → State → Type 0
+IsBeside k s = (further : List ℕ) × (s.inlines.texts ≡ k.base ++ further)
+
+-- the inlines of these lines at a depth are those that are declared
+abbrev pub LeafShows : Looks → List ℕ → List Line → ℕ → Type 0
+LeafShows k text ps depth = (s : State) → IsBeside k s → Adds text s (leaf_inlines_in commonmark text k.find ps depth s) (declared depth (inlines k.labels (leaf_text text ps)))
+
+-- a block has inlines
+abbrev pub has_words : Option block.Block → Bool
+has_words (Some (block.Paragraph t)) = true
+has_words (Some (block.Heading l t)) = true
+has_words o = false
+
+-- HTML ends with a line feed
+abbrev pub is_html_fed : Option block.Block → Bool
+is_html_fed (Some (block.Html t)) = is_fed t
+is_html_fed o = true
+
+-- what is known of a block
+pub record IsPlainBlock (k : Looks) (text : List ℕ) (pieces : List Line) (b : ReadBlock) : Type 0 where
   pub common : is_common b.kind ≡ true
   pub unboxed : is_some b.task ≡ false
   pub depth : b.depth + 1 < 2 ^ 64
   pub last : sort_of b.kind ≡ None → b.last ≤ length pieces
-  pub wordless : wordless_if (leaf_as text pieces b) ≡ true
+  pub fed : is_html_fed (leaf_as text pieces b) ≡ true
+  pub words : has_words (leaf_as text pieces b) ≡ true → (d : ℕ) → LeafShows k text (pieces_of pieces b) d
 
 no_task : (o : Option Task) (d : ℕ) → is_some o ≡ false → task_nodes o d ≡ []
 unfolding task_nodes
@@ -204,30 +229,69 @@ no_task (Some t) d e = absurd (true≢false e)
 one_more : (text : List ℕ) (d : ℕ) (t : TagView) (start end : ℕ) → Shows text (node d (Container t) start end ∷ []) ((d, Start t) ∷ [])
 one_more text d t start end = (refl, (tt, tt))
 
--- a container
-container_adds : (labels : List Destination) (all : List ReadBlock) (text : List ℕ) (pieces : List Line) (s : State) (b : ReadBlock) (t : TagView) → is_some b.task ≡ false → block_tag text b.kind ≡ t → map piece_as_text (one_said labels all text pieces b) ≡ (b.depth, Start t) ∷ []
-    → Adds labels all text pieces s (with_block text b s) b
+-- the state with one more container
+block_put : (text : List ℕ) (s : State) (b : ReadBlock) → is_some b.task ≡ false → with_block text b s ≡ record s { nodes = s.nodes ++ block_node text b ∷ [] }
 unfolding with_block
-container_adds labels all text pieces s b t unboxed tag said = record {
+block_put text s b unboxed = ap (λ (ns : List NodeView). record s { nodes = (s.nodes ++ block_node text b ∷ []) ++ ns }) (no_task b.task (plus b.depth 1) unboxed) ∙ ap (λ (ns : List NodeView). record s { nodes = ns }) (append-nil (s.nodes ++ block_node text b ∷ []))
+
+task_put : (s : State) (b : ReadBlock) → is_some b.task ≡ false → with_task b s ≡ s
+unfolding with_task
+task_put s b unboxed = ap (λ (ns : List NodeView). record s { nodes = s.nodes ++ ns }) (no_task b.task b.depth unboxed) ∙ ap (λ (ns : List NodeView). record s { nodes = ns }) (append-nil s.nodes)
+
+-- a container
+container_adds : (text : List ℕ) (s : State) (b : ReadBlock) (t : TagView) (said : List Piece) → is_some b.task ≡ false → block_tag text b.kind ≡ t → map piece_as_text said ≡ (b.depth, Start t) ∷ [] → Adds text s (with_block text b s) said
+container_adds text s b t said unboxed tag same = record {
   nodes = block_node text b ∷ [];
-  is = ap (λ (ns : List NodeView). record s { nodes = (s.nodes ++ block_node text b ∷ []) ++ ns }) (no_task b.task (plus b.depth 1) unboxed) ∙ ap (λ (ns : List NodeView). record s { nodes = ns }) (append-nil (s.nodes ++ block_node text b ∷ []));
-  shown = subst (λ ps. Shows text (block_node text b ∷ []) ps) (sym said) (ap (λ x. (b.depth, Start x) ∷ []) tag, (tt, tt));
+  more = [];
+  is = ap (λ (x : State). x.nodes) (block_put text s b unboxed);
+  texts = ap (λ (x : State). x.inlines.texts) (block_put text s b unboxed) ∙ sym (append-nil s.inlines.texts);
+  shown = subst (λ ps. Shows text (block_node text b ∷ []) ps) (sym same) (ap (λ x. (b.depth, Start x) ∷ []) tag, (tt, tt));
 }
 
 -- a container of lines
-lines_add : (labels : List Destination) (all : List ReadBlock) (text : List ℕ) (pieces ps : List Line) (html : Bool) (s : State) (b : ReadBlock) (n : NodeView) (t : TagView) → b.depth + 1 < 2 ^ 64 → AllByRecursion (IsKept text) ps → node_shows text n ≡ (b.depth, Start t) ∷ []
-    → map piece_as_text (one_said labels all text pieces b) ≡ (b.depth, Start t) ∷ shows_as html (suc b.depth) (code_text text ps)
-    → Adds labels all text pieces s (record s { nodes = (s.nodes ++ n ∷ []) ++ lines_nodes text html (plus b.depth 1) ps }) b
-lines_add labels all text pieces ps html s b n t deep kept first said = record {
+lines_add : (text : List ℕ) (ps : List Line) (html : Bool) (s : State) (b : ReadBlock) (n : NodeView) (t : TagView) (said : List Piece) → b.depth + 1 < 2 ^ 64 → AllByRecursion (IsKept text) ps → node_shows text n ≡ (b.depth, Start t) ∷ []
+    → map piece_as_text said ≡ (b.depth, Start t) ∷ shows_as html (suc b.depth) (code_text text ps)
+    → Adds text s (record s { nodes = (s.nodes ++ n ∷ []) ++ lines_nodes text html (plus b.depth 1) ps }) said
+lines_add text ps html s b n t said deep kept first same = record {
   nodes = n ∷ lines_nodes text html (plus b.depth 1) ps;
-  is = ap (λ (ns : List NodeView). record s { nodes = ns }) (append_assoc s.nodes (n ∷ []) (lines_nodes text html (plus b.depth 1) ps));
-  shown = subst (λ qs. Shows text (n ∷ lines_nodes text html (plus b.depth 1) ps) qs) (sym said)
+  more = [];
+  is = append_assoc s.nodes (n ∷ []) (lines_nodes text html (plus b.depth 1) ps);
+  texts = sym (append-nil s.inlines.texts);
+  shown = subst (λ qs. Shows text (n ∷ lines_nodes text html (plus b.depth 1) ps) qs) (sym same)
       (shows_more text (n ∷ []) (lines_nodes text html (plus b.depth 1) ps) ((b.depth, Start t) ∷ []) (shows_as html (suc b.depth) (code_text text ps)) (append-nil (node_shows text n) ∙ first, (subst IsSome (sym first) tt, tt))
       (subst (λ k. Shows text (lines_nodes text html k ps) (shows_as html (suc b.depth) (code_text text ps))) (sym next) (lines_shown text html (suc b.depth) ps kept)));
 }
   where
     next : plus b.depth 1 ≡ suc b.depth
     next = omega arith
+
+-- a container of inlines
+words_add : (k : Looks) (text : List ℕ) (ps : List Line) (s : State) (b : ReadBlock) (t : TagView) → is_some b.task ≡ false → b.depth + 1 < 2 ^ 64 → IsBeside k s → LeafShows k text ps (suc b.depth) → block_tag text b.kind ≡ t → tag_as_text t ≡ t
+    → Adds text s (leaf_inlines_in commonmark text k.find ps (plus b.depth 1) (with_block text b s)) ((b.depth, Start t) ∷ declared (suc b.depth) (inlines k.labels (leaf_text text ps)))
+words_add k text ps s b t unboxed deep beside shows tag same =
+    subst (λ n. Adds text s (leaf_inlines_in commonmark text k.find ps n (with_block text b s)) whole) (sym next)
+    (subst (λ (x : State). Adds text s (leaf_inlines_in commonmark text k.find ps (suc b.depth) x) whole) (sym (block_put text s b unboxed)) (record {
+      nodes = block_node text b ∷ leaf.nodes;
+      more = leaf.more;
+      is = leaf.is ∙ append_assoc s.nodes (block_node text b ∷ []) leaf.nodes;
+      texts = leaf.texts;
+      shown = shows_more text (block_node text b ∷ []) leaf.nodes ((b.depth, Start (tag_as_text t)) ∷ []) (map piece_as_text inner) (ap (λ x. (b.depth, Start x) ∷ []) (tag ∙ sym same), (tt, tt)) leaf.shown;
+    }))
+  where
+    inner : List Piece
+    inner = declared (suc b.depth) (inlines k.labels (leaf_text text ps))
+
+    whole : List Piece
+    whole = (b.depth, Start t) ∷ inner
+
+    next : plus b.depth 1 ≡ suc b.depth
+    next = omega arith
+
+    v : State
+    v = record s { nodes = s.nodes ++ block_node text b ∷ [] }
+
+    leaf : Adds text v (leaf_inlines_in commonmark text k.find ps (suc b.depth) v) inner
+    leaf = shows v beside
 
 letters_as_text : (d : ℕ) (t : List ℕ) → map piece_as_text (letters d t) ≡ letters d t
 letters_as_text d [] = refl
@@ -254,11 +318,11 @@ info_so text from to zeros small =
     by true = without_zeros (slice_range text from to) (none_between text from to zeros)
     by false = refl
 
--- a block without inlines adds what it says
-kind_adds : (labels : List Destination) (all : List ReadBlock) (text : List ℕ) (find : List ℕ → Option Entry) (pieces : List Line) (s : State) (b : ReadBlock) → HasNoZero text → length text + 3 < 2 ^ 64 → AllByRecursion (IsKept text) (pieces_of pieces b) → IsPlainBlock text pieces b
-    → (k : BlockKind) → b.kind ≡ k → Adds labels all text pieces s (taken_as_in commonmark k text find (pages.pieces_of pieces b.first b.last) (is_unwrapped all b) b s) b
-unfolding with_lines with_fence_in fence_node_in with_rule paragraph_taken_in block_tag
-kind_adds labels all text find pieces s b zeros small kept plain k e = by k e
+-- a block adds what it says
+kind_adds : (k : Looks) (all : List ReadBlock) (text : List ℕ) (pieces : List Line) (s : State) (b : ReadBlock) → HasNoZero text → length text + 3 < 2 ^ 64 → AllByRecursion (IsKept text) (pieces_of pieces b) → IsPlainBlock k text pieces b → IsBeside k s
+    → (x : BlockKind) → b.kind ≡ x → Adds text s (taken_as_in commonmark x text k.find (pages.pieces_of pieces b.first b.last) (is_unwrapped all b) b s) (one_said k.labels all text pieces b)
+unfolding with_lines with_fence_in fence_node_in with_rule paragraph_taken_in bare_in wrapped_in block_tag
+kind_adds k all text pieces s b zeros small kept plain beside x e = by x e
   where
     ps : List Line
     ps = pieces_of pieces b
@@ -266,65 +330,75 @@ kind_adds labels all text find pieces s b zeros small kept plain k e = by k e
     tight : Bool
     tight = is_unwrapped all b
 
-    says : (k : BlockKind) → b.kind ≡ k → map piece_as_text (one_said labels all text pieces b) ≡ map piece_as_text (said_if labels b.depth tight (block_as text k b.loose ps block.none))
-    says k e = ap (λ x. map piece_as_text (said_if labels b.depth tight (block_as text x b.loose ps block.none))) e
+    own : List Piece
+    own = one_said k.labels all text pieces b
 
-    tagged : (k : BlockKind) → b.kind ≡ k → block_tag text b.kind ≡ block_tag text k
-    tagged k e = ap (block_tag text) e
+    own_is : (x : BlockKind) → b.kind ≡ x → own ≡ said_if k.labels b.depth tight (block_as text x b.loose ps block.none)
+    own_is x e = ap (λ y. said_if k.labels b.depth tight (block_as text y b.loose ps block.none)) e
 
-    same : (k : BlockKind) → b.kind ≡ k → sort_of k ≡ None → pages.pieces_of pieces b.first b.last ≡ ps
-    same k e leaf = same_pieces pieces b (plain.last (ap sort_of e ∙ leaf))
+    says : (x : BlockKind) → b.kind ≡ x → map piece_as_text own ≡ map piece_as_text (said_if k.labels b.depth tight (block_as text x b.loose ps block.none))
+    says x e = ap (map piece_as_text) (own_is x e)
 
-    wordless : (k : BlockKind) → b.kind ≡ k → wordless_if (block_as text k b.loose ps block.none) ≡ true
-    wordless k e = ap (λ x. wordless_if (block_as text x b.loose ps block.none)) (sym e) ∙ plain.wordless
+    tagged : (x : BlockKind) → b.kind ≡ x → block_tag text b.kind ≡ block_tag text x
+    tagged x e = ap (block_tag text) e
 
-    listed : (first : Option ℕ) → b.kind ≡ kind.List first → map piece_as_text (one_said labels all text pieces b) ≡ (b.depth, Start (ListOf first)) ∷ []
+    same : (x : BlockKind) → b.kind ≡ x → sort_of x ≡ None → pages.pieces_of pieces b.first b.last ≡ ps
+    same x e leaf = same_pieces pieces b (plain.last (ap sort_of e ∙ leaf))
+
+    listed : (first : Option ℕ) → b.kind ≡ kind.List first → map piece_as_text own ≡ (b.depth, Start (ListOf first)) ∷ []
     listed None e = says (kind.List None) e
     listed (Some n) e = says (kind.List (Some n)) e
 
-    by : (k : BlockKind) → b.kind ≡ k → Adds labels all text pieces s (taken_as_in commonmark k text find (pages.pieces_of pieces b.first b.last) tight b s) b
-    by (kind.Quote None) e = container_adds labels all text pieces s b (BlockQuote None) plain.unboxed (tagged (kind.Quote None) e) (says (kind.Quote None) e)
-    by (kind.Quote (Some q)) e = absurd (true≢false (sym plain.common ∙ ap is_common e))
-    by (kind.List first) e = container_adds labels all text pieces s b (ListOf first) plain.unboxed (tagged (kind.List first) e) (listed first e)
-    by kind.Item e = container_adds labels all text pieces s b Item plain.unboxed (tagged kind.Item e) (says kind.Item e)
-    by kind.Paragraph e = paragraph (nat_le b.last b.first) (if tight then bare_in commonmark text find (pages.pieces_of pieces b.first b.last) b s else wrapped_in commonmark text find (pages.pieces_of pieces b.first b.last) b s) refl
+    paragraph : b.kind ≡ kind.Paragraph → (xs : List Line) → ps ≡ xs → (q : Bool) → nat_le b.last b.first ≡ q → (t : Bool) → tight ≡ t
+        → Adds text s (if q then s else (if t then leaf_inlines_in commonmark text k.find ps b.depth (with_task b s) else leaf_inlines_in commonmark text k.find ps (plus b.depth 1) (with_block text b s))) own
+    paragraph e xs h true z t y = record { nodes = []; more = []; is = sym (append-nil s.nodes); texts = sym (append-nil s.inlines.texts); shown = (none, tt) }
       where
-        empty : b.last ≤ b.first → ps ≡ []
-        empty l = past (take b.last pieces) b.first (let w : length (take b.last pieces) ≡ min b.last (length pieces) = length-take b.last pieces in omega (arith, l, w))
+        empty : ps ≡ []
+        empty = past (take b.last pieces) b.first (let w : length (take b.last pieces) ≡ min b.last (length pieces) = length-take b.last pieces in let l : b.last ≤ b.first = grind (arith, nat_tests, z) in omega (arith, l, w))
 
-        none : ps ≡ [] → [] ≡ map piece_as_text (one_said labels all text pieces b)
-        none h = ap (λ (xs : List Line). map piece_as_text (said_if labels b.depth tight (paragraph_in text xs))) (sym h) ∙ sym (says kind.Paragraph e)
+        none : [] ≡ map piece_as_text own
+        none = ap (λ (xs : List Line). map piece_as_text (said_if k.labels b.depth tight (paragraph_in text xs))) (sym empty) ∙ sym (says kind.Paragraph e)
+    paragraph e [] h false z t y =
+        let l : b.first < b.last = grind (arith, nat_tests, z) in
+        let last : b.last ≤ length pieces = plain.last (ap sort_of e) in
+        let a : length (drop b.first (take b.last pieces)) ≡ length (take b.last pieces) - b.first = length-drop b.first (take b.last pieces) in
+        let c : length (take b.last pieces) ≡ min b.last (length pieces) = length-take b.last pieces in
+        let d : length (drop b.first (take b.last pieces)) ≡ 0 = ap length h in
+        absurd (omega (arith, l, last, a, c, d))
+    paragraph e (x ∷ xs) h false z t y = subst (Adds text s (if t then leaf_inlines_in commonmark text k.find ps b.depth (with_task b s) else leaf_inlines_in commonmark text k.find ps (plus b.depth 1) (with_block text b s))) (sym (own_is kind.Paragraph e ∙ ap (λ (zs : List Line). said_if k.labels b.depth tight (paragraph_in text zs)) h ∙ ap (λ (zs : List Line). words_said tight k.labels b.depth (leaf_text text zs)) (sym h) ∙ ap (λ j. words_said j k.labels b.depth (leaf_text text ps)) y)) (words t)
+      where
+        shows : (d : ℕ) → LeafShows k text ps d
+        shows = plain.words (ap (λ y. has_words (block_as text y b.loose ps block.none)) e ∙ ap (λ (zs : List Line). has_words (paragraph_in text zs)) h)
 
-        some : b.first < b.last → (xs : List Line) → ps ≡ xs → wordless_if (paragraph_in text xs) ≡ true → ⊥
-        some l [] h w =
-            let last : b.last ≤ length pieces = plain.last (ap sort_of e) in
-            let a : length (drop b.first (take b.last pieces)) ≡ length (take b.last pieces) - b.first = length-drop b.first (take b.last pieces) in
-            let c : length (take b.last pieces) ≡ min b.last (length pieces) = length-take b.last pieces in
-            let d : length (drop b.first (take b.last pieces)) ≡ 0 = ap length h in
-            absurd (omega (arith, l, last, a, c, d))
-        some l (x ∷ xs) h w = true≢false (sym w)
+        words : (t : Bool) → Adds text s (if t then leaf_inlines_in commonmark text k.find ps b.depth (with_task b s) else leaf_inlines_in commonmark text k.find ps (plus b.depth 1) (with_block text b s)) (words_said t k.labels b.depth (leaf_text text ps))
+        words true = subst (λ (v : State). Adds text s (leaf_inlines_in commonmark text k.find ps b.depth v) (declared b.depth (inlines k.labels (leaf_text text ps)))) (sym (task_put s b plain.unboxed)) (shows b.depth s beside)
+        words false = words_add k text ps s b Paragraph plain.unboxed plain.depth beside (shows (suc b.depth)) (tagged kind.Paragraph e) refl
 
-        paragraph : (x : Bool) (other : State) → nat_le b.last b.first ≡ x → Adds labels all text pieces s (if x then s else other) b
-        paragraph true other q = record {
-          nodes = [];
-          is = ap (λ (ns : List NodeView). record s { nodes = ns }) (sym (append-nil s.nodes));
-          shown = (none (empty (grind (arith, nat_tests, q))), tt);
-        }
-        paragraph false other q = absurd (some (grind (arith, nat_tests, q)) ps refl (wordless kind.Paragraph e))
-    by (kind.Heading level None) e = absurd (true≢false (sym (wordless (kind.Heading level None) e)))
+    by : (x : BlockKind) → b.kind ≡ x → Adds text s (taken_as_in commonmark x text k.find (pages.pieces_of pieces b.first b.last) tight b s) own
+    by (kind.Quote None) e = container_adds text s b (BlockQuote None) own plain.unboxed (tagged (kind.Quote None) e) (says (kind.Quote None) e)
+    by (kind.Quote (Some q)) e = absurd (true≢false (sym plain.common ∙ ap is_common e))
+    by (kind.List first) e = container_adds text s b (ListOf first) own plain.unboxed (tagged (kind.List first) e) (listed first e)
+    by kind.Item e = container_adds text s b Item own plain.unboxed (tagged kind.Item e) (says kind.Item e)
+    by kind.Paragraph e =
+        subst (λ (xs : List Line). Adds text s (if nat_le b.last b.first then s else (if tight then leaf_inlines_in commonmark text k.find xs b.depth (with_task b s) else leaf_inlines_in commonmark text k.find xs (plus b.depth 1) (with_block text b s))) own) (sym (same kind.Paragraph e refl))
+        (paragraph e ps refl (nat_le b.last b.first) refl tight refl)
+    by (kind.Heading level None) e =
+        subst (λ (xs : List Line). Adds text s (leaf_inlines_in commonmark text k.find xs (plus b.depth 1) (with_block text b s)) own) (sym (same (kind.Heading level None) e refl))
+        (subst (Adds text s (leaf_inlines_in commonmark text k.find ps (plus b.depth 1) (with_block text b s))) (sym (own_is (kind.Heading level None) e))
+        (words_add k text ps s b (Heading level None [] []) plain.unboxed plain.depth beside (plain.words (ap (λ y. has_words (block_as text y b.loose ps block.none)) e) (suc b.depth)) (tagged (kind.Heading level None) e) refl))
     by (kind.Heading level (Some x)) e = absurd (true≢false (sym plain.common ∙ ap is_common e))
     by kind.Indented e =
-        subst (λ (xs : List Line). Adds labels all text pieces s (record s { nodes = (s.nodes ++ block_node text b ∷ []) ++ lines_nodes text false (plus b.depth 1) xs }) b) (sym (same kind.Indented e refl))
-        (lines_add labels all text pieces ps false s b (block_node text b) (CodeBlock Indented) plain.depth kept (ap (λ x. (b.depth, Start x) ∷ []) (tagged kind.Indented e)) (says kind.Indented e ∙ ap (λ qs. (b.depth, Start (CodeBlock Indented)) ∷ qs) (letters_as_text (suc b.depth) (code_text text ps))))
+        subst (λ (xs : List Line). Adds text s (record s { nodes = (s.nodes ++ block_node text b ∷ []) ++ lines_nodes text false (plus b.depth 1) xs }) own) (sym (same kind.Indented e refl))
+        (lines_add text ps false s b (block_node text b) (CodeBlock Indented) own plain.depth kept (ap (λ x. (b.depth, Start x) ∷ []) (tagged kind.Indented e)) (says kind.Indented e ∙ ap (λ qs. (b.depth, Start (CodeBlock Indented)) ∷ qs) (letters_as_text (suc b.depth) (code_text text ps))))
     by (kind.Fenced from to) e =
-        subst (λ (xs : List Line). Adds labels all text pieces s (record s { nodes = (s.nodes ++ node b.depth (Container (CodeBlock (Fenced (info_text_in All (bytes_between text from to))))) b.start b.end ∷ []) ++ lines_nodes text false (plus b.depth 1) xs }) b) (sym (same (kind.Fenced from to) e refl))
-        (lines_add labels all text pieces ps false s b (node b.depth (Container (CodeBlock (Fenced (info_text_in All (bytes_between text from to))))) b.start b.end) (CodeBlock (Fenced (utf8_lossy (resolved (bytes_between text from to))))) plain.depth kept (ap (λ i. (b.depth, Start (CodeBlock (Fenced i))) ∷ []) (info_so text from to zeros small))
+        subst (λ (xs : List Line). Adds text s (record s { nodes = (s.nodes ++ node b.depth (Container (CodeBlock (Fenced (info_text_in All (bytes_between text from to))))) b.start b.end ∷ []) ++ lines_nodes text false (plus b.depth 1) xs }) own) (sym (same (kind.Fenced from to) e refl))
+        (lines_add text ps false s b (node b.depth (Container (CodeBlock (Fenced (info_text_in All (bytes_between text from to))))) b.start b.end) (CodeBlock (Fenced (utf8_lossy (resolved (bytes_between text from to))))) own plain.depth kept (ap (λ i. (b.depth, Start (CodeBlock (Fenced i))) ∷ []) (info_so text from to zeros small))
         (says (kind.Fenced from to) e ∙ ap (λ qs. (b.depth, Start (CodeBlock (Fenced (utf8_lossy (resolved (bytes_between text from to)))))) ∷ qs) (letters_as_text (suc b.depth) (code_text text ps))))
     by kind.Html e =
-        subst (λ (xs : List Line). Adds labels all text pieces s (record s { nodes = (s.nodes ++ block_node text b ∷ []) ++ lines_nodes text true (plus b.depth 1) xs }) b) (sym (same kind.Html e refl))
-        (lines_add labels all text pieces ps true s b (block_node text b) HtmlBlock plain.depth kept (ap (λ x. (b.depth, Start x) ∷ []) (tagged kind.Html e))
-        (says kind.Html e ∙ ap (λ qs. (b.depth, Start HtmlBlock) ∷ map piece_as_text qs) (html_whole (suc b.depth) [] (code_text text ps) (wordless kind.Html e)) ∙ ap (λ qs. (b.depth, Start HtmlBlock) ∷ qs) (html_as_text (suc b.depth) (code_text text ps))))
-    by kind.Rule e = record { nodes = node b.depth (Given Rule) b.start b.end ∷ []; is = refl; shown = (sym (says kind.Rule e), (tt, tt)) }
+        subst (λ (xs : List Line). Adds text s (record s { nodes = (s.nodes ++ block_node text b ∷ []) ++ lines_nodes text true (plus b.depth 1) xs }) own) (sym (same kind.Html e refl))
+        (lines_add text ps true s b (block_node text b) HtmlBlock own plain.depth kept (ap (λ x. (b.depth, Start x) ∷ []) (tagged kind.Html e))
+        (says kind.Html e ∙ ap (λ qs. (b.depth, Start HtmlBlock) ∷ map piece_as_text qs) (html_whole (suc b.depth) [] (code_text text ps) (ap (λ y. is_html_fed (block_as text y b.loose ps block.none)) (sym e) ∙ plain.fed)) ∙ ap (λ qs. (b.depth, Start HtmlBlock) ∷ qs) (html_as_text (suc b.depth) (code_text text ps))))
+    by kind.Rule e = record { nodes = node b.depth (Given Rule) b.start b.end ∷ []; more = []; is = refl; texts = sym (append-nil s.inlines.texts); shown = (sym (says kind.Rule e), (tt, tt)) }
     by (kind.Metadata x) e = absurd (true≢false (sym plain.common ∙ ap is_common e))
     by (kind.Footnote x y) e = absurd (true≢false (sym plain.common ∙ ap is_common e))
     by (kind.Table x y) e = absurd (true≢false (sym plain.common ∙ ap is_common e))
@@ -335,18 +409,12 @@ kind_adds labels all text find pieces s b zeros small kept plain k e = by k e
     by kind.DefinitionListTitle e = absurd (true≢false (sym plain.common ∙ ap is_common e))
     by kind.DefinitionListDefinition e = absurd (true≢false (sym plain.common ∙ ap is_common e))
 
-block_adds : (labels : List Destination) (all : List ReadBlock) (text : List ℕ) (find : List ℕ → Option Entry) (pieces : List Line) (s : State) (b : ReadBlock) → HasNoZero text → length text + 3 < 2 ^ 64 → AllByRecursion (IsKept text) (pieces_of pieces b) → IsPlainBlock text pieces b
-    → Adds labels all text pieces s (block_step_in commonmark text find all pieces s b) b
+block_adds : (k : Looks) (all : List ReadBlock) (text : List ℕ) (pieces : List Line) (s : State) (b : ReadBlock) → HasNoZero text → length text + 3 < 2 ^ 64 → AllByRecursion (IsKept text) (pieces_of pieces b) → IsPlainBlock k text pieces b → IsBeside k s
+    → Adds text s (block_step_in commonmark text k.find all pieces s b) (one_said k.labels all text pieces b)
 unfolding block_taken_in
-block_adds labels all text find pieces s b zeros small kept plain = kind_adds labels all text find pieces s b zeros small kept plain b.kind refl
+block_adds k all text pieces s b zeros small kept plain beside = kind_adds k all text pieces s b zeros small kept plain beside b.kind refl
 
 -- blocks one after the other
-
-pub record AddAll (labels : List Destination) (all : List ReadBlock) (text : List ℕ) (pieces : List Line) (s u : State) (bs : List ReadBlock) : Type 0 where
-  pub nodes : List NodeView
-  pub is : u ≡ record s { nodes = s.nodes ++ nodes }
-  pub shown : nodes_show text nodes ≡ map piece_as_text (flat_map (one_said labels all text pieces) bs)
-  pub some : AllByRecursion (λ (n : NodeView). IsSome (node_shows text n)) nodes
 
 all_part : (text : List ℕ) (pieces : List Line) (first last : ℕ) → AllByRecursion (IsKept text) pieces → AllByRecursion (IsKept text) (drop first (take last pieces))
 all_part text pieces first last h = dropped first (take last pieces) (taken last pieces h)
@@ -363,19 +431,23 @@ all_part text pieces first last h = dropped first (take last pieces) (taken last
     dropped (suc n) [] k = tt
     dropped (suc n) (x ∷ xs) k = dropped n xs (k.1)
 
-add_more : (labels : List Destination) (all : List ReadBlock) (text : List ℕ) (pieces : List Line) (s u v : State) (b : ReadBlock) (bs : List ReadBlock) → Adds labels all text pieces s u b → AddAll labels all text pieces u v bs → AddAll labels all text pieces s v (b ∷ bs)
-add_more labels all text pieces s u v b bs a r = record {
+add_more : (text : List ℕ) (s u v : State) (ps qs : List Piece) → Adds text s u ps → Adds text u v qs → Adds text s v (ps ++ qs)
+add_more text s u v ps qs a r = record {
   nodes = a.nodes ++ r.nodes;
-  is = r.is ∙ ap (λ (x : State). record x { nodes = x.nodes ++ r.nodes }) a.is ∙ ap (λ (ns : List NodeView). record s { nodes = ns }) (append_assoc s.nodes a.nodes r.nodes);
-  shown = flat_map-append (node_shows text) a.nodes r.nodes ∙ ap (λ ps. ps ++ nodes_show text r.nodes) (a.shown.0) ∙ ap (λ ps. map piece_as_text (one_said labels all text pieces b) ++ ps) r.shown
-      ∙ sym (map-append piece_as_text (one_said labels all text pieces b) (flat_map (one_said labels all text pieces) bs));
-  some = all_more (λ (n : NodeView). IsSome (node_shows text n)) a.nodes r.nodes (a.shown.1) r.some;
+  more = a.more ++ r.more;
+  is = r.is ∙ ap (λ (ns : List NodeView). ns ++ r.nodes) a.is ∙ append_assoc s.nodes a.nodes r.nodes;
+  texts = r.texts ∙ ap (λ ts. ts ++ r.more) a.texts ∙ append_assoc s.inlines.texts a.more r.more;
+  shown = subst (Shows text (a.nodes ++ r.nodes)) (sym (map-append piece_as_text ps qs)) (shows_more text a.nodes r.nodes (map piece_as_text ps) (map piece_as_text qs) a.shown r.shown);
 }
 
-pub blocks_add : (labels : List Destination) (all : List ReadBlock) (text : List ℕ) (find : List ℕ → Option Entry) (pieces : List Line) (s : State) (bs : List ReadBlock) → HasNoZero text → length text + 3 < 2 ^ 64 → AllByRecursion (IsKept text) pieces → AllByRecursion (IsPlainBlock text pieces) bs
-    → AddAll labels all text pieces s (fold (block_step_in commonmark text find all pieces) s bs) bs
-blocks_add labels all text find pieces s [] zeros small kept plain = record { nodes = []; is = ap (λ (ns : List NodeView). record s { nodes = ns }) (sym (append-nil s.nodes)); shown = refl; some = tt }
-blocks_add labels all text find pieces s (b ∷ bs) zeros small kept plain =
-    add_more labels all text pieces s (block_step_in commonmark text find all pieces s b) (fold (block_step_in commonmark text find all pieces) (block_step_in commonmark text find all pieces s b) bs) b bs
-    (block_adds labels all text find pieces s b zeros small (all_part text pieces b.first b.last kept) (plain.0))
-    (blocks_add labels all text find pieces (block_step_in commonmark text find all pieces s b) bs zeros small kept (plain.1))
+beside_more : (k : Looks) (text : List ℕ) (s u : State) (ps : List Piece) → Adds text s u ps → IsBeside k s → IsBeside k u
+beside_more k text s u ps a h = (h.0 ++ a.more, a.texts ∙ ap (λ ts. ts ++ a.more) (h.1) ∙ append_assoc k.base (h.0) a.more)
+
+pub blocks_add : (k : Looks) (all : List ReadBlock) (text : List ℕ) (pieces : List Line) (s : State) (bs : List ReadBlock) → HasNoZero text → length text + 3 < 2 ^ 64 → AllByRecursion (IsKept text) pieces → AllByRecursion (IsPlainBlock k text pieces) bs → IsBeside k s
+    → Adds text s (fold (block_step_in commonmark text k.find all pieces) s bs) (flat_map (one_said k.labels all text pieces) bs)
+blocks_add k all text pieces s [] zeros small kept plain beside = record { nodes = []; more = []; is = sym (append-nil s.nodes); texts = sym (append-nil s.inlines.texts); shown = (refl, tt) }
+blocks_add k all text pieces s (b ∷ bs) zeros small kept plain beside =
+    let first : Adds text s (block_step_in commonmark text k.find all pieces s b) (one_said k.labels all text pieces b) = block_adds k all text pieces s b zeros small (all_part text pieces b.first b.last kept) (plain.0) beside in
+    add_more text s (block_step_in commonmark text k.find all pieces s b) (fold (block_step_in commonmark text k.find all pieces) (block_step_in commonmark text k.find all pieces s b) bs) (one_said k.labels all text pieces b) (flat_map (one_said k.labels all text pieces) bs)
+    first
+    (blocks_add k all text pieces (block_step_in commonmark text k.find all pieces s b) bs zeros small kept (plain.1) (beside_more k text s (block_step_in commonmark text k.find all pieces s b) (one_said k.labels all text pieces b) first beside))

@@ -9,32 +9,9 @@ use Rattle.tocmark_reader.specs.Range.{snapped}
 use Rattle.tocmark_reader.specs.declared.emit.Open.{Open}
 use Rattle.tocmark_inline_laws.specs.Said.{Piece, letters}
 use Rattle.tocmark_standard_laws.specs.Lettered.{letter_events, html_letters, lettered}
-use Rattle.tocmark_standard_laws.proofs.SaidBlocks.{html_at}
-use Rattle.tocmark_standard_laws.proofs.Ended.{end_events, ends_from, opened, ended, lettered_append}
-
--- what a leaf shows at a depth
-abbrev pub leaf_shows : ℕ → LeafView → List Piece
-leaf_shows depth (Text t) = letters depth t
-leaf_shows depth (Html t) = html_at depth t
-leaf_shows depth l = (depth, Leaf l) ∷ []
-
--- what an item shows, which has a range
-abbrev pub item_shows : List ℕ → ℕ → ℕ × ℕ → ItemView → List Piece
-item_shows text depth range (Container t) = (depth, Start t) ∷ []
-item_shows text depth range Source = letters depth (source_text text range)
-item_shows text depth range (Given l) = leaf_shows depth l
-
--- what a node shows
-abbrev pub node_shows : List ℕ → NodeView → List Piece
-node_shows text n = item_shows text n.depth (snapped text n.start n.end) n.item
-
-abbrev pub nodes_show : List ℕ → List NodeView → List Piece
-nodes_show text ns = flat_map (node_shows text) ns
-
--- something
-abbrev pub IsSome : List Piece → Type 0
-IsSome [] = ⊥
-IsSome (p ∷ ps) = Unit {0}
+use Rattle.tocmark_standard_laws.specs.SaidBlocks.{html_at}
+use Rattle.tocmark_standard_laws.specs.Ended.{end_events, ends_from, opened, ended, leaf_shows, item_shows, node_shows, nodes_show, IsSome, NodesAreEmitted}
+use Rattle.tocmark_standard_laws.proofs.Ended.{lettered_append}
 
 -- the events so far, without ranges
 abbrev events_of : List (EventView × (ℕ × ℕ)) → List EventView
@@ -163,5 +140,5 @@ nodes_go text (n ∷ ns) w h =
     nodes_go text ns (step text w n) (h.1) ∙ item_goes text n.depth (snapped text n.start n.end) n.item w (nodes_show text ns) (h.0)
 
 -- the events of nodes that all show something
-pub nodes_emitted : (text : List ℕ) (ns : List NodeView) → AllByRecursion (λ (n : NodeView). IsSome (node_shows text n)) ns → lettered (map (λ (e : EventView × (ℕ × ℕ)). e.0) (emitted text ns)) ≡ ended [] (nodes_show text ns)
+pub nodes_emitted : NodesAreEmitted
 nodes_emitted text ns h = nodes_go text ns (record { events = []; stack = [] }) h

@@ -1,5 +1,5 @@
 -- Texts without paragraphs and headings are read as the events that are declared.
-use Rattle.std.proofs.Common.{◌≡◌, ℕ, zero, suc, ◌+◌, ◌-◌, ◌^◌, ◌<◌, ◌≤◌, Bool, true, false, not, ◌==◌, ◌&&◌, ◌||◌, List, [], ◌∷◌, ◌++◌, length, map, take, refl, ap, sym, ◌∙◌, subst, arith, true≢false}
+use Rattle.std.proofs.Common.{◌≡◌, ℕ, zero, suc, ◌+◌, ◌-◌, ◌^◌, ◌<◌, ◌≤◌, Bool, true, false, not, ◌==◌, ◌&&◌, ◌||◌, List, [], ◌∷◌, ◌++◌, length, map, take, append-nil, refl, ap, sym, ◌∙◌, subst, arith, true≢false}
 use Rattle.std.specs.Prelude.{Option, Some, None, is_some}
 use Rattle.std.specs.List.{fold, flat_map, list_any, list_all, AllByRecursion}
 use Rattle.tocmark_event.specs.View.{EventView}
@@ -33,14 +33,16 @@ use Rattle.tocmark_standard_laws.specs.Labels.{IsOfLeaves, collected_of, entry_i
 use Rattle.tocmark_standard_laws.specs.Lettered.{lettered, as_text}
 use Rattle.tocmark_standard_laws.specs.Nesting.{Sort, sort_of, is_common, Outer, Shape, shape, IsIn, after_as, after, Nested}
 use Rattle.tocmark_standard_laws.specs.Wordless.{are_wordless, is_wordless, IsWordless, events_read, WordlessTextsAreReadAsDeclared}
-use Rattle.tocmark_standard_laws.proofs.Ended.{merged_lettered, ended, said_events, piece_as_text, ended_as_text}
+use Rattle.tocmark_standard_laws.proofs.Ended.{events-said, piece_as_text, ended_as_text}
 use Rattle.tocmark_standard_laws.proofs.Fitting.{shapes}
 use Rattle.tocmark_standard_laws.proofs.FitWalk.{Found, found_fits}
-use Rattle.tocmark_standard_laws.proofs.FlatBlocks.{inside, behind, both_parts, Falls, falls_less, inside_none, take_short, after_long, placed_falls, one_said, blocks_flat}
+use Rattle.tocmark_standard_laws.proofs.FlatBlocks.{inside, behind, both_parts, Falls, falls_less, inside_none, take_short, after_long, placed_falls, tree-said}
 use Rattle.tocmark_standard_laws.proofs.Leaves.{covered_zero_free}
-use Rattle.tocmark_standard_laws.proofs.LineBlocks.{IsWhole, IsText, IsKept, wordless_if, IsPlainBlock, AddAll, blocks_add}
-use Rattle.tocmark_standard_laws.proofs.SaidBlocks.{blocks_said, told_said}
-use Rattle.tocmark_standard_laws.proofs.Shown.{nodes_show, nodes_emitted}
+use Rattle.tocmark_standard_laws.proofs.LineBlocks.{IsWhole, IsText, IsKept, has_words, is_html_fed, Looks, IsPlainBlock, Adds, blocks_add}
+use Rattle.tocmark_standard_laws.specs.SaidBlocks.{blocks_said, one_said}
+use Rattle.tocmark_standard_laws.specs.Ended.{ended}
+use Rattle.tocmark_standard_laws.proofs.SaidBlocks.{told_said}
+use Rattle.tocmark_standard_laws.proofs.Shown.{nodes_emitted}
 use Rattle.tocmark_standard_laws.proofs.WholeLines.{lines_give, pieces_text}
 
 -- a block of the tree is one of the reader's, and its words are
@@ -72,6 +74,25 @@ mutual
   told_one (block.BulletList s t is) bs h k = both_so (are_wordless (told is)) (are_wordless bs) (told_wordless is h) k
   told_one (block.OrderedList s n t is) bs h k = both_so (are_wordless (told is)) (are_wordless bs) (told_wordless is h) k
   told_one (block.Item i) bs h k = both_so (are_wordless (told i)) (are_wordless bs) (told_wordless i h) k
+
+abbrev wordless_if : Option block.Block → Bool
+wordless_if None = true
+wordless_if (Some b) = is_wordless b
+
+-- a block without words has no inlines, and its HTML ends with a line feed
+no_words : (o : Option block.Block) → wordless_if o ≡ true → (has_words o ≡ false) × (is_html_fed o ≡ true)
+no_words None h = (refl, refl)
+no_words (Some block.Rule) h = (refl, refl)
+no_words (Some (block.Heading l t)) h = absurd (true≢false (sym h))
+no_words (Some (block.IndentedCode t)) h = (refl, refl)
+no_words (Some (block.FencedCode i t)) h = (refl, refl)
+no_words (Some (block.Html t)) h = (refl, h)
+no_words (Some (block.Definitions d)) h = (refl, refl)
+no_words (Some (block.Paragraph t)) h = absurd (true≢false (sym h))
+no_words (Some (block.Quote q)) h = (refl, refl)
+no_words (Some (block.BulletList s t is)) h = (refl, refl)
+no_words (Some (block.OrderedList s n t is)) h = (refl, refl)
+no_words (Some (block.Item i)) h = (refl, refl)
 
 -- all of these are without words
 abbrev AreWordless : List Placed → Type 0
@@ -146,17 +167,18 @@ flat_wordless text pieces path at (b ∷ bs) n h =
     (both.0, flat_wordless text pieces (after path at (shape b)) (suc at) bs (n.1) (both.1))
 
 -- what is known of each block
-all_plain : (text : List ℕ) (pieces : List Line) (path : List Outer) (at : ℕ) (bs : List ReadBlock) → Nested path at (shapes bs) → length path ≤ at → at + length bs < 2 ^ 64 → AllByRecursion (λ (b : ReadBlock). sort_of b.kind ≡ None → b.last ≤ length pieces) bs → AllWordless text pieces bs → AllByRecursion (IsPlainBlock text pieces) bs
-all_plain text pieces path at [] n l few lasts w = tt
-all_plain text pieces path at (b ∷ bs) n l few lasts w = (
+all_plain : (k : Looks) (text : List ℕ) (pieces : List Line) (path : List Outer) (at : ℕ) (bs : List ReadBlock) → Nested path at (shapes bs) → length path ≤ at → at + length bs < 2 ^ 64 → AllByRecursion (λ (b : ReadBlock). sort_of b.kind ≡ None → b.last ≤ length pieces) bs → AllWordless text pieces bs → AllByRecursion (IsPlainBlock k text pieces) bs
+all_plain k text pieces path at [] n l few lasts w = tt
+all_plain k text pieces path at (b ∷ bs) n l few lasts w = (
   record {
     common = i.common;
     unboxed = i.plain;
     depth = let d : b.depth ≤ length path = i.depth in omega (arith, d, l, few);
     last = lasts.0;
-    wordless = w.0;
+    fed = (no_words (leaf_as text pieces b) (w.0)).1;
+    words = λ e. absurd (true≢false (sym e ∙ (no_words (leaf_as text pieces b) (w.0)).0));
   },
-  all_plain text pieces (after path at (shape b)) (suc at) bs (n.1) (let d : b.depth ≤ length path = i.depth in let q : length (after path at (shape b)) ≤ suc b.depth = after_long path at (shape b) i in omega (arith, d, q, l)) (omega (arith, few)) (lasts.1) (w.1),
+  all_plain k text pieces (after path at (shape b)) (suc at) bs (n.1) (let d : b.depth ≤ length path = i.depth in let q : length (after path at (shape b)) ≤ suc b.depth = after_long path at (shape b) i in omega (arith, d, q, l)) (omega (arith, few)) (lasts.1) (w.1),
 )
   where
     i : IsIn path (shape b)
@@ -181,14 +203,14 @@ unfolding found_under
 found_nodes text = refl
 
 pub wordless-declared : WordlessTextsAreReadAsDeclared
-unfolding reading_of events_of
+unfolding reading_of
 wordless-declared text h =
-    ap (λ (ns : List NodeView). lettered (map (λ (e : EventView × (ℕ × ℕ)). e.0) (emitted text ns))) (found_nodes text ∙ ap (λ (s : State). s.nodes) adds.is)
-    ∙ nodes_emitted text adds.nodes adds.some
-    ∙ ap (ended []) adds.shown
+    ap (λ (ns : List NodeView). lettered (map (λ (e : EventView × (ℕ × ℕ)). e.0) (emitted text ns))) (found_nodes text ∙ adds.is)
+    ∙ nodes_emitted text adds.nodes (adds.shown.1)
+    ∙ ap (ended []) (adds.shown.0)
     ∙ ended_as_text [] (flat_map (one_said labels all text pieces) all)
-    ∙ ap (λ ps. map as_text (ended [] ps)) (blocks_flat labels text pieces all nest ∙ ap (blocks_said labels 0 false) tree ∙ told_said labels 0 false (blocks_of text))
-    ∙ ap (map as_text) (said_events labels (blocks_of text) ∙ sym (merged_lettered (block_events labels false (blocks_of text))))
+    ∙ ap (λ ps. map as_text (ended [] ps)) (tree-said labels text ∙ ap (blocks_said labels 0 false) tree ∙ told_said labels 0 false (blocks_of text))
+    ∙ ap (map as_text) (sym (events-said text))
   where
     view : BlocksView
     view = blocks_in commonmark text
@@ -226,5 +248,8 @@ wordless-declared text h =
     wordless : AllWordless text pieces all
     wordless = flat_wordless text pieces [] 0 all nest (tree_wordless (placed_in text pieces all) (ap are_wordless tree ∙ told_wordless (blocks_of text) h.wordless))
 
-    adds : AddAll labels all text pieces (start_state (collected_of text).texts) (fold (block_step_in commonmark text (entry_in text) all pieces) (start_state (collected_of text).texts) all) all
-    adds = blocks_add labels all text (entry_in text) pieces (start_state (collected_of text).texts) all zeros fits kept (all_plain text pieces [] 0 all nest (omega arith) (let few : length all < 2 ^ 64 = h.few in omega (arith, few)) found.lasts wordless)
+    looks : Looks
+    looks = record { labels = labels; find = entry_in text; base = (collected_of text).texts }
+
+    adds : Adds text (start_state (collected_of text).texts) (fold (block_step_in commonmark text (entry_in text) all pieces) (start_state (collected_of text).texts) all) (flat_map (one_said labels all text pieces) all)
+    adds = blocks_add looks all text pieces (start_state (collected_of text).texts) all zeros fits kept (all_plain looks text pieces [] 0 all nest (omega arith) (let few : length all < 2 ^ 64 = h.few in omega (arith, few)) found.lasts wordless) ([], sym (append-nil (collected_of text).texts))

@@ -1,7 +1,7 @@
 -- Events with each text and each piece of HTML as its bytes one by one, so that it doesn't matter how these are cut.
 use Rattle.std.specs.Prelude.{ℕ, List, [], ◌∷◌, ◌++◌}
 use Rattle.std.specs.Str.Lossy.{utf8_lossy}
-use Rattle.tocmark_event.specs.View.{TagView, CodeBlock, Fenced, EventView, Start, Leaf, Text, Html}
+use Rattle.tocmark_event.specs.View.{TagView, CodeBlock, Fenced, Link, Image, EventView, Start, Leaf, Text, Code, Html, InlineHtml}
 
 -- a text for each byte
 abbrev pub letter_events : List ℕ → List EventView
@@ -20,12 +20,16 @@ lettered (Leaf (Text t) ∷ es) = letter_events t ++ lettered es
 lettered (Leaf (Html t) ∷ es) = html_letters t ++ lettered es
 lettered (e ∷ es) = e ∷ lettered es
 
--- an info string as a text: U+FFFD for what is not UTF-8
+-- a tag whose info string, destination, title and label are texts: U+FFFD for what is not UTF-8
 abbrev pub tag_as_text : TagView → TagView
 tag_as_text (CodeBlock (Fenced info)) = CodeBlock (Fenced (utf8_lossy info))
+tag_as_text (Link k destination title label) = Link k (utf8_lossy destination) (utf8_lossy title) (utf8_lossy label)
+tag_as_text (Image k destination title label) = Image k (utf8_lossy destination) (utf8_lossy title) (utf8_lossy label)
 tag_as_text t = t
 
--- an event whose info string is a text
+-- an event whose words are texts
 abbrev pub as_text : EventView → EventView
 as_text (Start t) = Start (tag_as_text t)
+as_text (Leaf (Code t)) = Leaf (Code (utf8_lossy t))
+as_text (Leaf (InlineHtml t)) = Leaf (InlineHtml (utf8_lossy t))
 as_text e = e

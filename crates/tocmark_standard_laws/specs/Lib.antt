@@ -3,4 +3,6 @@ pub mod Labels
 pub mod Leaves
 pub mod Nesting
 pub mod Lettered
+pub mod SaidBlocks
+pub mod Ended
 pub mod Wordless

@@ -1,6 +1,25 @@
-//! A law of the events of texts.
+//! Laws of the events of texts, and of the steps from blocks to events.
 
+ghost use Rattle.tocmark_standard_laws.specs.Ended.{DeclaredEventsAreSaid, NodesAreEmitted};
+ghost use Rattle.tocmark_standard_laws.specs.SaidBlocks.{BlocksSayTheirTree};
 ghost use Rattle.tocmark_standard_laws.specs.Wordless.{WordlessTextsAreReadAsDeclared};
+
+/// The reader's blocks say, one after the other, what their tree says, in every text.
+///
+/// What is said is each container and each inline, with the number of containers that it is in.
+pub fn blocks_say_their_tree()
+    ensures { BlocksSayTheirTree }
+{}
+
+/// The declared events of every text are those of what its declared blocks say: a container ends before what isn't deeper.
+pub fn declared_events_are_said()
+    ensures { DeclaredEventsAreSaid }
+{}
+
+/// The events that the reader makes of nodes are those of what the nodes show.
+pub fn nodes_are_emitted()
+    ensures { NodesAreEmitted }
+{}
 
 /// The events of a text of thematic breaks, code, HTML and definitions of links, also in block quotes, are those that CommonMark
 /// declares.
