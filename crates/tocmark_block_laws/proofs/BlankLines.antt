@@ -253,7 +253,7 @@ pub blank_in_list : (text : List ℕ) (w : BlankRow text) (sort b e n : ℕ) (ha
 blank_in_list text w sort b e n had bs ps end number kept =
     blank_comes text w 1 (list_box sort b e n had ∷ []) leaf.Nothing bs ps end number kept (blank_alone (blank_columns text w) (blank_place text w) sort b e n had (blank_ink text w)) (λ cursor. rests text (blank_columns text w) w.line cursor leaf.Nothing refl)
 
-pub blank_at_top : (text : List ℕ) (w : BlankRow text) (bs : List ReadBlock) (ps : List Piece) (end number kept : ℕ)
-    → line_taken text (stack_page [] leaf.Nothing bs ps end number kept) w.line ≡ closed_to text 0 (stack_page [] leaf.Nothing bs ps end number kept)
-blank_at_top text w bs ps end number kept =
-    blank_comes text w 0 [] leaf.Nothing bs ps end number kept (record { cursor = blank_place text w; is = refl; long = blank_ink text w }) (λ cursor. rests text (blank_columns text w) w.line cursor leaf.Nothing refl)
+pub blank_at_top : (text : List ℕ) (w : BlankRow text) (lf : Leaf) (bs : List ReadBlock) (ps : List Piece) (end number kept : ℕ) → is_resting lf ≡ true
+    → line_taken text (stack_page [] lf bs ps end number kept) w.line ≡ closed_to text 0 (stack_page [] lf bs ps end number kept)
+blank_at_top text w lf bs ps end number kept rest =
+    blank_comes text w 0 [] lf bs ps end number kept (record { cursor = blank_place text w; is = refl; long = blank_ink text w }) (λ cursor. rests text (blank_columns text w) w.line cursor lf rest)

@@ -1,5 +1,5 @@
 -- What is declared of lines that begin an item each.
-use Rattle.std.proofs.Common.{◌≡◌, ℕ, zero, suc, ◌+◌, ◌-◌, ◌<◌, ◌≤◌, Bool, true, false, not, ◌==◌, ◌&&◌, ◌||◌, cond, if◌then◌else◌, nat_lt, nat_le, List, [], ◌∷◌, ◌++◌, length, map, drop, refl, ap, sym, subst, ◌∙◌, arith, append_assoc, append-nil, length-append, true≢false}
+use Rattle.std.proofs.Common.{◌≡◌, ◌⊎◌, inl, inr, ℕ, zero, suc, ◌+◌, ◌-◌, ◌<◌, ◌≤◌, Bool, true, false, not, ◌==◌, ◌&&◌, ◌||◌, cond, if◌then◌else◌, nat_lt, nat_le, List, [], ◌∷◌, ◌++◌, length, map, max, drop, refl, ap, sym, subst, ◌∙◌, arith, append_assoc, append-nil, length-append, true≢false}
 use Rattle.std.specs.Prelude.{take_while, Option, Some, None}
 use Rattle.std.specs.List.{AllByRecursion, fold, list_any}
 use Rattle.std.proofs.lemmas.Bool.Decides.{nat_tests}
@@ -7,9 +7,9 @@ use Rattle.std.proofs.lemmas.List.{length-map, drop-drop}
 use Rattle.std.proofs.lemmas.List.Sums.{take_while-cons}
 use Rattle.tocmark_read_scan.proofs.PlainPieces.{drop_behind}
 use Rattle.tocmark_read_page.specs.Definitions.{DefinitionView}
-use Rattle.tocmark_commonmark.specs.Lines.{Line, Part, Written, is_blank_byte, is_blank, is_blank_line, tab_width, indent, ink, line_ink, without_blank, without_byte, without_column, without_columns}
-use Rattle.tocmark_commonmark.specs.Tree.{Block, Blocks, none, more, BulletList, OrderedList, Item, defined, defined_in, Found, last_of, tree, Taken}
-use Rattle.tocmark_commonmark.specs.Beginnings.{ItemMark, Beginning, BlankLine, CodeLine, QuoteLine, HeadingLine, FenceLine, HtmlLine, RuleLine, ItemLine, TextLine, LazyLine, beginning_of, beginning, may_be_lazy}
+use Rattle.tocmark_commonmark.specs.Lines.{Line, Part, Written, Lazy, is_blank_byte, is_blank, is_blank_line, tab_width, indent, ink, line_ink, without_blank, without_byte, without_column, without_columns}
+use Rattle.tocmark_commonmark.specs.Tree.{Block, Blocks, none, more, BulletList, OrderedList, Item, defined, defined_in, Found, ends_open, last_of, tree, Taken}
+use Rattle.tocmark_commonmark.specs.Beginnings.{ItemMark, Beginning, BlankLine, CodeLine, QuoteLine, HeadingLine, FenceLine, HtmlLine, RuleLine, ItemLine, TextLine, LazyLine, beginning_of, beginning, interrupts, may_be_lazy}
 use Rattle.tocmark_commonmark.specs.Containers.{goes_on, front, lazily, in_item_as, in_item, item_lines}
 use Rattle.tocmark_commonmark.specs.Leaves.{definitions, underline, turn_of, turned, paragraph_lines, paragraph_left, definitions_found, paragraph_of}
 use Rattle.tocmark_commonmark.specs.Lists.{ItemFound, item_block, same_sort, sibling, and_siblings, blank_count, items_after, items_with, items, gap_after, has_gap, is_tight, list_block, items_end, last_is_open, list_with}
@@ -17,6 +17,7 @@ use Rattle.tocmark_commonmark.specs.Blocks.{first_block, and_rest, blocks_from}
 use Rattle.tocmark_block_laws.specs.Trees.{told, told_before}
 use Rattle.tocmark_block_laws.specs.Lists.{is_one_line}
 use Rattle.tocmark_block_laws.proofs.Columns.{front_low}
+use Rattle.tocmark_block_laws.proofs.Starts.{is_blank_kind}
 use Rattle.tocmark_block_laws.proofs.Told.{also}
 use Rattle.tocmark_block_laws.proofs.Ends.{no_blocks, from_there}
 use Rattle.tocmark_block_laws.proofs.ReadCodes.{Pass, while_whole, while_front}
@@ -31,26 +32,65 @@ pub record Marked : Type 0 where
   pub short : (definitions (line_ink (Written mark.first) ∷ [])).1 ≤ 1
   pub blank : Pass (λ (p : Part). is_blank p.bytes) blanks
 
-abbrev pub shown_item : Marked → Line
-shown_item v = Written v.part
+-- a line that begins a leaf of one line, which is in no list, and the blank lines after it
+pub record Single : Type 0 where
+  pub part : Part
+  pub kind : Beginning
+  pub blanks : List Part
+  pub begins : beginning (Written part) ≡ kind
+  pub one : is_one_line kind ≡ true
+  pub some : is_blank_kind kind ≡ false
+  pub ink : is_blank part.bytes ≡ false
+  pub short : (definitions (line_ink (Written part) ∷ [])).1 ≤ 1
+  pub blank : Pass (λ (p : Part). is_blank p.bytes) blanks
+
+pub data Entry : Type 0 where
+  ItemEntry : Marked → Entry
+  LeafEntry : Single → Entry
+
+abbrev pub entry_part : Entry → Part
+entry_part (ItemEntry v) = v.part
+entry_part (LeafEntry u) = u.part
+
+abbrev pub entry_blanks : Entry → List Part
+entry_blanks (ItemEntry v) = v.blanks
+entry_blanks (LeafEntry u) = u.blanks
 
 abbrev pub written : List Part → List Line
 written ps = map (λ (p : Part). Written p) ps
 
 -- all their lines
-abbrev pub all_shown : List Marked → List Line
+abbrev pub all_shown : List Entry → List Line
 all_shown [] = []
-all_shown (v ∷ vs) = shown_item v ∷ (written v.blanks ++ all_shown vs)
+all_shown (e ∷ es) = Written (entry_part e) ∷ (written (entry_blanks e) ++ all_shown es)
 
 -- how many lines these are
-abbrev pub span : List Marked → ℕ
+abbrev pub span : List Entry → ℕ
 span [] = 0
-span (v ∷ vs) = suc (length v.blanks) + span vs
+span (e ∷ es) = suc (length (entry_blanks e)) + span es
 
--- each item is outside the one above it
-abbrev pub Follow : ℕ → List Marked → Type 0
-Follow width [] = Unit {0}
-Follow width (v ∷ vs) = (indent v.part < width) × Follow v.mark.width vs
+abbrev item_span : List Marked → ℕ
+item_span [] = 0
+item_span (v ∷ vs) = suc (length v.blanks) + item_span vs
+
+-- blank lines are after an item
+abbrev pub has_blanks : Marked → Bool
+has_blanks v = nat_lt 0 (length v.blanks)
+
+abbrev pub is_text_kind : Beginning → Bool
+is_text_kind TextLine = true
+is_text_kind k = false
+
+-- a paragraph ends with its line
+abbrev pub closes_line : Single → List Entry → Bool
+closes_line u [] = true
+closes_line u (e ∷ es) = not (is_text_kind u.kind) || nat_lt 0 (length u.blanks)
+
+-- each line is outside the item above it, and continues no paragraph
+abbrev pub Follow : ℕ → Bool → List Entry → Type 0
+Follow width quiet [] = Unit {0}
+Follow width quiet (ItemEntry v ∷ es) = (indent v.part < width) × Follow v.mark.width (has_blanks v) es
+Follow width quiet (LeafEntry u ∷ es) = (indent u.part < width) × ((is_text_kind u.kind && not quiet) ≡ false) × (closes_line u es ≡ true) × Follow 4 true es
 
 -- the blocks of an item
 abbrev pub content_blocks : Marked → List Found
@@ -229,21 +269,17 @@ abbrev items_of : ℕ → List Marked → List ItemFound
 items_of n [] = []
 items_of n (v ∷ vs) = item_at n v ∷ items_of (n + suc (length v.blanks)) vs
 
-items_more : (n : ℕ) (us : List Marked) (v : Marked) → items_of n (us ++ v ∷ []) ≡ items_of n us ++ item_at (n + span us) v ∷ []
+items_more : (n : ℕ) (us : List Marked) (v : Marked) → items_of n (us ++ v ∷ []) ≡ items_of n us ++ item_at (n + item_span us) v ∷ []
 items_more n [] v = ap (λ k. item_at k v ∷ []) (let q : n ≡ n + 0 = omega arith in q)
 items_more n (u ∷ us) v =
     ap (λ is. item_at n u ∷ is) (items_more (n + suc (length u.blanks)) us v
-    ∙ ap (λ k. items_of (n + suc (length u.blanks)) us ++ item_at k v ∷ []) (let q : n + suc (length u.blanks) + span us ≡ n + (suc (length u.blanks) + span us) = omega arith in q))
+    ∙ ap (λ k. items_of (n + suc (length u.blanks)) us ++ item_at k v ∷ []) (let q : n + suc (length u.blanks) + item_span us ≡ n + (suc (length u.blanks) + item_span us) = omega arith in q))
 
-span_more : (us : List Marked) (v : Marked) → span (us ++ v ∷ []) ≡ span us + suc (length v.blanks)
+span_more : (us : List Marked) (v : Marked) → item_span (us ++ v ∷ []) ≡ item_span us + suc (length v.blanks)
 span_more [] v = omega arith
-span_more (u ∷ us) v = let q : span (us ++ v ∷ []) ≡ span us + suc (length v.blanks) = span_more us v in omega (arith, q)
+span_more (u ∷ us) v = let q : item_span (us ++ v ∷ []) ≡ item_span us + suc (length v.blanks) = span_more us v in omega (arith, q)
 
--- blank lines are after an item
-abbrev pub has_blanks : Marked → Bool
-has_blanks v = nat_lt 0 (length v.blanks)
-
--- they are between two items
+-- blank lines are between two items
 abbrev gaps_after : Marked → List Marked → Bool
 gaps_after u [] = false
 gaps_after u (v ∷ vs) = has_blanks u || gaps_after v vs
@@ -302,18 +338,46 @@ ink_in v = by (is_blank v.part.bytes) v.begins
     by true e = absurd cc
     by false e = refl
 
-outside : (blocks : List Line → List Found) (width : ℕ) (inside : List Line) (v : Marked) → indent v.part < width → in_item blocks width inside (shown_item v) ≡ None
+outside : (blocks : List Line → List Found) (width : ℕ) (inside : List Line) (v : Marked) → indent v.part < width → in_item blocks width inside (Written v.part) ≡ None
 unfolding may_be_lazy
 outside blocks width inside v low =
     ap (λ k. in_item_as blocks width inside v.part k (nat_le width (indent v.part))) (ink_in v)
     ∙ ap (in_item_as blocks width inside v.part false) (let q : nat_le width (indent v.part) ≡ false = grind (arith, low, nat_tests) in q)
     ∙ ap (λ k. lazily blocks inside (ink v.part) (may_be_lazy k)) v.begins
 
--- no item after this one goes on in it
-front_ends : (blocks : List Line → List Found) (width : ℕ) (inside : List Line) (vs : List Marked) → Follow width vs → front (in_item blocks width) inside (all_shown vs) ≡ inside
-front_ends blocks width inside [] h = refl
-front_ends blocks width inside (v ∷ vs) h =
-    ap (goes_on (λ x. front (in_item blocks width) (inside ++ x ∷ []) (written v.blanks ++ all_shown vs)) inside) (outside blocks width inside v (h.0))
+-- the lines so far end with no open paragraph, if that is asked
+abbrev IsQuiet : (List Line → List Found) → List Line → Bool → Type 0
+IsQuiet blocks inside quiet = quiet ≡ true → ends_open (length inside) (blocks inside) ≡ false
+
+-- a leaf continues no paragraph
+lazily_none : (blocks : List Line → List Found) (inside : List Line) (bytes : List ℕ) (k : Beginning) (quiet : Bool) → is_one_line k ≡ true → (is_text_kind k && not quiet) ≡ false → IsQuiet blocks inside quiet → lazily blocks inside bytes (may_be_lazy k) ≡ None
+unfolding may_be_lazy interrupts
+lazily_none blocks inside bytes BlankLine quiet e q h = refl
+lazily_none blocks inside bytes CodeLine quiet e q h = absurd (true≢false (sym e))
+lazily_none blocks inside bytes QuoteLine quiet e q h = absurd (true≢false (sym e))
+lazily_none blocks inside bytes (HeadingLine x) quiet e q h = refl
+lazily_none blocks inside bytes (FenceLine f) quiet e q h = absurd (true≢false (sym e))
+lazily_none blocks inside bytes (HtmlLine k) quiet e q h = absurd (true≢false (sym e))
+lazily_none blocks inside bytes RuleLine quiet e q h = refl
+lazily_none blocks inside bytes (ItemLine m) quiet e q h = absurd (true≢false (sym e))
+lazily_none blocks inside bytes TextLine true e q h = ap (λ k. if k then Some (Lazy bytes) else None) (h refl)
+lazily_none blocks inside bytes TextLine false e q h = absurd (true≢false q)
+lazily_none blocks inside bytes LazyLine quiet e q h = absurd (true≢false (sym e))
+
+outside_leaf : (blocks : List Line → List Found) (width : ℕ) (inside : List Line) (u : Single) (quiet : Bool) → indent u.part < width → (is_text_kind u.kind && not quiet) ≡ false → IsQuiet blocks inside quiet → in_item blocks width inside (Written u.part) ≡ None
+outside_leaf blocks width inside u quiet low q h =
+    ap (λ k. in_item_as blocks width inside u.part k (nat_le width (indent u.part))) u.ink
+    ∙ ap (in_item_as blocks width inside u.part false) (let r : nat_le width (indent u.part) ≡ false = grind (arith, low, nat_tests) in r)
+    ∙ ap (λ k. lazily blocks inside (ink u.part) (may_be_lazy k)) u.begins
+    ∙ lazily_none blocks inside (ink u.part) u.kind quiet u.one q h
+
+-- no line after this one goes on in it
+front_ends : (blocks : List Line → List Found) (width : ℕ) (quiet : Bool) (inside : List Line) (es : List Entry) → Follow width quiet es → IsQuiet blocks inside quiet → front (in_item blocks width) inside (all_shown es) ≡ inside
+front_ends blocks width quiet inside [] h q = refl
+front_ends blocks width quiet inside (ItemEntry v ∷ es) h q =
+    ap (goes_on (λ x. front (in_item blocks width) (inside ++ x ∷ []) (written v.blanks ++ all_shown es)) inside) (outside blocks width inside v (h.0))
+front_ends blocks width quiet inside (LeafEntry u ∷ es) h q =
+    ap (goes_on (λ x. front (in_item blocks width) (inside ++ x ∷ []) (written u.blanks ++ all_shown es)) inside) (outside_leaf blocks width inside u quiet (h.0) (h.1) q)
 
 abbrev some_ink : List Line → Bool
 some_ink inside = list_any (λ l. not (is_blank_line l)) inside
@@ -337,42 +401,81 @@ front_blanks blocks width inside (p ∷ ps) ls h e =
     ∙ ap (λ xs. front (in_item blocks width) xs ls) (append_assoc inside (Written (without_columns width p) ∷ []) (kept_blanks true width ps))
 
 -- they don't in one without
-front_stops : (blocks : List Line → List Found) (width : ℕ) (l : Line) (ps : List Part) (vs : List Marked) → Pass (λ (p : Part). is_blank p.bytes) ps → is_blank_line l ≡ true → Follow width vs
-    → front (in_item blocks width) (l ∷ []) (written ps ++ all_shown vs) ≡ l ∷ []
-front_stops blocks width l [] vs h e follow = front_ends blocks width (l ∷ []) vs follow
-front_stops blocks width l (p ∷ ps) vs h e follow =
-    ap (λ k. goes_on (λ x. front (in_item blocks width) ((l ∷ []) ++ x ∷ []) (written ps ++ all_shown vs)) (l ∷ []) (in_item_as blocks width (l ∷ []) p k (nat_le width (indent p)))) (h.0)
-    ∙ ap (λ k. goes_on (λ x. front (in_item blocks width) ((l ∷ []) ++ x ∷ []) (written ps ++ all_shown vs)) (l ∷ []) (if not k || false then Some (Written (without_columns width p)) else None)) e
+front_stops : (blocks : List Line → List Found) (width : ℕ) (l : Line) (ps : List Part) (es : List Entry) → Pass (λ (p : Part). is_blank p.bytes) ps → is_blank_line l ≡ true → Follow width (nat_lt 0 (length ps)) es
+    → front (in_item blocks width) (l ∷ []) (written ps ++ all_shown es) ≡ l ∷ []
+front_stops blocks width l [] es h e follow = front_ends blocks width false (l ∷ []) es follow (λ q. absurd (true≢false (sym q)))
+front_stops blocks width l (p ∷ ps) es h e follow =
+    ap (λ k. goes_on (λ x. front (in_item blocks width) ((l ∷ []) ++ x ∷ []) (written ps ++ all_shown es)) (l ∷ []) (in_item_as blocks width (l ∷ []) p k (nat_le width (indent p)))) (h.0)
+    ∙ ap (λ k. goes_on (λ x. front (in_item blocks width) ((l ∷ []) ++ x ∷ []) (written ps ++ all_shown es)) (l ∷ []) (if not k || false then Some (Written (without_columns width p)) else None)) e
 
-item_alone : (blocks : List Line → List Found) (v : Marked) (vs : List Marked) → Follow v.mark.width vs → item_lines blocks v.mark (written v.blanks ++ all_shown vs) ≡ inside_item v
-item_alone blocks v vs h = by (is_blank v.mark.first.bytes) refl
+item_alone : (blocks : List Line → List Found) (v : Marked) (es : List Entry) → Follow v.mark.width (has_blanks v) es → IsQuiet blocks (inside_item v) (has_blanks v) → item_lines blocks v.mark (written v.blanks ++ all_shown es) ≡ inside_item v
+item_alone blocks v es h quiet = by (is_blank v.mark.first.bytes) refl
   where
-    by : (k : Bool) → is_blank v.mark.first.bytes ≡ k → item_lines blocks v.mark (written v.blanks ++ all_shown vs) ≡ Written v.mark.first ∷ kept_blanks (not k) v.mark.width v.blanks
-    by true e = front_stops blocks v.mark.width (Written v.mark.first) v.blanks vs v.blank e h
+    by : (k : Bool) → is_blank v.mark.first.bytes ≡ k → item_lines blocks v.mark (written v.blanks ++ all_shown es) ≡ Written v.mark.first ∷ kept_blanks (not k) v.mark.width v.blanks
+    by true e = front_stops blocks v.mark.width (Written v.mark.first) v.blanks es v.blank e h
     by false e =
-        front_blanks blocks v.mark.width (Written v.mark.first ∷ []) v.blanks (all_shown vs) v.blank (ap (λ k. not k || false) e)
-        ∙ front_ends blocks v.mark.width (Written v.mark.first ∷ kept_blanks true v.mark.width v.blanks) vs h
+        front_blanks blocks v.mark.width (Written v.mark.first ∷ []) v.blanks (all_shown es) v.blank (ap (λ k. not k || false) e)
+        ∙ front_ends blocks v.mark.width (has_blanks v) (Written v.mark.first ∷ kept_blanks true v.mark.width v.blanks) es h
+        (λ q. ap (λ k. ends_open (length (Written v.mark.first ∷ kept_blanks (not k) v.mark.width v.blanks)) (blocks (Written v.mark.first ∷ kept_blanks (not k) v.mark.width v.blanks))) (sym e) ∙ quiet q)
+
+-- an item before blank lines ends with no open paragraph
+
+last_grows : (fs : List Found) (m : ℕ) → m ≤ fold (λ (n : ℕ) (f : Found). max n f.last) m fs
+last_grows [] m = omega arith
+last_grows (f ∷ fs) m = let low : max m f.last ≤ fold (λ (n : ℕ) (g : Found). max n g.last) (max m f.last) fs = last_grows fs (max m f.last) in omega (arith, low)
+
+and_false : (a b : Bool) → b ≡ false → (a && b) ≡ false
+and_false true b e = e
+and_false false b e = refl
+
+ends_none : (count : ℕ) (fs : List Found) (m : ℕ) (was : Bool) → fold (λ (n : ℕ) (f : Found). max n f.last) m fs ≡ 0 → 1 < count → was ≡ false → fold (λ (k : Bool) (f : Found). f.is_open && (f.last + 1 == count)) was fs ≡ false
+ends_none count [] m was e many shut = shut
+ends_none count (f ∷ fs) m was e many shut =
+    let low : max m f.last ≤ fold (λ (n : ℕ) (g : Found). max n g.last) (max m f.last) fs = last_grows fs (max m f.last) in
+    let first : f.last ≡ 0 = omega (arith, low, e) in
+    ends_none count fs (max m f.last) (f.is_open && (f.last + 1 == count)) e many (and_false f.is_open (f.last + 1 == count) (grind (arith, first, many, nat_tests)))
+
+empty_content : (v : Marked) → is_blank v.mark.first.bytes ≡ true → content_blocks v ≡ []
+empty_content v e = content_alone v ∙ ap (alone (Written v.mark.first)) (begins_blank v.mark.first e)
+
+item_quiet : (fuel : ℕ) (v : Marked) → IsQuiet (λ x. blocks_from (suc fuel) 0 x) (inside_item v) (has_blanks v)
+item_quiet fuel v some = ap (ends_open (length (inside_item v))) (content_same fuel v) ∙ by (is_blank v.mark.first.bytes) refl
+  where
+    tight : IsTight (content_blocks v)
+    tight = content_tight v
+
+    by : (k : Bool) → is_blank v.mark.first.bytes ≡ k → ends_open (length (Written v.mark.first ∷ kept_blanks (not k) v.mark.width v.blanks)) (content_blocks v) ≡ false
+    by true e = ap (ends_open 1) (empty_content v e)
+    by false e =
+        let count : length (kept_blanks true v.mark.width v.blanks) ≡ length v.blanks = length-map v.blanks (λ (p : Part). Written (without_columns v.mark.width p)) in
+        let lines : 0 < length v.blanks = grind (arith, some, nat_tests) in
+        ends_none (suc (length (kept_blanks true v.mark.width v.blanks))) (content_blocks v) 0 false (tight.0) (omega (arith, count, lines)) refl
 
 -- the blank lines before an item
 blank_lines : (ps : List Part) → Pass (λ (p : Part). is_blank p.bytes) ps → Pass is_blank_line (written ps)
 blank_lines [] h = tt
 blank_lines (p ∷ ps) h = (h.0, blank_lines ps (h.1))
 
-blanks_counted : (ps : List Part) (vs : List Marked) → Pass (λ (p : Part). is_blank p.bytes) ps → blank_count (written ps ++ all_shown vs) ≡ length ps
+pub entry_ink : (e : Entry) → is_blank (entry_part e).bytes ≡ false
+entry_ink (ItemEntry v) = ink_in v
+entry_ink (LeafEntry u) = u.ink
+
+blanks_counted : (ps : List Part) (es : List Entry) → Pass (λ (p : Part). is_blank p.bytes) ps → blank_count (written ps ++ all_shown es) ≡ length ps
 blanks_counted ps [] h = ap (λ (ls : List Line). length ls) (while_whole is_blank_line (written ps) (blank_lines ps h)) ∙ length-map ps (λ (p : Part). Written p)
-blanks_counted ps (v ∷ vs) h = ap (λ (ls : List Line). length ls) (while_front is_blank_line (written ps) (shown_item v) (written v.blanks ++ all_shown vs) (blank_lines ps h) (ink_in v)) ∙ length-map ps (λ (p : Part). Written p)
+blanks_counted ps (e ∷ es) h =
+    ap (λ (ls : List Line). length ls) (while_front is_blank_line (written ps) (Written (entry_part e)) (written (entry_blanks e) ++ all_shown es) (blank_lines ps h) (entry_ink e)) ∙ length-map ps (λ (p : Part). Written p)
 
 drop_written : (ps : List Part) (ls : List Line) → drop (length ps) (written ps ++ ls) ≡ ls
 drop_written ps ls = ap (λ n. drop n (written ps ++ ls)) (sym (length-map ps (λ (p : Part). Written p))) ∙ drop_behind (written ps) ls
 
 -- the items after one
-abbrev items_next : (List Line → List Found) → ℕ → ℕ → ℕ → List Marked → List ItemFound
-items_next blocks k n sort vs = and_siblings (λ s. items blocks k n s) (sibling sort (all_shown vs))
+abbrev items_next : (List Line → List Found) → ℕ → ℕ → ℕ → List Entry → List ItemFound
+items_next blocks k n sort es = and_siblings (λ s. items blocks k n s) (sibling sort (all_shown es))
 
-items_step : (fuel k n : ℕ) (v : Marked) (vs : List Marked) → Follow v.mark.width vs
+items_step : (fuel k n : ℕ) (v : Marked) (vs : List Entry) → Follow v.mark.width (has_blanks v) vs
     → items (λ x. blocks_from (suc fuel) 0 x) (suc k) n (v.mark, written v.blanks ++ all_shown vs) ≡ item_at n v ∷ items_next (λ x. blocks_from (suc fuel) 0 x) k (n + suc (length v.blanks)) v.mark.sort vs
 items_step fuel k n v vs h =
-    ap (items_with (λ m s. items inner k m s) inner n v.mark ls) (item_alone inner v vs h)
+    ap (items_with (λ m s. items inner k m s) inner n v.mark ls) (item_alone inner v vs h (item_quiet fuel v))
     ∙ ap (λ fs. record { found = fs; first = n; count = length (inside_item v) } ∷ next (n + length (lines (has_ink v))) (drop (length (lines (has_ink v)) - 1) ls) (blank_count (drop (length (lines (has_ink v)) - 1) ls))) (content_same fuel v)
     ∙ ap (λ is. item_at n v ∷ is) (by (has_ink v))
   where
@@ -411,17 +514,37 @@ list_told tight (Some n) is = OrderedList 0 n tight is
 abbrev pub item_told : Marked → Blocks
 item_told v = more (Item (told (tree (content_blocks v)))) none
 
--- a list with these items so far, and all that come after them; blank lines may be after the last of them
-abbrev pub lists_told : Option ℕ → ℕ → Blocks → Bool → Bool → List Marked → Blocks
-lists_told number sort is tight blank [] = more (list_told tight number is) none
-lists_told number sort is tight blank (v ∷ vs) =
-    if v.mark.sort == sort then lists_told number v.mark.sort (also is (item_told v)) (tight && not blank) (has_blanks v) vs
-    else more (list_told tight number is) (lists_told v.mark.number v.mark.sort (item_told v) true (has_blanks v) vs)
+-- a leaf outside lists
+abbrev pub leaf_told : Single → Blocks
+leaf_told u = told (tree (alone (Written u.part) u.kind))
+
+abbrev mutual
+  -- leaves and lists
+  pub docs_told : List Entry → Blocks
+  docs_told [] = none
+  docs_told (LeafEntry u ∷ es) = also (leaf_told u) (docs_told es)
+  docs_told (ItemEntry v ∷ es) = lists_told v.mark.number v.mark.sort (item_told v) true (has_blanks v) es
+
+  -- a list with these items so far, and all that comes after them; blank lines may be after the last of them
+  pub lists_told : Option ℕ → ℕ → Blocks → Bool → Bool → List Entry → Blocks
+  lists_told number sort is tight blank [] = more (list_told tight number is) none
+  lists_told number sort is tight blank (LeafEntry u ∷ es) = more (list_told tight number is) (also (leaf_told u) (docs_told es))
+  lists_told number sort is tight blank (ItemEntry v ∷ es) =
+      if v.mark.sort == sort then lists_told number v.mark.sort (also is (item_told v)) (tight && not blank) (has_blanks v) es
+      else more (list_told tight number is) (lists_told v.mark.number v.mark.sort (item_told v) true (has_blanks v) es)
 
 -- the definitions in them
-abbrev pub all_defined : List Marked → List DefinitionView
+abbrev pub entry_defined : Entry → List DefinitionView
+entry_defined (ItemEntry v) = defined (tree (content_blocks v))
+entry_defined (LeafEntry u) = defined (tree (alone (Written u.part) u.kind))
+
+abbrev pub all_defined : List Entry → List DefinitionView
 all_defined [] = []
-all_defined (v ∷ vs) = defined (tree (content_blocks v)) ++ all_defined vs
+all_defined (e ∷ es) = entry_defined e ++ all_defined es
+
+abbrev items_defined : List Marked → List DefinitionView
+items_defined [] = []
+items_defined (v ∷ vs) = defined (tree (content_blocks v)) ++ items_defined vs
 
 -- these blocks are told so, and have these definitions
 pub record AreTold (fs : List Found) (bs : Blocks) (ds : List DefinitionView) : Type 0 where
@@ -441,13 +564,13 @@ told_more : (us : List Marked) (v : Marked) → told_items (us ++ v ∷ []) ≡ 
 told_more [] v = refl
 told_more (u ∷ us) v = ap (λ y. more (Item (told (tree (content_blocks u)))) y) (told_more us v)
 
-defined_items : (n : ℕ) (us : List Marked) → defined (tree (map item_block (items_of n us))) ≡ all_defined us
+defined_items : (n : ℕ) (us : List Marked) → defined (tree (map item_block (items_of n us))) ≡ items_defined us
 defined_items n [] = refl
 defined_items n (u ∷ us) = ap (λ ds. defined (tree (content_blocks u)) ++ ds) (defined_items (n + suc (length u.blanks)) us)
 
-defined_more : (us : List Marked) (v : Marked) → all_defined (us ++ v ∷ []) ≡ all_defined us ++ defined (tree (content_blocks v))
+defined_more : (us : List Marked) (v : Marked) → items_defined (us ++ v ∷ []) ≡ items_defined us ++ defined (tree (content_blocks v))
 defined_more [] v = append-nil (defined (tree (content_blocks v)))
-defined_more (u ∷ us) v = ap (λ ds. defined (tree (content_blocks u)) ++ ds) (defined_more us v) ∙ sym (append_assoc (defined (tree (content_blocks u))) (all_defined us) (defined (tree (content_blocks v))))
+defined_more (u ∷ us) v = ap (λ ds. defined (tree (content_blocks u)) ++ ds) (defined_more us v) ∙ sym (append_assoc (defined (tree (content_blocks u))) (items_defined us) (defined (tree (content_blocks v))))
 
 told_list : (m : ItemMark) (n : Option ℕ) (tight : Bool) (is y : Blocks) → told_before (list_block m n tight is) y ≡ more (list_told tight n (told is)) y
 told_list m None tight is y = refl
@@ -463,9 +586,9 @@ defined_list m (Some n) tight is = refl
 abbrev last_lines : Marked → ℕ
 last_lines v = length (inside_item v)
 
-end_from : (n m : ℕ) (us : List Marked) (v : Marked) → fold (λ (k : ℕ) (i : ItemFound). i.first + i.count) m (items_of n (us ++ v ∷ [])) ≡ n + span us + last_lines v
+end_from : (n m : ℕ) (us : List Marked) (v : Marked) → fold (λ (k : ℕ) (i : ItemFound). i.first + i.count) m (items_of n (us ++ v ∷ [])) ≡ n + item_span us + last_lines v
 end_from n m [] v = omega arith
-end_from n m (u ∷ us) v = end_from (n + suc (length u.blanks)) (n + last_lines u) us v ∙ (let q : n + suc (length u.blanks) + span us + last_lines v ≡ n + (suc (length u.blanks) + span us) + last_lines v = omega arith in q)
+end_from n m (u ∷ us) v = end_from (n + suc (length u.blanks)) (n + last_lines u) us v ∙ (let q : n + suc (length u.blanks) + item_span us + last_lines v ≡ n + (suc (length u.blanks) + item_span us) + last_lines v = omega arith in q)
 
 -- the lines after it
 abbrev left_lines : Marked → List Line → List Line
@@ -474,11 +597,11 @@ left_lines v ls = if has_ink v then ls else written v.blanks ++ ls
 drop_more : (n k : ℕ) (xs : List Line) → drop (n + k) xs ≡ drop k (drop n xs)
 drop_more n k xs = sym (drop-drop k n xs)
 
-lines_left : (n : ℕ) (whole : List Line) (v : Marked) (ls : List Line) → drop n whole ≡ shown_item v ∷ (written v.blanks ++ ls) → drop (n + last_lines v) whole ≡ left_lines v ls
+lines_left : (n : ℕ) (whole : List Line) (v : Marked) (ls : List Line) → drop n whole ≡ Written v.part ∷ (written v.blanks ++ ls) → drop (n + last_lines v) whole ≡ left_lines v ls
 lines_left n whole v ls e = drop_more n (last_lines v) whole ∙ ap (drop (last_lines v)) e ∙ by (has_ink v)
   where
-    by : (k : Bool) → drop (length (Written v.mark.first ∷ kept_blanks k v.mark.width v.blanks)) (shown_item v ∷ (written v.blanks ++ ls)) ≡ (if k then ls else written v.blanks ++ ls)
-    by true = ap (λ m. drop (suc m) (shown_item v ∷ (written v.blanks ++ ls))) (length-map v.blanks (λ (p : Part). Written (without_columns v.mark.width p))) ∙ drop_written v.blanks ls
+    by : (k : Bool) → drop (length (Written v.mark.first ∷ kept_blanks k v.mark.width v.blanks)) (Written v.part ∷ (written v.blanks ++ ls)) ≡ (if k then ls else written v.blanks ++ ls)
+    by true = ap (λ m. drop (suc m) (Written v.part ∷ (written v.blanks ++ ls))) (length-map v.blanks (λ (p : Part). Written (without_columns v.mark.width p))) ∙ drop_written v.blanks ls
     by false = refl
 
 abbrev list_found : ItemMark → ℕ → List ItemFound → Found
@@ -488,17 +611,17 @@ list_found m n is = record { block = list_block m m.number (is_tight is) (tree (
 abbrev ToldFrom : ℕ → List Line → Blocks → List DefinitionView → Type 0
 ToldFrom fuel ls bs ds = (at : ℕ) → AreTold (blocks_from fuel at ls) bs ds
 
-list_ends : (fuel n : ℕ) (whole rest : List Line) (m : ItemMark) (us : List Marked) (v : Marked) (bs : Blocks) (ds : List DefinitionView) → drop (span us + last_lines v) whole ≡ rest → ToldFrom fuel rest bs ds
-    → AreTold (from_there fuel n whole (list_with m n (items_of n (us ++ v ∷ [])))) (more (list_told (not (gaps (us ++ v ∷ []))) m.number (told_items (us ++ v ∷ []))) bs) (all_defined (us ++ v ∷ []) ++ ds)
+list_ends : (fuel n : ℕ) (whole rest : List Line) (m : ItemMark) (us : List Marked) (v : Marked) (bs : Blocks) (ds : List DefinitionView) → drop (item_span us + last_lines v) whole ≡ rest → ToldFrom fuel rest bs ds
+    → AreTold (from_there fuel n whole (list_with m n (items_of n (us ++ v ∷ [])))) (more (list_told (not (gaps (us ++ v ∷ []))) m.number (told_items (us ++ v ∷ []))) bs) (items_defined (us ++ v ∷ []) ++ ds)
 list_ends fuel n whole rest m us v bs ds e t =
-    subst (λ fs. AreTold fs (more (list_told (not (gaps all)) m.number (told_items all)) bs) (all_defined all ++ ds)) (sym ends)
+    subst (λ fs. AreTold fs (more (list_told (not (gaps all)) m.number (told_items all)) bs) (items_defined all ++ ds)) (sym ends)
     (record {
       blocks = told_list m m.number (is_tight is) (tree (map item_block is)) (told (tree rest_found))
           ∙ ap (λ k. more (list_told k m.number (told (tree (map item_block is)))) (told (tree rest_found))) (tight_found n all)
           ∙ ap (λ x. more (list_told (not (gaps all)) m.number x) (told (tree rest_found))) (tree_items n all)
           ∙ ap (more (list_told (not (gaps all)) m.number (told_items all))) (t at).blocks;
       definitions = ap (λ xs. xs ++ defined (tree rest_found)) (defined_list m m.number (is_tight is) (tree (map item_block is)) ∙ defined_items n all)
-          ∙ ap (λ xs. all_defined all ++ xs) (t at).definitions;
+          ∙ ap (λ xs. items_defined all ++ xs) (t at).definitions;
     })
   where
     all : List Marked
@@ -508,13 +631,13 @@ list_ends fuel n whole rest m us v bs ds e t =
     is = items_of n all
 
     at : ℕ
-    at = n + (span us + last_lines v)
+    at = n + (item_span us + last_lines v)
 
     rest_found : List Found
     rest_found = blocks_from fuel at rest
 
-    count : items_end is - n ≡ span us + last_lines v
-    count = let q : items_end is ≡ n + span us + last_lines v = end_from n 0 us v in omega (arith, q)
+    count : items_end is - n ≡ item_span us + last_lines v
+    count = let q : items_end is ≡ n + item_span us + last_lines v = end_from n 0 us v in omega (arith, q)
 
     ends : from_there fuel n whole (list_with m n is) ≡ list_found m n is ∷ rest_found
     ends = ap (λ k. list_found m n is ∷ blocks_from fuel (n + k) (drop k whole)) count ∙ ap (λ ls. list_found m n is ∷ blocks_from fuel at ls) e
@@ -527,61 +650,210 @@ told_left fuel v ls bs ds h at = by (has_ink v)
     by true = h (length v.blanks) at
     by false = subst (λ fs. AreTold fs bs ds) (sym (blanks_skipped fuel at v.blanks ls v.blank)) (subst (λ n. AreTold (blocks_from n (at + length v.blanks) ls) bs ds) (let q : 0 + fuel ≡ fuel = omega arith in q) (h 0 (at + length v.blanks)))
 
--- there are at least as many lines as items
-rows_low : (ps : List Part) (vs : List Marked) → length vs ≤ length (written ps ++ all_shown vs)
+-- there are at least as many lines as entries
+rows_low : (ps : List Part) (es : List Entry) → length es ≤ length (written ps ++ all_shown es)
 rows_low ps [] = omega arith
-rows_low ps (v ∷ vs) =
-    let low : length vs ≤ length (written v.blanks ++ all_shown vs) = rows_low v.blanks vs in
-    let all : length (written ps ++ all_shown (v ∷ vs)) ≡ length (written ps) + length (all_shown (v ∷ vs)) = length-append (written ps) (all_shown (v ∷ vs)) in
+rows_low ps (e ∷ es) =
+    let low : length es ≤ length (written (entry_blanks e) ++ all_shown es) = rows_low (entry_blanks e) es in
+    let all : length (written ps ++ all_shown (e ∷ es)) ≡ length (written ps) + length (all_shown (e ∷ es)) = length-append (written ps) (all_shown (e ∷ es)) in
     omega (arith, low, all)
 
 -- what is declared of lines, after some items of a list
-abbrev Declares : List Marked → Type 0
-Declares vs = (fuel n k sort : ℕ) (m : ItemMark) (us : List Marked) (v : Marked) (whole : List Line) → drop (span us) whole ≡ shown_item v ∷ (written v.blanks ++ all_shown vs) → Follow v.mark.width vs → length vs ≤ k → length v.blanks + span vs < fuel
-    → AreTold (from_there fuel n whole (list_with m n (items_of n (us ++ v ∷ []) ++ items_next (λ x. blocks_from fuel 0 x) k (n + span (us ++ v ∷ [])) sort vs)))
-    (lists_told m.number sort (told_items (us ++ v ∷ [])) (not (gaps (us ++ v ∷ []))) (has_blanks v) vs) (all_defined (us ++ v ∷ []) ++ all_defined vs)
+abbrev Declares : List Entry → Type 0
+Declares es = (fuel n k sort : ℕ) (m : ItemMark) (us : List Marked) (v : Marked) (whole : List Line) → drop (item_span us) whole ≡ Written v.part ∷ (written v.blanks ++ all_shown es) → Follow v.mark.width (has_blanks v) es → length es ≤ k → length v.blanks + span es < fuel
+    → AreTold (from_there fuel n whole (list_with m n (items_of n (us ++ v ∷ []) ++ items_next (λ x. blocks_from fuel 0 x) k (n + item_span (us ++ v ∷ [])) sort es)))
+    (lists_told m.number sort (told_items (us ++ v ∷ [])) (not (gaps (us ++ v ∷ []))) (has_blanks v) es) (items_defined (us ++ v ∷ []) ++ all_defined es)
+
+-- and where no list is open
+abbrev Tops : List Entry → Type 0
+Tops es = (fuel at width : ℕ) → Follow width true es → span es < fuel → AreTold (blocks_from fuel at (all_shown es)) (docs_told es) (all_defined es)
 
 -- a list begins
-list_starts : (v : Marked) (vs : List Marked) → Declares vs → (fuel n : ℕ) → Follow v.mark.width vs → suc (length v.blanks + span vs) < suc fuel
-    → AreTold (blocks_from (suc fuel) n (all_shown (v ∷ vs))) (lists_told v.mark.number v.mark.sort (item_told v) true (has_blanks v) vs) (all_defined (v ∷ vs))
+list_starts : (v : Marked) (es : List Entry) → Declares es → (fuel n : ℕ) → Follow v.mark.width (has_blanks v) es → suc (length v.blanks + span es) < suc fuel
+    → AreTold (blocks_from (suc fuel) n (all_shown (ItemEntry v ∷ es))) (lists_told v.mark.number v.mark.sort (item_told v) true (has_blanks v) es) (all_defined (ItemEntry v ∷ es))
 unfolding blocks_from
-list_starts v vs again zero n follow few = absurd (omega (arith, few))
-list_starts v vs again (suc f) n follow few =
-    subst (λ fs. AreTold fs (lists_told v.mark.number v.mark.sort (item_told v) true (has_blanks v) vs) (all_defined (v ∷ vs))) (sym starts)
-    (subst (λ ds. AreTold (from_there (suc f) n (all_shown (v ∷ vs)) (list_with v.mark n (item_at n v ∷ items_next inner (length ls) (n + span (v ∷ [])) v.mark.sort vs))) (lists_told v.mark.number v.mark.sort (item_told v) true (has_blanks v) vs) (ds ++ all_defined vs)) (append-nil (defined (tree (content_blocks v))))
-    (again (suc f) n (length ls) v.mark.sort v.mark [] v (all_shown (v ∷ vs)) refl follow (rows_low v.blanks vs) (omega (arith, few))))
+list_starts v es again zero n follow few = absurd (omega (arith, few))
+list_starts v es again (suc f) n follow few =
+    subst (λ fs. AreTold fs (lists_told v.mark.number v.mark.sort (item_told v) true (has_blanks v) es) (all_defined (ItemEntry v ∷ es))) (sym starts)
+    (subst (λ ds. AreTold (from_there (suc f) n whole (list_with v.mark n (item_at n v ∷ items_next inner (length ls) (n + item_span (v ∷ [])) v.mark.sort es))) (lists_told v.mark.number v.mark.sort (item_told v) true (has_blanks v) es) (ds ++ all_defined es)) (append-nil (defined (tree (content_blocks v))))
+    (again (suc f) n (length ls) v.mark.sort v.mark [] v whole refl follow (rows_low v.blanks es) (omega (arith, few))))
   where
     ls : List Line
-    ls = written v.blanks ++ all_shown vs
+    ls = written v.blanks ++ all_shown es
+
+    whole : List Line
+    whole = Written v.part ∷ ls
 
     inner : List Line → List Found
     inner = λ x. blocks_from (suc f) 0 x
 
-    starts : from_there (suc f) n (all_shown (v ∷ vs)) (first_block inner n (shown_item v) ls (beginning (shown_item v)))
-        ≡ from_there (suc f) n (all_shown (v ∷ vs)) (list_with v.mark n (item_at n v ∷ items_next inner (length ls) (n + span (v ∷ [])) v.mark.sort vs))
+    starts : from_there (suc f) n whole (first_block inner n (Written v.part) ls (beginning (Written v.part)))
+        ≡ from_there (suc f) n whole (list_with v.mark n (item_at n v ∷ items_next inner (length ls) (n + item_span (v ∷ [])) v.mark.sort es))
     starts =
-        ap (λ k. from_there (suc f) n (all_shown (v ∷ vs)) (first_block inner n (shown_item v) ls k)) v.begins
-        ∙ ap (λ k. from_there (suc f) n (all_shown (v ∷ vs)) (list_with v.mark n (items inner k n (v.mark, ls)))) (let q : length ls + 1 ≡ suc (length ls) = omega arith in q)
-        ∙ ap (λ is. from_there (suc f) n (all_shown (v ∷ vs)) (list_with v.mark n is)) (items_step f (length ls) n v vs follow)
-        ∙ ap (λ k. from_there (suc f) n (all_shown (v ∷ vs)) (list_with v.mark n (item_at n v ∷ items_next inner (length ls) k v.mark.sort vs))) (let q : n + suc (length v.blanks) ≡ n + span (v ∷ []) = omega arith in q)
+        ap (λ k. from_there (suc f) n whole (first_block inner n (Written v.part) ls k)) v.begins
+        ∙ ap (λ k. from_there (suc f) n whole (list_with v.mark n (items inner k n (v.mark, ls)))) (let q : length ls + 1 ≡ suc (length ls) = omega arith in q)
+        ∙ ap (λ is. from_there (suc f) n whole (list_with v.mark n is)) (items_step f (length ls) n v es follow)
+        ∙ ap (λ k. from_there (suc f) n whole (list_with v.mark n (item_at n v ∷ items_next inner (length ls) k v.mark.sort es))) (let q : n + suc (length v.blanks) ≡ n + item_span (v ∷ []) = omega arith in q)
 
-lists_declared : (vs : List Marked) → Declares vs
-lists_declared [] fuel n k sort m us v whole rest follow low few =
-    subst (λ js. AreTold (from_there fuel n whole (list_with m n js)) (more (list_told (not (gaps (us ++ v ∷ []))) m.number (told_items (us ++ v ∷ []))) none) (all_defined (us ++ v ∷ []) ++ [])) (sym (append-nil (items_of n (us ++ v ∷ []))))
-    (list_ends fuel n whole (left_lines v []) m us v none [] (lines_left (span us) whole v [] rest) nothing)
+-- a leaf outside lists
+
+-- a block with its line, and what comes after it
+record LeafTaken (u : Single) (t : Taken) : Type 0 where
+  count : t.count ≡ 1
+  blocks : (fs : List Found) → told (tree (t.found ++ fs)) ≡ also (leaf_told u) (told (tree fs))
+  definitions : (fs : List Found) → defined (tree (t.found ++ fs)) ≡ defined (tree (alone (Written u.part) u.kind)) ++ defined (tree fs)
+
+-- a paragraph of one line, wherever it is
+paragraph_told : (t : List ℕ) (ds : List DefinitionView) (at n : ℕ) (fs : List Found) → n ≤ 1
+    → (told (tree ((definitions_found at ds n ++ paragraph_left (at + n) (drop n (t ∷ []))) ++ fs)) ≡ also (told (tree ((definitions_found 0 ds n ++ paragraph_left (0 + n) (drop n (t ∷ []))) ++ []))) (told (tree fs)))
+    × (defined (tree ((definitions_found at ds n ++ paragraph_left (at + n) (drop n (t ∷ []))) ++ fs)) ≡ defined (tree ((definitions_found 0 ds n ++ paragraph_left (0 + n) (drop n (t ∷ []))) ++ [])) ++ defined (tree fs))
+paragraph_told t [] at zero fs low = (refl, refl)
+paragraph_told t (d ∷ ds) at zero fs low = (refl, ap (λ es. es ++ defined (tree fs)) (sym (append-nil (d ∷ ds))))
+paragraph_told t [] at (suc zero) fs low = (refl, refl)
+paragraph_told t (d ∷ ds) at (suc zero) fs low = (refl, ap (λ es. es ++ defined (tree fs)) (sym (append-nil (d ∷ ds))))
+paragraph_told t ds at (suc (suc n)) fs low = absurd (omega (arith, low))
+
+-- the lines of a paragraph before a blank line, or at the end
+paragraph_alone : (l : Line) (ps : List Part) (es : List Entry) → Pass (λ (p : Part). is_blank p.bytes) ps → (es ≡ []) ⊎ (nat_lt 0 (length ps) ≡ true) → paragraph_lines (line_ink l ∷ []) (written ps ++ all_shown es) ≡ (line_ink l ∷ [], None)
+paragraph_alone l (p ∷ ps) es h q = ap (λ k. turned (λ ts. paragraph_lines ts (written ps ++ all_shown es)) (line_ink l ∷ []) (line_ink (Written p)) (turn_of k (underline (line_ink l ∷ []) (Written p)))) (begins_blank p (h.0))
+paragraph_alone l [] es h (inl e) = ap (λ xs. paragraph_lines (line_ink l ∷ []) (all_shown xs)) e
+paragraph_alone l [] es h (inr e) = absurd (true≢false (sym e))
+
+text_closes : (u : Single) (es : List Entry) → u.kind ≡ TextLine → closes_line u es ≡ true → (es ≡ []) ⊎ (nat_lt 0 (length u.blanks) ≡ true)
+text_closes u [] k e = inl refl
+text_closes u (x ∷ es) k e = inr (sym (ap (λ y. not (is_text_kind y) || nat_lt 0 (length u.blanks)) k) ∙ e)
+
+leaf_taken : (u : Single) (es : List Entry) (inner : List Line → List Found) (at : ℕ) → closes_line u es ≡ true → LeafTaken u (first_block inner at (Written u.part) (written u.blanks ++ all_shown es) u.kind)
+leaf_taken u es inner at closes = by u.kind refl u.one
   where
-    nothing : ToldFrom fuel (left_lines v []) none []
-    nothing at = by (has_ink v)
-      where
-        by : (q : Bool) → AreTold (blocks_from fuel at (if q then [] else written v.blanks ++ [])) none []
-        by true = subst (λ fs. AreTold fs none []) (sym (no_blocks fuel at)) (record { blocks = refl; definitions = refl })
-        by false = subst (λ ls. AreTold (blocks_from fuel at ls) none []) (sym (append-nil (written v.blanks))) (subst (λ fs. AreTold fs none []) (sym (blanks_none fuel at (written v.blanks) (written_blank v.blanks v.blank))) (record { blocks = refl; definitions = refl }))
-lists_declared (w ∷ vs) fuel n zero sort m us v whole rest follow low few = absurd (omega (arith, low))
-lists_declared (w ∷ vs) zero n (suc k) sort m us v whole rest follow low few = absurd (omega (arith, few))
-lists_declared (w ∷ vs) (suc f) n (suc k) sort m us v whole rest follow low few = by (w.mark.sort == sort) refl (lists_declared vs)
+    l : Line
+    l = Written u.part
+
+    ls : List Line
+    ls = written u.blanks ++ all_shown es
+
+    Part_of : Beginning → Type 0
+    Part_of k = (t : Taken) × (first_block inner at l ls k ≡ t) × (t.count ≡ 1)
+        × ((fs : List Found) → (told (tree (t.found ++ fs)) ≡ also (told (tree (alone l k))) (told (tree fs))) × (defined (tree (t.found ++ fs)) ≡ defined (tree (alone l k)) ++ defined (tree fs)))
+
+    taken_of : (k : Beginning) → u.kind ≡ k → Part_of k → LeafTaken u (first_block inner at l ls u.kind)
+    taken_of k e (t, is, count, tells) =
+        subst (λ y. LeafTaken u y) (sym (ap (first_block inner at l ls) e ∙ is))
+        (record {
+          count = count;
+          blocks = λ fs. (tells fs).0 ∙ ap (λ y. also (told (tree (alone l y))) (told (tree fs))) (sym e);
+          definitions = λ fs. (tells fs).1 ∙ ap (λ y. defined (tree (alone l y)) ++ defined (tree fs)) (sym e);
+        })
+
+    texted : u.kind ≡ TextLine → Part_of TextLine
+    texted e = (
+      paragraph_of at (line_ink l ∷ [], None),
+      ap (paragraph_of at) (paragraph_alone l u.blanks es u.blank (text_closes u es e closes)),
+      refl,
+      (λ fs. paragraph_told (line_ink l) ((definitions (line_ink l ∷ [])).0) at ((definitions (line_ink l ∷ [])).1) fs u.short),
+    )
+
+    by : (k : Beginning) → u.kind ≡ k → is_one_line k ≡ true → LeafTaken u (first_block inner at l ls u.kind)
+    by BlankLine e o = taken_of BlankLine e (first_block inner at l ls BlankLine, refl, refl, (λ fs. (refl, refl)))
+    by CodeLine e o = absurd (true≢false (sym o))
+    by QuoteLine e o = absurd (true≢false (sym o))
+    by (HeadingLine h) e o = taken_of (HeadingLine h) e (first_block inner at l ls (HeadingLine h), refl, refl, (λ fs. (refl, refl)))
+    by (FenceLine f) e o = absurd (true≢false (sym o))
+    by (HtmlLine k) e o = absurd (true≢false (sym o))
+    by RuleLine e o = taken_of RuleLine e (first_block inner at l ls RuleLine, refl, refl, (λ fs. (refl, refl)))
+    by (ItemLine m) e o = absurd (true≢false (sym o))
+    by TextLine e o = taken_of TextLine e (texted e)
+    by LazyLine e o = absurd (true≢false (sym o))
+
+leaf_starts : (u : Single) (es : List Entry) → Tops es → (fuel at : ℕ) → closes_line u es ≡ true → Follow 4 true es → length u.blanks + span es < fuel
+    → AreTold (blocks_from (suc fuel) at (all_shown (LeafEntry u ∷ es))) (docs_told (LeafEntry u ∷ es)) (all_defined (LeafEntry u ∷ es))
+unfolding blocks_from
+leaf_starts u es again fuel at closes follow few =
+    subst (λ fs. AreTold fs (docs_told (LeafEntry u ∷ es)) (all_defined (LeafEntry u ∷ es))) (sym starts)
+    (record {
+      blocks = t.blocks rest ∙ ap (also (leaf_told u)) r.blocks;
+      definitions = t.definitions rest ∙ ap (λ ds. defined (tree (alone (Written u.part) u.kind)) ++ ds) r.definitions;
+    })
+  where
+    l : Line
+    l = Written u.part
+
+    ls : List Line
+    ls = written u.blanks ++ all_shown es
+
+    inner : List Line → List Found
+    inner = λ x. blocks_from fuel 0 x
+
+    first : Taken
+    first = first_block inner at l ls u.kind
+
+    t : LeafTaken u first
+    t = leaf_taken u es inner at closes
+
+    left : ℕ
+    left = fuel - length u.blanks
+
+    rest : List Found
+    rest = blocks_from left (at + 1 + length u.blanks) (all_shown es)
+
+    r : AreTold rest (docs_told es) (all_defined es)
+    r = again left (at + 1 + length u.blanks) 4 follow (omega (arith, few))
+
+    starts : and_rest (λ n x. blocks_from fuel n x) at (l ∷ ls) (first_block inner at l ls (beginning l)) ≡ first.found ++ rest
+    starts =
+        ap (λ k. and_rest (λ n x. blocks_from fuel n x) at (l ∷ ls) (first_block inner at l ls k)) u.begins
+        ∙ ap (λ n. first.found ++ blocks_from fuel (at + n) (drop n (l ∷ ls))) t.count
+        ∙ ap (λ n. first.found ++ blocks_from n (at + 1) ls) (let q : fuel ≡ length u.blanks + left = omega (arith, few) in q)
+        ∙ ap (λ fs. first.found ++ fs) (blanks_skipped left (at + 1) u.blanks (all_shown es) u.blank)
+
+tops_more : (e : Entry) (es : List Entry) → Declares es → Tops es → Tops (e ∷ es)
+tops_more e es h t zero at width follow few = absurd (omega (arith, few))
+tops_more (ItemEntry v) es h t (suc f) at width follow few = list_starts v es h f at (follow.1) (omega (arith, few))
+tops_more (LeafEntry u) es h t (suc f) at width follow few = leaf_starts u es t f at (follow.2) (follow.3) (omega (arith, few))
+
+-- the list ends before a line
+list_stops : (e : Entry) (es : List Entry) → Tops (e ∷ es) → (f n k sort : ℕ) (m : ItemMark) (us : List Marked) (v : Marked) (whole : List Line) → drop (item_span us) whole ≡ Written v.part ∷ (written v.blanks ++ all_shown (e ∷ es)) → Follow 4 true (e ∷ es) → length v.blanks + span (e ∷ es) < suc f
+    → items_next (λ x. blocks_from (suc f) 0 x) k (n + item_span (us ++ v ∷ [])) sort (e ∷ es) ≡ []
+    → AreTold (from_there (suc f) n whole (list_with m n (items_of n (us ++ v ∷ []) ++ items_next (λ x. blocks_from (suc f) 0 x) k (n + item_span (us ++ v ∷ [])) sort (e ∷ es))))
+    (more (list_told (not (gaps (us ++ v ∷ []))) m.number (told_items (us ++ v ∷ []))) (docs_told (e ∷ es))) (items_defined (us ++ v ∷ []) ++ all_defined (e ∷ es))
+list_stops e es tops f n k sort m us v whole rest follow few stops =
+    subst (λ js. AreTold (from_there (suc f) n whole (list_with m n js)) result (items_defined all ++ all_defined (e ∷ es))) (sym (ap (λ js. items_of n all ++ js) stops ∙ append-nil (items_of n all)))
+    (list_ends (suc f) n whole (left_lines v (all_shown (e ∷ es))) m us v (docs_told (e ∷ es)) (all_defined (e ∷ es)) (lines_left (item_span us) whole v (all_shown (e ∷ es)) rest)
+    (subst (λ p. ToldFrom p (left_lines v (all_shown (e ∷ es))) (docs_told (e ∷ es)) (all_defined (e ∷ es))) (let q : length v.blanks + (suc f - length v.blanks) ≡ suc f = omega (arith, few) in q)
+    (told_left (suc f - length v.blanks) v (all_shown (e ∷ es)) (docs_told (e ∷ es)) (all_defined (e ∷ es))
+    (λ more_fuel at. tops (more_fuel + (suc f - length v.blanks)) at 4 follow (omega (arith, few))))))
+  where
+    all : List Marked
+    all = us ++ v ∷ []
+
+    result : Blocks
+    result = more (list_told (not (gaps all)) m.number (told_items all)) (docs_told (e ∷ es))
+
+-- a line that begins no item is none of the list
+same_none : (sort : ℕ) (ls : List Line) (k : Beginning) → is_one_line k ≡ true → same_sort sort ls k ≡ None
+same_none sort ls BlankLine e = refl
+same_none sort ls CodeLine e = refl
+same_none sort ls QuoteLine e = refl
+same_none sort ls (HeadingLine h) e = refl
+same_none sort ls (FenceLine f) e = refl
+same_none sort ls (HtmlLine k) e = refl
+same_none sort ls RuleLine e = refl
+same_none sort ls (ItemLine m) e = absurd (true≢false (sym e))
+same_none sort ls TextLine e = refl
+same_none sort ls LazyLine e = refl
+
+not_or : (a b : Bool) → not (a || b) ≡ (not a && not b)
+not_or true b = refl
+not_or false b = refl
+
+-- an item after these
+item_more : (w : Marked) (es : List Entry) → Declares es → Tops (ItemEntry w ∷ es) → (f n k sort : ℕ) (m : ItemMark) (us : List Marked) (v : Marked) (whole : List Line) → drop (item_span us) whole ≡ Written v.part ∷ (written v.blanks ++ all_shown (ItemEntry w ∷ es)) → Follow w.mark.width (has_blanks w) es → length es ≤ k → length v.blanks + span (ItemEntry w ∷ es) < suc f → indent w.part < 4
+    → AreTold (from_there (suc f) n whole (list_with m n (items_of n (us ++ v ∷ []) ++ items_next (λ x. blocks_from (suc f) 0 x) (suc k) (n + item_span (us ++ v ∷ [])) sort (ItemEntry w ∷ es))))
+    (lists_told m.number sort (told_items (us ++ v ∷ [])) (not (gaps (us ++ v ∷ []))) (has_blanks v) (ItemEntry w ∷ es)) (items_defined (us ++ v ∷ []) ++ all_defined (ItemEntry w ∷ es))
+item_more w es again tops f n k sort m us v whole rest follow low few near = by (w.mark.sort == sort) refl
   where
     ls : List Line
-    ls = written w.blanks ++ all_shown vs
+    ls = written w.blanks ++ all_shown es
 
     inner : List Line → List Found
     inner = λ x. blocks_from (suc f) 0 x
@@ -593,64 +865,91 @@ lists_declared (w ∷ vs) (suc f) n (suc k) sort m us v whole rest follow low fe
     is = items_of n all
 
     place : ℕ
-    place = n + span all
+    place = n + item_span all
 
     tight : Bool
     tight = not (gaps all)
 
-    later : Blocks
-    later = lists_told w.mark.number w.mark.sort (item_told w) true (has_blanks w) vs
-
-    next_is : (q : Bool) → (w.mark.sort == sort) ≡ q → items_next inner (suc k) place sort (w ∷ vs) ≡ and_siblings (λ s. items inner (suc k) place s) (if q then Some (w.mark, ls) else None)
+    next_is : (q : Bool) → (w.mark.sort == sort) ≡ q → items_next inner (suc k) place sort (ItemEntry w ∷ es) ≡ and_siblings (λ s. items inner (suc k) place s) (if q then Some (w.mark, ls) else None)
     next_is q e = ap (λ b. and_siblings (λ s. items inner (suc k) place s) (same_sort sort ls b)) w.begins ∙ ap (λ b. and_siblings (λ s. items inner (suc k) place s) (if b then Some (w.mark, ls) else None)) e
 
     longer : List Marked
     longer = all ++ w ∷ []
 
     gaps_are : not (gaps longer) ≡ (tight && not (has_blanks v))
-    gaps_are = ap (λ xs. not (gaps xs)) (append_assoc us (v ∷ []) (w ∷ [])) ∙ ap not (gaps_more us v w) ∙ both (gaps all) (has_blanks v)
-      where
-        both : (a b : Bool) → not (a || b) ≡ (not a && not b)
-        both true b = refl
-        both false b = refl
+    gaps_are = ap (λ xs. not (gaps xs)) (append_assoc us (v ∷ []) (w ∷ [])) ∙ ap not (gaps_more us v w) ∙ not_or (gaps all) (has_blanks v)
 
-    by : (q : Bool) → (w.mark.sort == sort) ≡ q → Declares vs
-        → AreTold (from_there (suc f) n whole (list_with m n (is ++ items_next inner (suc k) place sort (w ∷ vs))))
-        (if q then lists_told m.number w.mark.sort (also (told_items all) (item_told w)) (tight && not (has_blanks v)) (has_blanks w) vs else more (list_told tight m.number (told_items all)) later) (all_defined all ++ all_defined (w ∷ vs))
-    by true e again =
-        subst (λ js. AreTold (from_there (suc f) n whole (list_with m n js)) (lists_told m.number w.mark.sort (also (told_items all) (item_told w)) (tight && not (has_blanks v)) (has_blanks w) vs) (all_defined all ++ all_defined (w ∷ vs))) (sym joined_items)
-        (subst (λ ds. AreTold found (lists_told m.number w.mark.sort (also (told_items all) (item_told w)) (tight && not (has_blanks v)) (has_blanks w) vs) ds)
-        (ap (λ ds. ds ++ all_defined vs) (defined_more all w) ∙ append_assoc (all_defined all) (defined (tree (content_blocks w))) (all_defined vs))
-        (subst (λ bs. AreTold found (lists_told m.number w.mark.sort bs (tight && not (has_blanks v)) (has_blanks w) vs) (all_defined longer ++ all_defined vs)) (told_more all w)
-        (subst (λ t. AreTold found (lists_told m.number w.mark.sort (told_items longer) t (has_blanks w) vs) (all_defined longer ++ all_defined vs)) gaps_are
-        (again (suc f) n k w.mark.sort m all w whole dropped (follow.1) (omega (arith, low)) (omega (arith, few))))))
+    by : (q : Bool) → (w.mark.sort == sort) ≡ q
+        → AreTold (from_there (suc f) n whole (list_with m n (is ++ items_next inner (suc k) place sort (ItemEntry w ∷ es))))
+        (if q then lists_told m.number w.mark.sort (also (told_items all) (item_told w)) (tight && not (has_blanks v)) (has_blanks w) es else more (list_told tight m.number (told_items all)) (docs_told (ItemEntry w ∷ es))) (items_defined all ++ all_defined (ItemEntry w ∷ es))
+    by true e =
+        subst (λ js. AreTold (from_there (suc f) n whole (list_with m n js)) (lists_told m.number w.mark.sort (also (told_items all) (item_told w)) (tight && not (has_blanks v)) (has_blanks w) es) (items_defined all ++ all_defined (ItemEntry w ∷ es))) (sym joined_items)
+        (subst (λ ds. AreTold found (lists_told m.number w.mark.sort (also (told_items all) (item_told w)) (tight && not (has_blanks v)) (has_blanks w) es) ds)
+        (ap (λ ds. ds ++ all_defined es) (defined_more all w) ∙ append_assoc (items_defined all) (defined (tree (content_blocks w))) (all_defined es))
+        (subst (λ bs. AreTold found (lists_told m.number w.mark.sort bs (tight && not (has_blanks v)) (has_blanks w) es) (items_defined longer ++ all_defined es)) (told_more all w)
+        (subst (λ t. AreTold found (lists_told m.number w.mark.sort (told_items longer) t (has_blanks w) es) (items_defined longer ++ all_defined es)) gaps_are
+        (again (suc f) n k w.mark.sort m all w whole dropped follow low (omega (arith, few))))))
       where
         found : List Found
-        found = from_there (suc f) n whole (list_with m n (items_of n longer ++ items_next inner k (n + span longer) w.mark.sort vs))
+        found = from_there (suc f) n whole (list_with m n (items_of n longer ++ items_next inner k (n + item_span longer) w.mark.sort es))
 
-        joined_items : is ++ items_next inner (suc k) place sort (w ∷ vs) ≡ items_of n longer ++ items_next inner k (n + span longer) w.mark.sort vs
+        joined_items : is ++ items_next inner (suc k) place sort (ItemEntry w ∷ es) ≡ items_of n longer ++ items_next inner k (n + item_span longer) w.mark.sort es
         joined_items =
-            ap (λ js. is ++ js) (next_is true e ∙ items_step f k place w vs (follow.1))
-            ∙ ap (λ p. is ++ (item_at place w ∷ items_next inner k p w.mark.sort vs)) (let s : span longer ≡ span all + suc (length w.blanks) = span_more all w in let q : n + span all + suc (length w.blanks) ≡ n + span longer = omega (arith, s) in q)
-            ∙ sym (append_assoc is (item_at place w ∷ []) (items_next inner k (n + span longer) w.mark.sort vs))
-            ∙ ap (λ js. js ++ items_next inner k (n + span longer) w.mark.sort vs) (sym (items_more n all w))
+            ap (λ js. is ++ js) (next_is true e ∙ items_step f k place w es follow)
+            ∙ ap (λ p. is ++ (item_at place w ∷ items_next inner k p w.mark.sort es)) (let s : item_span longer ≡ item_span all + suc (length w.blanks) = span_more all w in let q : n + item_span all + suc (length w.blanks) ≡ n + item_span longer = omega (arith, s) in q)
+            ∙ sym (append_assoc is (item_at place w ∷ []) (items_next inner k (n + item_span longer) w.mark.sort es))
+            ∙ ap (λ js. js ++ items_next inner k (n + item_span longer) w.mark.sort es) (sym (items_more n all w))
 
-        dropped : drop (span all) whole ≡ shown_item w ∷ ls
+        dropped : drop (item_span all) whole ≡ Written w.part ∷ ls
         dropped =
-            ap (λ p. drop p whole) (span_more us v) ∙ drop_more (span us) (suc (length v.blanks)) whole ∙ ap (drop (suc (length v.blanks))) rest
-            ∙ drop_written v.blanks (all_shown (w ∷ vs))
-    by false e again =
-        subst (λ js. AreTold (from_there (suc f) n whole (list_with m n js)) (more (list_told tight m.number (told_items all)) later) (all_defined all ++ all_defined (w ∷ vs))) (sym (ap (λ js. is ++ js) (next_is false e) ∙ append-nil is))
-        (list_ends (suc f) n whole (left_lines v (all_shown (w ∷ vs))) m us v later (all_defined (w ∷ vs)) (lines_left (span us) whole v (all_shown (w ∷ vs)) rest)
-        (subst (λ p. ToldFrom p (left_lines v (all_shown (w ∷ vs))) later (all_defined (w ∷ vs))) (let q : length v.blanks + suc (f - length v.blanks) ≡ suc f = omega (arith, few) in q)
-        (told_left (suc (f - length v.blanks)) v (all_shown (w ∷ vs)) later (all_defined (w ∷ vs)) starts)))
-      where
-        starts : (more_fuel : ℕ) → ToldFrom (more_fuel + suc (f - length v.blanks)) (all_shown (w ∷ vs)) later (all_defined (w ∷ vs))
-        starts more_fuel at =
-            subst (λ p. AreTold (blocks_from p at (all_shown (w ∷ vs))) later (all_defined (w ∷ vs))) (let q : suc (more_fuel + (f - length v.blanks)) ≡ more_fuel + suc (f - length v.blanks) = omega arith in q)
-            (list_starts w vs again (more_fuel + (f - length v.blanks)) at (follow.1) (omega (arith, few)))
+            ap (λ p. drop p whole) (span_more us v) ∙ drop_more (item_span us) (suc (length v.blanks)) whole ∙ ap (drop (suc (length v.blanks))) rest
+            ∙ drop_written v.blanks (all_shown (ItemEntry w ∷ es))
+    by false e = list_stops (ItemEntry w) es tops f n (suc k) sort m us v whole rest (near, follow) few (next_is false e)
 
--- of such lines these lists are declared
-pub text_declared : (v : Marked) (vs : List Marked) (fuel at : ℕ) → Follow v.mark.width vs → suc (length v.blanks + span vs) < fuel → AreTold (blocks_from fuel at (all_shown (v ∷ vs))) (lists_told v.mark.number v.mark.sort (item_told v) true (has_blanks v) vs) (all_defined (v ∷ vs))
-text_declared v vs zero at follow few = absurd (omega (arith, few))
-text_declared v vs (suc f) at follow few = list_starts v vs (lists_declared vs) f at follow few
+-- an item is indented by less than four columns
+item_near : (v : Marked) → indent v.part < 4
+unfolding beginning
+item_near v = by (is_blank v.part.bytes) (nat_le 4 (indent v.part)) refl v.begins
+  where
+    by : (k far : Bool) → nat_le 4 (indent v.part) ≡ far → beginning_of v.part k far ≡ ItemLine v.mark → indent v.part < 4
+    by true far q e = absurd cc
+    by false true q e = absurd cc
+    by false false q e = grind (arith, q, nat_tests)
+
+leaf_near : (u : Single) → indent u.part < 4
+unfolding beginning
+leaf_near u = by (is_blank u.part.bytes) (nat_le 4 (indent u.part)) refl (ap is_one_line u.begins ∙ u.one) u.ink
+  where
+    by : (k far : Bool) → nat_le 4 (indent u.part) ≡ far → is_one_line (beginning_of u.part k far) ≡ true → k ≡ false → indent u.part < 4
+    by true far q e b = absurd (true≢false b)
+    by false true q e b = absurd (true≢false (sym e))
+    by false false q e b = grind (arith, q, nat_tests)
+
+declares_more : (e : Entry) (es : List Entry) → Declares es → Tops (e ∷ es) → Declares (e ∷ es)
+declares_more e es h tops zero n k sort m us v whole rest follow low few = absurd (omega (arith, few))
+declares_more (ItemEntry w) es h tops (suc f) n zero sort m us v whole rest follow low few = absurd (omega (arith, low))
+declares_more (ItemEntry w) es h tops (suc f) n (suc k) sort m us v whole rest follow low few = item_more w es h tops f n k sort m us v whole rest (follow.1) (omega (arith, low)) few (item_near w)
+declares_more (LeafEntry u) es h tops (suc f) n k sort m us v whole rest follow low few =
+    list_stops (LeafEntry u) es tops f n k sort m us v whole rest (leaf_near u, and_false (is_text_kind u.kind) false refl, follow.2, follow.3) few
+    (ap (λ b. and_siblings (λ s. items (λ x. blocks_from (suc f) 0 x) k (n + item_span (us ++ v ∷ [])) s) (same_sort sort (written u.blanks ++ all_shown es) b)) u.begins
+    ∙ ap (and_siblings (λ s. items (λ x. blocks_from (suc f) 0 x) k (n + item_span (us ++ v ∷ [])) s)) (same_none sort (written u.blanks ++ all_shown es) u.kind u.one))
+
+declares_none : Declares []
+declares_none fuel n k sort m us v whole rest follow low few =
+    subst (λ js. AreTold (from_there fuel n whole (list_with m n js)) (more (list_told (not (gaps (us ++ v ∷ []))) m.number (told_items (us ++ v ∷ []))) none) (items_defined (us ++ v ∷ []) ++ [])) (sym (append-nil (items_of n (us ++ v ∷ []))))
+    (list_ends fuel n whole (left_lines v []) m us v none [] (lines_left (item_span us) whole v [] rest) (λ at. by at (has_ink v)))
+  where
+    by : (at : ℕ) (q : Bool) → AreTold (blocks_from fuel at (if q then [] else written v.blanks ++ [])) none []
+    by at true = subst (λ fs. AreTold fs none []) (sym (no_blocks fuel at)) (record { blocks = refl; definitions = refl })
+    by at false = subst (λ ls. AreTold (blocks_from fuel at ls) none []) (sym (append-nil (written v.blanks))) (subst (λ fs. AreTold fs none []) (sym (blanks_none fuel at (written v.blanks) (written_blank v.blanks v.blank))) (record { blocks = refl; definitions = refl }))
+
+tops_none : Tops []
+tops_none fuel at width follow few = subst (λ fs. AreTold fs none []) (sym (no_blocks fuel at)) (record { blocks = refl; definitions = refl })
+
+all_declared : (es : List Entry) → Declares es × Tops es
+all_declared [] = (declares_none, tops_none)
+all_declared (e ∷ es) = let h : Declares es × Tops es = all_declared es in let t : Tops (e ∷ es) = tops_more e es (h.0) (h.1) in (declares_more e es (h.0) t, t)
+
+-- of such lines these leaves and lists are declared
+pub text_declared : (es : List Entry) (fuel at width : ℕ) → Follow width true es → span es < fuel → AreTold (blocks_from fuel at (all_shown es)) (docs_told es) (all_defined es)
+text_declared es = (all_declared es).1

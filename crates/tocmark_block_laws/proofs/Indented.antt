@@ -1,12 +1,12 @@
 -- Which containers go on in a line: an item by indentation, and any open containers one after the other.
-use Rattle.std.proofs.Common.{◌≡◌, ℕ, zero, suc, ◌+◌, ◌-◌, ◌^◌, ◌<◌, ◌≤◌, Bool, true, false, not, ◌&&◌, ◌==◌, if◌then◌else◌, min, nat_le, List, [], ◌∷◌, ◌++◌, length, drop, refl, ap, sym, ◌∙◌, arith, length-drop, Option, Some, None}
+use Rattle.std.proofs.Common.{◌≡◌, ℕ, zero, suc, ◌+◌, ◌-◌, ◌^◌, ◌<◌, ◌≤◌, Bool, true, false, not, ◌&&◌, ◌==◌, if◌then◌else◌, min, nat_le, List, [], ◌∷◌, ◌++◌, length, drop, refl, ap, sym, ◌∙◌, arith, Option, Some, None}
 use Rattle.std.specs.Prelude.{unwrap_or}
 use Rattle.std.specs.List.{list_any}
 use Rattle.std.specs.Option.{option_map_or}
 use Rattle.std.proofs.lemmas.Bool.Decides.{nat_tests}
 use Rattle.std.proofs.lemmas.List.{drop-drop}
 use Rattle.tocmark_read_scan.specs.Basic.{plus}
-use Rattle.tocmark_read_lines.specs.Cells.{cells_at, is_blank_at, moved, ink_from, indent_of}
+use Rattle.tocmark_read_lines.specs.Cells.{cells_at, moved, ink_from}
 use Rattle.tocmark_read_lines.specs.Containers.{item_goes_on, going_on, passed, stopped, matched_from, quote_from, blank_depth}
 use Rattle.tocmark_read_lines.specs.declared.cell.Cell.{Cell}
 use Rattle.tocmark_read_lines.specs.declared.cell.Cursor.{Cursor}
@@ -18,8 +18,7 @@ use Rattle.tocmark_commonmark.specs.Tree.{Found}
 use Rattle.tocmark_commonmark.specs.Beginnings.{beginning, may_be_lazy}
 use Rattle.tocmark_commonmark.specs.Containers.{lazily, in_item_as, in_item}
 use Rattle.tocmark_block_laws.specs.Quotes.{IsPlain}
-use Rattle.tocmark_block_laws.proofs.TextLines.{Plain, plain_head, drop_plain}
-use Rattle.tocmark_block_laws.proofs.Columns.{le_on}
+use Rattle.tocmark_block_laws.proofs.TextLines.{Plain, plain_head}
 use Rattle.tocmark_block_laws.proofs.Fronts.{spaces_of, part_at, place_at, indent_same, spaces_low, blank_same, spaces_next, spaces_none}
 use Rattle.tocmark_block_laws.proofs.Codes.{CodeFacts}
 use Rattle.tocmark_block_laws.proofs.Starts.{left_at, At}

@@ -30,11 +30,12 @@ use Rattle.tocmark_read_constructs.specs.Headings.{heading_put, heading_started_
 use Rattle.tocmark_read_blocks.specs.Blocks.{started_in, started}
 use Rattle.tocmark_read_blocks.specs.Containers.{is_in_list, list_started}
 use Rattle.tocmark_read_blocks.specs.Paragraphs.{text_started, text_taken, rule_started}
+use Rattle.tocmark_read_blocks.specs.declared.leaf.LeafStart.{LeafStart}
 use Rattle.tocmark_read_blocks.specs.declared.leaf.LeafStart.TheVariants as start
 use Rattle.tocmark_block_laws.proofs.Apart.{after_these, one_closed_after}
-use Rattle.tocmark_block_laws.proofs.Open.{last_place, get_last, set_middle}
-use Rattle.tocmark_block_laws.proofs.Pages.{here, set_last, times_last, piece_in, piece_taken_whole, piece_if, has_words, words}
-use Rattle.tocmark_block_laws.proofs.Paragraphs.{start_from}
+use Rattle.tocmark_block_laws.proofs.Open.{last_place, get_last, set_middle, Open}
+use Rattle.tocmark_block_laws.proofs.Pages.{here, block, rule_block, rule_comes, ended_block, heading_comes, set_last, times_last, piece_in, piece_taken_whole, piece_if, has_words, words}
+use Rattle.tocmark_block_laws.proofs.Paragraphs.{start_from, first_draft, text_begins, left_block, paragraph_closed}
 
 -- a list and an item that are open
 abbrev pub list_box : ℕ → ℕ → ℕ → ℕ → Bool → Opened
@@ -128,6 +129,79 @@ list_loosens before mine b = rw (get_behind before mine b) (set_middle before b 
 pub list_tight : (b : ℕ) (bs : List Block) → loosened (Some b) false bs ≡ bs
 unfolding loosened
 list_tight b bs = refl
+
+-- a leaf begins after a list as where none is open
+
+abbrev top_page : ℕ → ℕ → List Block → List Piece → ℕ → ℕ → ℕ → State
+top_page b e bs ps end number kept = stack_page [] leaf.Nothing (ended bs b e) ps end number kept
+
+opens_same : (text : List ℕ) (lf : Leaf) (k : BlockKind) (at : ℕ) (l : Line) (sort b e n : ℕ) (had : Bool) (bs : List Block) (ps : List Piece) (end number kept : ℕ)
+    → leaf_opened lf k at l (closed_to text 1 (stack_page (list_box sort b e n had ∷ []) leaf.Nothing bs ps end number kept)) ≡ leaf_opened lf k at l (closed_to text 0 (top_page b e bs ps end number kept))
+unfolding leaf_opened list_left
+opens_same text lf k at l sort b e n had bs ps end number kept =
+    ap (leaf_opened lf k at l) (list_stays text (list_box sort b e n had) bs ps end number kept)
+    ∙ ap after (list_leaves sort b e n had bs ps end number kept)
+    ∙ ap (leaf_opened lf k at l) (sym (top_stays text (ended bs b e) ps end number kept))
+  where
+    after : State → State
+    after s = let t : State = begun k at l.number s in record t { leaf = lf; end = l.end; line = l.number; kept = length t.pieces }
+
+abbrev pub is_top_start : LeafStart → Bool
+is_top_start (start.Heading h) = true
+is_top_start start.Rule = true
+is_top_start start.Text = true
+is_top_start b = false
+
+pub leaf_to_top : (text : List ℕ) (cells : List Cell) (l : Line) (place : Cursor) (x : LeafStart) (sort b e n : ℕ) (had : Bool) (bs : List Block) (ps : List Piece) (end number kept : ℕ) → is_top_start x ≡ true
+    → started x text cells l (tail_of cells) (here 1 place) (stack_page (list_box sort b e n had ∷ []) leaf.Nothing bs ps end number kept)
+    ≡ started x text cells l (tail_of cells) (here 0 place) (top_page b e bs ps end number kept)
+unfolding started_in rule_started heading_started_in heading_put text_taken text_piece is_paragraph
+leaf_to_top text cells l place (start.Heading h) sort b e n had bs ps end number kept x =
+    ap (λ s. leaf_finished (piece_taken (heading_piece cells h l) l true s)) (opens_same text leaf.Nothing (kind.Heading h.level None) (cell_place cells place.ink l.end) l sort b e n had bs ps end number kept)
+leaf_to_top text cells l place start.Rule sort b e n had bs ps end number kept x =
+    ap leaf_finished (opens_same text leaf.Nothing kind.Rule (cell_place cells place.ink l.end) l sort b e n had bs ps end number kept)
+leaf_to_top text cells l place start.Text sort b e n had bs ps end number kept x =
+    ap (λ s. piece_taken (piece_in cells place l) l true (text_started (cell_place cells place.ink l.end) s)) (opens_same text leaf.Paragraph kind.Paragraph (cell_place cells place.ink l.end) l sort b e n had bs ps end number kept)
+leaf_to_top text cells l place start.Blank sort b e n had bs ps end number kept x = absurd cc
+leaf_to_top text cells l place (start.Indented c) sort b e n had bs ps end number kept x = absurd cc
+leaf_to_top text cells l place (start.Fence f) sort b e n had bs ps end number kept x = absurd cc
+leaf_to_top text cells l place (start.Html k) sort b e n had bs ps end number kept x = absurd cc
+leaf_to_top text cells l place (start.Underline v) sort b e n had bs ps end number kept x = absurd cc
+leaf_to_top text cells l place (start.Metadata k) sort b e n had bs ps end number kept x = absurd cc
+leaf_to_top text cells l place (start.Task d) sort b e n had bs ps end number kept x = absurd cc
+leaf_to_top text cells l place (start.QuoteKind k) sort b e n had bs ps end number kept x = absurd cc
+
+-- leaves where no list is open
+
+abbrev nothing_open : Open []
+nothing_open = record { opened = []; quotes = []; are = refl; places = refl }
+
+pub rule_at_top : (text : List ℕ) (cells : List Cell) (l : Line) (place : Cursor) (bs : List Block) (ps : List Piece) (end number kept : ℕ)
+    → started start.Rule text cells l (tail_of cells) (here 0 place) (stack_page [] leaf.Nothing bs ps end number kept)
+    ≡ stack_page [] leaf.Nothing (bs ++ rule_block 0 ps (cell_place cells place.ink l.end) l.end ∷ []) ps l.end l.number (length ps)
+unfolding had_marked raised_at
+rule_at_top text cells l place bs ps end number kept = rule_comes text [] nothing_open cells l place bs ps end number kept
+
+pub heading_at_top : (text : List ℕ) (cells : List Cell) (l : Line) (place : Cursor) (h : Heading) (bs : List Block) (ps : List Piece) (end number kept : ℕ)
+    → started (start.Heading h) text cells l (tail_of cells) (here 0 place) (stack_page [] leaf.Nothing bs ps end number kept)
+    ≡ stack_page [] leaf.Nothing (bs ++ ended_block 0 (kind.Heading h.level None) ps (words cells h l) (cell_place cells place.ink l.end) l.end ∷ []) (ps ++ words cells h l) l.end l.number (length (ps ++ words cells h l))
+unfolding had_marked raised_at
+heading_at_top text cells l place h bs ps end number kept = heading_comes text [] nothing_open cells l place h bs ps end number kept
+
+-- a paragraph of one line there
+abbrev pub top_text : Line → List Block → List Piece → Piece → ℕ → State
+top_text l bs ps p at = stack_page [] leaf.Paragraph (bs ++ block 0 kind.Paragraph at at (length ps) (length ps) ∷ []) (ps ++ p ∷ []) l.end l.number (length (ps ++ p ∷ []))
+
+pub text_at_top : (text : List ℕ) (cells : List Cell) (l : Line) (place : Cursor) (bs : List Block) (ps : List Piece) (end number kept : ℕ) → nat_lt (cell_place cells place.ink l.end) l.next ≡ true
+    → started start.Text text cells l (tail_of cells) (here 0 place) (stack_page [] leaf.Nothing bs ps end number kept) ≡ top_text l bs ps (piece_in cells place l) (cell_place cells place.ink l.end)
+unfolding had_marked
+text_at_top text cells l place bs ps end number kept h = text_begins text [] nothing_open cells l place bs ps end number kept h
+
+pub top_text_ends : (text : List ℕ) (l : Line) (bs : List Block) (ps : List Piece) (p : Piece) (at : ℕ) (ds : List DefinitionView) (k : ℕ) → definitions_from text (p ∷ []) [] ≡ (ds, k) → length ps + k < 2 ^ 64
+    → leaf_closed text (top_text l bs ps p at)
+    ≡ after_these ds (stack_page [] leaf.Nothing (bs ++ left_block 0 ps (p ∷ []) k (first_draft ps at l) ∷ []) (ps ++ p ∷ []) l.end l.number (length (ps ++ p ∷ [])))
+unfolding had_marked raised_at
+top_text_ends text l bs ps p at ds k h fits = paragraph_closed text [] nothing_open bs ps (p ∷ []) (first_draft ps at l) ds k h fits
 
 -- it ends
 pub item_leaves : (text : List ℕ) (sort b e n width ib ie in_line : ℕ) (had some : Bool) (bs : List Block) (ps : List Piece) (end number kept : ℕ)

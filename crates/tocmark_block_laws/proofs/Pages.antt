@@ -372,7 +372,7 @@ same_start text cells l d place (start.Metadata x) s t e h = absurd (true≢fals
 same_start text cells l d place (start.Task x) s t e h = absurd (true≢false (sym e))
 same_start text cells l d place (start.QuoteKind x) s t e h = absurd (true≢false (sym e))
 
-text_start : (text : List ℕ) (cells : List Cell) (l : Line) (d : ℕ) (place : Cursor) (s t : State) → is_paragraph s.leaf ≡ false → is_paragraph t.leaf ≡ false → closed_to text d s ≡ closed_to text d t
+pub text_start : (text : List ℕ) (cells : List Cell) (l : Line) (d : ℕ) (place : Cursor) (s t : State) → is_paragraph s.leaf ≡ false → is_paragraph t.leaf ≡ false → closed_to text d s ≡ closed_to text d t
     → started start.Text text cells l (tail_of cells) (here d place) s ≡ started start.Text text cells l (tail_of cells) (here d place) t
 unfolding started_in text_taken
 text_start text cells l d place s t hs ht h = ap (λ u. piece_taken words' l true (text_started words'.start u)) same

@@ -1,9 +1,10 @@
 -- Of a text of lines that begin an item each the reader finds the lists that are declared.
-use Rattle.std.proofs.Common.{◌≡◌, ℕ, suc, ◌+◌, ◌-◌, ◌^◌, ◌<◌, ◌≤◌, Bool, true, false, not, ◌==◌, ◌&&◌, if◌then◌else◌, max, nat_lt, nat_le, List, [], ◌∷◌, ◌++◌, length, map, drop, refl, ap, sym, subst, ◌∙◌, arith, append_assoc, append-nil, length-append, true≢false}
+use Rattle.std.proofs.Common.{◌≡◌, ℕ, suc, ◌+◌, ◌-◌, ◌^◌, ◌<◌, ◌≤◌, Bool, true, false, not, ◌==◌, ◌&&◌, ◌||◌, if◌then◌else◌, max, nat_lt, nat_le, List, [], ◌∷◌, ◌++◌, length, map, drop, refl, ap, sym, subst, ◌∙◌, arith, append_assoc, append-nil, length-append, true≢false}
 use Rattle.std.specs.Prelude.{Option, Some, None}
 use Rattle.std.specs.List.{fold}
 use Rattle.std.specs.Option.{option_map_or}
 use Rattle.std.proofs.lemmas.Bool.Decides.{nat_tests}
+use Rattle.tocmark_event.specs.declared.event.HeadingLevel.{HeadingLevel}
 use Rattle.tocmark_read_scan.specs.Basic.{plus, bytes_between}
 use Rattle.tocmark_read_scan.specs.declared.syntax.TheConstants.{CORE}
 use Rattle.tocmark_read_scan.proofs.PlainTests.{eq_of}
@@ -33,31 +34,33 @@ use Rattle.tocmark_read_constructs.specs.Tasks.{task_in}
 use Rattle.tocmark_read_blocks.specs.Blocks.{turn_of, touched, passed_in, leaf_started_in, line_taken, started_at, started}
 use Rattle.tocmark_read_blocks.specs.Containers.{goes_directly, begun_at, container_once_in, container_once, list_started, item_opened}
 use Rattle.tocmark_read_blocks.specs.Leaves.{leaf_turn, metadata_or, task_or, quote_kind_or, tag_or}
-use Rattle.tocmark_commonmark.specs.Lines.{Line as DeclaredLine, Written, line_ink, cells}
+use Rattle.tocmark_read_blocks.specs.declared.leaf.LeafStart.{LeafStart}
+use Rattle.tocmark_read_blocks.specs.declared.leaf.LeafStart.TheVariants as start
+use Rattle.tocmark_commonmark.specs.Lines.{Line as DeclaredLine, Part, Written, is_blank, line_ink, cells}
 use Rattle.tocmark_commonmark.specs.Tree.{Blocks, none, more, Rule, Heading as HeadingBlock, Item, defined, tree}
 use Rattle.tocmark_commonmark.specs.Beginnings.{Beginning, BlankLine, CodeLine, QuoteLine, HeadingLine, FenceLine, HtmlLine, RuleLine, ItemLine, TextLine, LazyLine, beginning, heading_text}
 use Rattle.tocmark_commonmark.specs.Leaves.{definitions, paragraph_left, definitions_found}
 use Rattle.tocmark_block_laws.specs.Trees.{told, more_if, list_in, block_as}
 use Rattle.tocmark_block_laws.specs.Quotes.{IsPlain, ends_with_feed, is_leaf}
 use Rattle.tocmark_block_laws.specs.Lists.{is_one_line}
-use Rattle.tocmark_block_laws.proofs.Apart.{after_these, closed_after, leaf_started_after, lines_after, join_after}
+use Rattle.tocmark_block_laws.proofs.Apart.{after_these, started_after, closed_after, leaf_started_after, lines_after, join_after}
 use Rattle.tocmark_block_laws.proofs.Marks.{heading_later}
 use Rattle.tocmark_block_laws.proofs.TextLines.{Sound}
 use Rattle.tocmark_block_laws.proofs.Feeds.{has_feed}
-use Rattle.tocmark_block_laws.proofs.Fronts.{spaces_of, part_at, place_at, cursor_same}
+use Rattle.tocmark_block_laws.proofs.Fronts.{spaces_of, part_at, place_at, cursor_same, blank_same}
 use Rattle.tocmark_block_laws.proofs.Codes.{Fed}
 use Rattle.tocmark_block_laws.proofs.LinkDefinitions.{reads_same}
 use Rattle.tocmark_block_laws.proofs.Starts.{start_as, is_quote_kind, is_blank_kind, left_at, Facts, At}
 use Rattle.tocmark_block_laws.proofs.Seen.{at_line, facts_at}
 use Rattle.tocmark_block_laws.proofs.Markers.{ItemFacts, item_start, item_of}
-use Rattle.tocmark_block_laws.proofs.Pages.{here, begin, line_comes, once_same, opens_none, piece_in, has_words, words}
-use Rattle.tocmark_block_laws.proofs.Paragraphs.{start_from}
-use Rattle.tocmark_block_laws.proofs.ListPages.{list_box, item_box, stack_page, list_block, item_block, leaf_block, top_stays, list_stays, list_begins, list_goes, list_changes, item_begins, list_loosens, list_tight, item_stays, item_leaves, closes_list, empty_item, blank_in_item, rule_in_item, heading_in_item, text_page, text_in_item, text_ends}
-use Rattle.tocmark_block_laws.proofs.BlankLines.{BlankRow, is_resting, blank_in_full, blank_in_empty, blank_in_list}
-use Rattle.tocmark_block_laws.proofs.Told.{also, also_also, Run, Holds, holds_none, holds_if, holds_more, inner_run, IsBox, holds_box, heading_told, left_as, left_told}
+use Rattle.tocmark_block_laws.proofs.Pages.{here, block, begin, rule_block, ended_block, same_start, text_start, line_comes, once_same, opens_none, piece_in, has_words, words}
+use Rattle.tocmark_block_laws.proofs.Paragraphs.{start_from, first_draft, left_block}
+use Rattle.tocmark_block_laws.proofs.ListPages.{is_top_start, leaf_to_top, rule_at_top, heading_at_top, top_text, text_at_top, top_text_ends, list_box, item_box, stack_page, list_block, item_block, leaf_block, top_stays, list_stays, list_begins, list_goes, list_changes, item_begins, list_loosens, list_tight, item_stays, item_leaves, closes_list, empty_item, blank_in_item, rule_in_item, heading_in_item, text_page, text_in_item, text_ends}
+use Rattle.tocmark_block_laws.proofs.BlankLines.{BlankRow, is_resting, blank_in_full, blank_in_empty, blank_in_list, blank_at_top}
+use Rattle.tocmark_block_laws.proofs.Told.{also, also_none, also_also, Run, Holds, holds_none, holds_if, holds_more, inner_run, IsBox, holds_box, heading_told, left_as, left_told}
 use Rattle.tocmark_block_laws.proofs.ReadParagraphs.{told_last, defined_last}
 use Rattle.tocmark_block_laws.proofs.Read.{words_told, few_words}
-use Rattle.tocmark_block_laws.proofs.DeclaredLists.{Marked, content_blocks, alone, content_alone, has_blanks, list_told, item_told, lists_told, all_defined}
+use Rattle.tocmark_block_laws.proofs.DeclaredLists.{Marked, Single, Entry, ItemEntry, LeafEntry, content_blocks, alone, content_alone, is_text_kind, closes_line, has_blanks, list_told, item_told, leaf_told, docs_told, lists_told, entry_defined, all_defined}
 
 -- a line of a text that begins an item, and the blank lines after it
 pub record Row (text : List ℕ) : Type 0 where
@@ -222,25 +225,37 @@ row_opens text v g d s sort b e n had bs ps end number kept apart none_open h ne
 
 -- a line goes on in no item, so it begins in the list
 
-row_read : (text : List ℕ) (v : Row text) → Sight text v → cells_of [] v.line.start (bytes_between text v.line.start v.line.end) ≡ row_columns text v
-row_read text v g = let f : Facts text v.line (row_columns text v) (content_place text v g) (drop g.item.to (row_bytes text v)) = g.content in f.read
+abbrev line_columns : (text : List ℕ) → Line → List Cell
+line_columns text l = cells_at l.start [] (bytes_between text l.start l.end)
 
-row_cursor : (text : List ℕ) (v : Row text) → first_cursor (row_columns text v) ≡ row_place text v
-row_cursor text v = let a : At text v.line 0 (row_bytes text v) (row_bytes text v) = row_at text v 0 (omega arith) in cursor_same v.line.start (row_bytes text v) a.whole a.short
+abbrev line_place : (text : List ℕ) → Line → Cursor
+line_place text l = place_at 0 (bytes_between text l.start l.end)
 
-row_stops : (text : List ℕ) (v : Row text) (g : Sight text v) (sort b e n width ib ie in_line : ℕ) (had some : Bool) → spaces_of (row_bytes text v) < width
-    → matched_from (row_columns text v) (list_box sort b e n had ∷ item_box width ib ie in_line some ∷ []) [] 0 (row_place text v) (list_box sort b e n had ∷ item_box width ib ie in_line some ∷ []) ≡ (1, row_place text v)
+-- a line that isn't blank, by its columns
+pub record Lined (text : List ℕ) (l : Line) : Type 0 where
+  pub read : cells_of [] l.start (bytes_between text l.start l.end) ≡ line_columns text l
+  pub cursor : first_cursor (line_columns text l) ≡ line_place text l
+  pub some : 0 + spaces_of (bytes_between text l.start l.end) < length (bytes_between text l.start l.end)
+
+row_lined : (text : List ℕ) (v : Row text) → Sight text v → Lined text v.line
+row_lined text v g =
+    let f : Facts text v.line (row_columns text v) (content_place text v g) (drop g.item.to (row_bytes text v)) = g.content in
+    let a : At text v.line 0 (row_bytes text v) (row_bytes text v) = row_at text v 0 (omega arith) in
+    record { read = f.read; cursor = cursor_same v.line.start (row_bytes text v) a.whole a.short; some = g.item.inked }
+
+lined_stops : (text : List ℕ) (l : Line) (g : Lined text l) (sort b e n width ib ie in_line : ℕ) (had some : Bool) → spaces_of (bytes_between text l.start l.end) < width
+    → matched_from (line_columns text l) (list_box sort b e n had ∷ item_box width ib ie in_line some ∷ []) [] 0 (line_place text l) (list_box sort b e n had ∷ item_box width ib ie in_line some ∷ []) ≡ (1, line_place text l)
 unfolding passed going_on stopped item_goes_on
-row_stops text v g sort b e n width ib ie in_line had some low =
+lined_stops text l g sort b e n width ib ie in_line had some low =
     ap (λ p. option_map_or (λ next. matched_from columns os [] (plus 0 1) next (item ∷ [])) p (stopped columns os [] 0 place, place)) in_list
     ∙ ap (λ p. option_map_or (λ next. matched_from columns os [] (plus (plus 0 1) 1) next []) p (stopped columns os [] (plus 0 1) place, place)) in_item
     ∙ ap (λ k. (k, place)) ends
   where
     columns : List Cell
-    columns = row_columns text v
+    columns = line_columns text l
 
     place : Cursor
-    place = row_place text v
+    place = line_place text l
 
     list : Opened
     list = list_box sort b e n had
@@ -251,19 +266,19 @@ row_stops text v g sort b e n width ib ie in_line had some low =
     os : List Opened
     os = list ∷ item ∷ []
 
-    count : length columns ≡ length (row_bytes text v)
-    count = length_kept v.line.start [] (row_bytes text v)
+    count : length columns ≡ length (bytes_between text l.start l.end)
+    count = length_kept l.start [] (bytes_between text l.start l.end)
 
-    ink_low : 0 + spaces_of (row_bytes text v) < length (row_bytes text v)
-    ink_low = g.item.inked
+    ink_low : 0 + spaces_of (bytes_between text l.start l.end) < length (bytes_between text l.start l.end)
+    ink_low = g.some
 
     begun : nat_le (length columns) 0 ≡ false
     begun = grind (arith, count, ink_low, nat_tests)
 
-    inked : nat_le (length columns) (0 + spaces_of (row_bytes text v)) ≡ false
+    inked : nat_le (length columns) (0 + spaces_of (bytes_between text l.start l.end)) ≡ false
     inked = grind (arith, count, ink_low, nat_tests)
 
-    outside : nat_le width (0 + spaces_of (row_bytes text v) - 0) ≡ false
+    outside : nat_le width (0 + spaces_of (bytes_between text l.start l.end) - 0) ≡ false
     outside = grind (arith, low, nat_tests)
 
     in_list : passed columns place list ≡ Some place
@@ -275,38 +290,40 @@ row_stops text v g sort b e n width ib ie in_line had some low =
     ends : stopped columns os [] (plus 0 1) place ≡ 1
     ends = rw begun (let q : plus 0 1 ≡ 1 = omega arith in q)
 
-row_comes : (text : List ℕ) (v : Row text) (g : Sight text v) (lf : Leaf) (sort b e n width ib ie in_line : ℕ) (had some : Bool) (bs : List ReadBlock) (ps : List Piece) (end number kept : ℕ) → spaces_of (row_bytes text v) < width
-    → line_taken text (stack_page (list_box sort b e n had ∷ item_box width ib ie in_line some ∷ []) lf bs ps end number kept) v.line
-    ≡ begin text (row_columns text v) v.line 1 (row_place text v) (stack_page (list_box sort b e n had ∷ item_box width ib ie in_line some ∷ []) lf bs ps end number kept)
+lined_comes : (text : List ℕ) (l : Line) (g : Lined text l) (lf : Leaf) (sort b e n width ib ie in_line : ℕ) (had some : Bool) (bs : List ReadBlock) (ps : List Piece) (end number kept : ℕ) → spaces_of (bytes_between text l.start l.end) < width
+    → line_taken text (stack_page (list_box sort b e n had ∷ item_box width ib ie in_line some ∷ []) lf bs ps end number kept) l
+    ≡ begin text (line_columns text l) l 1 (line_place text l) (stack_page (list_box sort b e n had ∷ item_box width ib ie in_line some ∷ []) lf bs ps end number kept)
 unfolding turn_of touched passed_in
-row_comes text v g lf sort b e n width ib ie in_line had some bs ps end number kept low =
-    line_comes text (row_columns text v) v.line 1 (row_place text v) (stack_page os lf bs ps end number kept) (row_read text v g)
-    (ap (λ c. matched_from (row_columns text v) os [] 0 c os) (row_cursor text v) ∙ row_stops text v g sort b e n width ib ie in_line had some low)
+lined_comes text l g lf sort b e n width ib ie in_line had some bs ps end number kept low =
+    line_comes text (line_columns text l) l 1 (line_place text l) (stack_page os lf bs ps end number kept) g.read
+    (ap (λ c. matched_from (line_columns text l) os [] 0 c os) g.cursor ∙ lined_stops text l g sort b e n width ib ie in_line had some low)
   where
     os : List Opened
     os = list_box sort b e n had ∷ item_box width ib ie in_line some ∷ []
 
-alone_comes : (text : List ℕ) (v : Row text) (g : Sight text v) (sort b e n : ℕ) (had : Bool) (bs : List ReadBlock) (ps : List Piece) (end number kept : ℕ)
-    → line_taken text (stack_page (list_box sort b e n had ∷ []) leaf.Nothing bs ps end number kept) v.line
-    ≡ begin text (row_columns text v) v.line 1 (row_place text v) (stack_page (list_box sort b e n had ∷ []) leaf.Nothing bs ps end number kept)
+alone_comes : (text : List ℕ) (l : Line) (g : Lined text l) (sort b e n : ℕ) (had : Bool) (bs : List ReadBlock) (ps : List Piece) (end number kept : ℕ)
+    → line_taken text (stack_page (list_box sort b e n had ∷ []) leaf.Nothing bs ps end number kept) l
+    ≡ begin text (line_columns text l) l 1 (line_place text l) (stack_page (list_box sort b e n had ∷ []) leaf.Nothing bs ps end number kept)
 unfolding turn_of touched passed_in leaf_turn passed going_on
-alone_comes text v g sort b e n had bs ps end number kept =
-    line_comes text (row_columns text v) v.line 1 (row_place text v) (stack_page os leaf.Nothing bs ps end number kept) (row_read text v g)
-    (ap (λ c. matched_from (row_columns text v) os [] 0 c os) (row_cursor text v)
-    ∙ ap (λ k. option_map_or (λ next. matched_from (row_columns text v) os [] (plus 0 1) next []) (if k then None else Some (row_place text v)) (stopped (row_columns text v) os [] 0 (row_place text v), row_place text v)) begun
-    ∙ ap (λ k. (k, row_place text v)) (let q : plus 0 1 ≡ 1 = omega arith in q))
+alone_comes text l g sort b e n had bs ps end number kept =
+    line_comes text (line_columns text l) l 1 (line_place text l) (stack_page os leaf.Nothing bs ps end number kept) g.read
+    (ap (λ c. matched_from (line_columns text l) os [] 0 c os) g.cursor
+    ∙ ap (λ k. option_map_or (λ next. matched_from (line_columns text l) os [] (plus 0 1) next []) (if k then None else Some (line_place text l)) (stopped (line_columns text l) os [] 0 (line_place text l), line_place text l)) begun
+    ∙ ap (λ k. (k, line_place text l)) (let q : plus 0 1 ≡ 1 = omega arith in q))
   where
     os : List Opened
     os = list_box sort b e n had ∷ []
 
-    begun : nat_le (length (row_columns text v)) 0 ≡ false
-    begun = let some : 0 < length (row_columns text v) = has_columns text v g in grind (arith, some, nat_tests)
+    begun : nat_le (length (line_columns text l)) 0 ≡ false
+    begun =
+        let some : 0 + spaces_of (bytes_between text l.start l.end) < length (bytes_between text l.start l.end) = g.some in
+        grind (arith, length_kept l.start [] (bytes_between text l.start l.end), some, nat_tests)
 
-first_comes : (text : List ℕ) (v : Row text) (g : Sight text v) (bs : List ReadBlock) (ps : List Piece) (end number kept : ℕ)
-    → line_taken text (stack_page [] leaf.Nothing bs ps end number kept) v.line ≡ begin text (row_columns text v) v.line 0 (row_place text v) (stack_page [] leaf.Nothing bs ps end number kept)
+first_comes : (text : List ℕ) (l : Line) (g : Lined text l) (bs : List ReadBlock) (ps : List Piece) (end number kept : ℕ)
+    → line_taken text (stack_page [] leaf.Nothing bs ps end number kept) l ≡ begin text (line_columns text l) l 0 (line_place text l) (stack_page [] leaf.Nothing bs ps end number kept)
 unfolding turn_of touched passed_in leaf_turn
-first_comes text v g bs ps end number kept =
-    line_comes text (row_columns text v) v.line 0 (row_place text v) (stack_page [] leaf.Nothing bs ps end number kept) (row_read text v g) (ap (λ (c : Cursor). (0, c)) (row_cursor text v))
+first_comes text l g bs ps end number kept =
+    line_comes text (line_columns text l) l 0 (line_place text l) (stack_page [] leaf.Nothing bs ps end number kept) g.read (ap (λ (c : Cursor). (0, c)) g.cursor)
 
 -- a list that is open, and what was found before it
 
@@ -386,7 +403,7 @@ holds_loose text g true bs ps is h = record {
 
 -- the page after the line of an item, and maybe blank lines, when its item ends
 pub record Ready (text : List ℕ) (g : Listing text) (s : State) (width number : ℕ) (is : Blocks) (ds : List DefinitionView) : Type 0 where
-  pub comes : (v : Row text) → Sight text v → spaces_of (row_bytes text v) < width → line_taken text s v.line ≡ begin text (row_columns text v) v.line 1 (row_place text v) s
+  pub comes : (l : Line) → Lined text l → spaces_of (bytes_between text l.start l.end) < width → line_taken text s l ≡ begin text (line_columns text l) l 1 (line_place text l) s
   pub indirect : goes_directly 1 s ≡ false
   pub after_end : ℕ
   pub after_line : ℕ
@@ -408,6 +425,7 @@ pub record Rest (text : List ℕ) (g : Listing text) (s : State) (width number :
   pub pauses : (b : BlankRow text) → line_taken text s b.line ≡ after_these ds paused
   pub stays : (b : BlankRow text) → line_taken text paused b.line ≡ paused
   pub later : Ready text g paused width number is []
+  pub calm : is_paragraph paused.leaf ≡ false
 
 -- a page whose leaf ends so
 closes_as : (text : List ℕ) (d : ℕ) (os : List Opened) (bs : List ReadBlock) (ps : List Piece) (end number kept : ℕ) (ds : List DefinitionView) (s : State) → leaf_closed text s ≡ after_these ds (stack_page os leaf.Nothing bs ps end number kept)
@@ -470,10 +488,10 @@ slot_ready : (text : List ℕ) (t : Slot text) (s : State) (lf : Leaf) (obs : Li
     → il ≡ t.row.line.number → length ps ≤ t.row.line.number → Holds text (slot_run text t) bs ps inside → Ready text t.list s t.row.item.mark.width t.row.line.number (also t.is (more (Item inside) none)) ds
 unfolding goes_directly
 slot_ready text t s lf obs ops oend onumber okept oie oil had bs ps end number kept ie il some inside ds is closed reach few h = record {
-  comes = λ v g low.
-      ap (λ x. line_taken text x v.line) is
-      ∙ row_comes text v g lf t.list.sort (length t.list.before) t.list_end t.list_line t.row.item.mark.width (length t.blocks) oie oil true had obs ops oend onumber okept low
-      ∙ ap (begin text (row_columns text v) v.line 1 (row_place text v)) (sym is);
+  comes = λ l g low.
+      ap (λ x. line_taken text x l) is
+      ∙ lined_comes text l g lf t.list.sort (length t.list.before) t.list_end t.list_line t.row.item.mark.width (length t.blocks) oie oil true had obs ops oend onumber okept low
+      ∙ ap (begin text (line_columns text l) l 1 (line_place text l)) (sym is);
   indirect = ap (goes_directly 1) is ∙ no_directly (is_paragraph lf);
   after_end = max t.list_end ie;
   after_line = max t.list_line il;
@@ -495,7 +513,7 @@ slot_full : (text : List ℕ) (t : Slot text) (s : State) (lf : Leaf) (obs : Lis
     → s ≡ stack_page (slot_stack text t oie oil true) lf obs ops oend onumber okept
     → leaf_closed text s ≡ after_these ds (stack_page (slot_stack text t ie il true) leaf.Nothing bs ps end number kept)
     → is_resting lf ≡ true → il ≡ t.row.line.number → length ps ≤ t.row.line.number → Holds text (slot_run text t) bs ps inside → SlotRest text t s inside ds
-unfolding leaf_closed
+unfolding leaf_closed is_paragraph
 slot_full text t s lf obs ops oend onumber okept oie oil bs ps end number kept ie il inside ds is closed rest reach few h = record {
   now = slot_ready text t s lf obs ops oend onumber okept oie oil true bs ps end number kept ie il true inside ds is closed reach few h;
   paused = page;
@@ -505,6 +523,7 @@ slot_full text t s lf obs ops oend onumber okept oie oil bs ps end number kept i
       ∙ ap (closed_to text 2) (sym is) ∙ closes_as text 2 (slot_stack text t ie il true) bs ps end number kept ds s closed ∙ ap (after_these ds) stays;
   stays = λ b. blank_in_full text b leaf.Nothing t.list.sort (length t.list.before) t.list_end t.list_line t.row.item.mark.width (length t.blocks) ie il true bs ps end number kept refl ∙ stays;
   later = slot_ready text t page leaf.Nothing bs ps end number kept ie il true bs ps end number kept ie il true inside [] refl refl reach few h;
+  calm = refl;
 }
   where
     page : State
@@ -526,7 +545,7 @@ slot_empty text t s bs ps end number kept ie il is reach few h = record {
       ∙ item_leaves text t.list.sort (length t.list.before) t.list_end t.list_line t.row.item.mark.width (length t.blocks) ie il true false bs ps end number kept;
   stays = λ b. blank_in_list text b t.list.sort (length t.list.before) (max t.list_end ie) (max t.list_line il) true left ps end number kept ∙ stays;
   later = record {
-    comes = λ v g low. alone_comes text v g t.list.sort (length t.list.before) (max t.list_end ie) (max t.list_line il) true left ps end number kept;
+    comes = λ l g low. alone_comes text l g t.list.sort (length t.list.before) (max t.list_end ie) (max t.list_line il) true left ps end number kept;
     indirect = refl;
     after_end = max t.list_end ie;
     after_line = max t.list_line il;
@@ -541,6 +560,7 @@ slot_empty text t s bs ps end number kept ie il is reach few h = record {
     holds = slot_holds text t bs ps none ie h;
     few = few;
   };
+  calm = refl;
 }
   where
     left : List ReadBlock
@@ -744,7 +764,7 @@ first_begins : (text : List ℕ) (v : Row text) (g : Sight text v) (bs : List Re
     → line_taken text (stack_page [] leaf.Nothing bs ps end number kept) v.line ≡ slot_page text (first_slot text v g bs ps found h end number kept few small)
 unfolding goes_directly is_paragraph
 first_begins text v g bs ps found h end number kept few small =
-    first_comes text v g bs ps end number kept
+    first_comes text v.line (row_lined text v g) bs ps end number kept
     ∙ first_content text v g 0 (stack_page [] leaf.Nothing bs ps end number kept) bs ps found h end number kept few small refl
     (ap (list_started (item_start v.item.mark g.item.to) (row_start text v) v.line) (top_stays text bs ps end number kept))
 
@@ -758,7 +778,7 @@ rest_begins : (text : List ℕ) (g : Listing text) (s : State) (width number : �
     → line_taken text s v.line ≡ after_these ds (begin text (row_columns text v) v.line 1 (row_place text v) (rest_page text g s width number is ds r))
 unfolding goes_directly is_paragraph
 rest_begins text g s width number is ds r v w low =
-    r.comes v w low
+    r.comes v.line (row_lined text v w) low
     ∙ row_same text v w 1 s (after_these ds page) r.indirect refl
     (r.closes ∙ sym (closed_after text 1 ds page ∙ ap (after_these ds) (list_stays text (list_box g.sort (length g.before) r.after_end r.after_line true) r.blocks r.pieces r.end r.last r.kept)))
     ∙ leaf_started_after text (row_columns text v) v.line (here 1 (row_place text v)) ds page
@@ -840,25 +860,341 @@ final_after text ds es s ls found k = record {
   holds = k.holds;
 }
 
-abbrev pub row_items : (text : List ℕ) → List (Row text) → List Marked
-row_items text vs = map (λ (v : Row text). v.item) vs
-
 abbrev pub blank_lines_of : (text : List ℕ) → List (BlankRow text) → List Line
 blank_lines_of text bl = map (λ (b : BlankRow text). b.line) bl
 
-abbrev pub row_lines : (text : List ℕ) → List (Row text) → List Line
+-- a leaf of one line outside lists
+
+pub record LeafRow (text : List ℕ) : Type 0 where
+  pub line : Line
+  pub single : Single
+  pub shown : single.part ≡ part_at 0 (bytes_between text line.start line.end)
+  pub pauses : List (BlankRow text)
+  pub paused : length pauses ≡ length single.blanks
+  pub plain : IsPlain text
+  pub fits : length text + 3 < 2 ^ 64
+  pub sound : Sound text line
+  pub feedless : has_feed (bytes_between text line.start line.end) ≡ false
+  pub fed : ends_with_feed text ≡ true → Fed text line
+
+-- what both see of it
+record LeafSight (text : List ℕ) (u : LeafRow text) : Type 0 where
+  content : Facts text u.line (line_columns text u.line) (line_place text u.line) (bytes_between text u.line.start u.line.end)
+  kind : content.kind ≡ u.single.kind
+  lined : Lined text u.line
+
+leaf_sight : (text : List ℕ) (u : LeafRow text) → LeafSight text u
+leaf_sight text u =
+    record {
+      content = f;
+      kind = sym f.begins ∙ begins;
+      lined = record { read = f.read; cursor = cursor_same u.line.start xs a.whole a.short; some = some };
+    }
+  where
+    xs : List ℕ
+    xs = bytes_between text u.line.start u.line.end
+
+    a : At text u.line 0 xs xs
+    a = at_line text u.line 0 u.plain u.fits u.sound u.feedless u.fed (omega arith)
+
+    begins : beginning (Written (part_at 0 xs)) ≡ u.single.kind
+    begins = ap (λ p. beginning (Written p)) (sym u.shown) ∙ u.single.begins
+
+    f : Facts text u.line (line_columns text u.line) (line_place text u.line) xs
+    f = facts_at text u.line 0 xs xs a (λ e. one_leaf (ends_with_feed text) (beginning (Written (part_at 0 xs))) (ap is_one_line begins ∙ u.single.one))
+
+    ink : is_blank xs ≡ false
+    ink = ap (λ (p : Part). is_blank p.bytes) (sym u.shown) ∙ u.single.ink
+
+    some : 0 + spaces_of xs < length xs
+    some = let q : nat_le (length xs) (spaces_of xs) ≡ false = blank_same xs ∙ ink in grind (arith, q, nat_tests)
+
+-- it begins this
+leaf_begins : (text : List ℕ) (u : LeafRow text) (g : LeafSight text u) (d : ℕ) (s : State) (p w : Bool) → is_paragraph s.leaf ≡ p → goes_directly d s ≡ w
+    → begin text (line_columns text u.line) u.line d (line_place text u.line) s
+    ≡ started (start_as (line_place text u.line) p w g.content.level u.single.kind) text (line_columns text u.line) u.line (tail_of (line_columns text u.line)) (here d (line_place text u.line)) s
+unfolding leaf_started_in metadata_in metadata_or task_in task_or quote_kind_in quote_kind_or tag_in tag_or
+leaf_begins text u g d s p w e h =
+    ap (started_at text columns u.line (tail_of columns)) (opens_none text columns u.line d place (length columns) s (f.opens no_quote))
+    ∙ ap (λ k. started k text columns u.line (tail_of columns) (here d place) s) (f.starts no_quote (is_paragraph s.leaf) (goes_directly d s))
+    ∙ ap (λ k. started (start_as place k (goes_directly d s) f.level f.kind) text columns u.line (tail_of columns) (here d place) s) e
+    ∙ ap (λ k. started (start_as place p k f.level f.kind) text columns u.line (tail_of columns) (here d place) s) h
+    ∙ ap (λ k. started (start_as place p w f.level k) text columns u.line (tail_of columns) (here d place) s) g.kind
+  where
+    columns : List Cell
+    columns = line_columns text u.line
+
+    place : Cursor
+    place = line_place text u.line
+
+    f : Facts text u.line columns place (bytes_between text u.line.start u.line.end)
+    f = g.content
+
+    no_quote : is_quote_kind f.kind ≡ false
+    no_quote = one_no_quote f.kind (ap is_one_line g.kind ∙ u.single.one)
+
+-- where no paragraph is open
+abbrev leaf_start : (text : List ℕ) (u : LeafRow text) → LeafSight text u → LeafStart
+leaf_start text u g = start_as (line_place text u.line) false false g.content.level u.single.kind
+
+top_start : (place : Cursor) (level : Option HeadingLevel) (k : Beginning) → is_one_line k ≡ true → is_blank_kind k ≡ false → is_top_start (start_as place false false level k) ≡ true
+top_start place level BlankLine e b = absurd (true≢false b)
+top_start place level CodeLine e b = absurd (true≢false (sym e))
+top_start place level QuoteLine e b = absurd (true≢false (sym e))
+top_start place level (HeadingLine h) e b = refl
+top_start place level (FenceLine f) e b = absurd (true≢false (sym e))
+top_start place level (HtmlLine k) e b = absurd (true≢false (sym e))
+top_start place level RuleLine e b = refl
+top_start place level (ItemLine m) e b = absurd (true≢false (sym e))
+top_start place level TextLine e b = refl
+top_start place level LazyLine e b = absurd (true≢false (sym e))
+
+-- it begins the same on pages that end as the same one
+leaf_same : (text : List ℕ) (u : LeafRow text) (g : LeafSight text u) (s t : State) (p : Bool) → is_paragraph s.leaf ≡ p → (is_text_kind u.single.kind ≡ true → p ≡ false) → is_paragraph t.leaf ≡ false → closed_to text 1 s ≡ closed_to text 1 t
+    → started (start_as (line_place text u.line) p false g.content.level u.single.kind) text (line_columns text u.line) u.line (tail_of (line_columns text u.line)) (here 1 (line_place text u.line)) s
+    ≡ started (leaf_start text u g) text (line_columns text u.line) u.line (tail_of (line_columns text u.line)) (here 1 (line_place text u.line)) t
+leaf_same text u g s t p hs quiet ht h = by u.single.kind refl u.single.one quiet
+  where
+    columns : List Cell
+    columns = line_columns text u.line
+
+    place : Cursor
+    place = line_place text u.line
+
+    by : (k : Beginning) → u.single.kind ≡ k → is_one_line k ≡ true → (is_text_kind k ≡ true → p ≡ false)
+        → started (start_as place p false g.content.level k) text columns u.line (tail_of columns) (here 1 place) s ≡ started (start_as place false false g.content.level k) text columns u.line (tail_of columns) (here 1 place) t
+    by BlankLine e o q = absurd (true≢false (ap is_blank_kind (sym e) ∙ u.single.some))
+    by CodeLine e o q = absurd (true≢false (sym o))
+    by QuoteLine e o q = absurd (true≢false (sym o))
+    by (HeadingLine x) e o q = same_start text columns u.line 1 place (start.Heading (heading_later place.ink x)) s t refl h
+    by (FenceLine f) e o q = absurd (true≢false (sym o))
+    by (HtmlLine k) e o q = absurd (true≢false (sym o))
+    by RuleLine e o q = same_start text columns u.line 1 place start.Rule s t refl h
+    by (ItemLine m) e o q = absurd (true≢false (sym o))
+    by TextLine e o q = text_start text columns u.line 1 place s t (hs ∙ q refl) ht h
+    by LazyLine e o q = absurd (true≢false (sym o))
+
+-- where no list is open
+leaf_at_top : (text : List ℕ) (u : LeafRow text) (g : LeafSight text u) (bs : List ReadBlock) (ps : List Piece) (end number kept : ℕ)
+    → line_taken text (stack_page [] leaf.Nothing bs ps end number kept) u.line
+    ≡ started (leaf_start text u g) text (line_columns text u.line) u.line (tail_of (line_columns text u.line)) (here 0 (line_place text u.line)) (stack_page [] leaf.Nothing bs ps end number kept)
+unfolding goes_directly is_paragraph
+leaf_at_top text u g bs ps end number kept =
+    first_comes text u.line g.lined bs ps end number kept ∙ leaf_begins text u g 0 (stack_page [] leaf.Nothing bs ps end number kept) false false refl refl
+
+-- after a list it does the same as there
+leaf_leaves : (text : List ℕ) (g : Listing text) (s : State) (width number : ℕ) (is : Blocks) (ds : List DefinitionView) (r : Ready text g s width number is ds) (u : LeafRow text) (w : LeafSight text u) → spaces_of (bytes_between text u.line.start u.line.end) < width → (is_text_kind u.single.kind ≡ true → is_paragraph s.leaf ≡ false)
+    → line_taken text s u.line ≡ after_these ds (line_taken text (stack_page [] leaf.Nothing (ended r.blocks (length g.before) r.after_end) r.pieces r.end r.last r.kept) u.line)
+unfolding is_paragraph
+leaf_leaves text g s width number is ds r u w low quiet =
+    r.comes u.line w.lined low
+    ∙ leaf_begins text u w 1 s (is_paragraph s.leaf) false refl r.indirect
+    ∙ leaf_same text u w s (after_these ds page) (is_paragraph s.leaf) refl quiet refl
+    (r.closes ∙ sym (closed_after text 1 ds page ∙ ap (after_these ds) (list_stays text (list_box g.sort (length g.before) r.after_end r.after_line true) r.blocks r.pieces r.end r.last r.kept)))
+    ∙ started_after (leaf_start text u w) text columns u.line (tail_of columns) (here 1 place) ds page
+    ∙ ap (after_these ds) (leaf_to_top text columns u.line place (leaf_start text u w) g.sort (length g.before) r.after_end r.after_line true r.blocks r.pieces r.end r.last r.kept (top_start place w.content.level u.single.kind u.single.one (u.single.some))
+    ∙ sym (leaf_at_top text u w (ended r.blocks (length g.before) r.after_end) r.pieces r.end r.last r.kept))
+  where
+    columns : List Cell
+    columns = line_columns text u.line
+
+    place : Cursor
+    place = line_place text u.line
+
+    page : State
+    page = rest_page text g s width number is ds r
+
+-- the page after it
+
+pub record TopRest (text : List ℕ) (u : LeafRow text) (s : State) (found : Blocks) (ds : List DefinitionView) : Type 0 where
+  pub blocks : List ReadBlock
+  pub pieces : List Piece
+  pub end : ℕ
+  pub number : ℕ
+  pub kept : ℕ
+  pub closes : closed_to text 0 s ≡ after_these ds (stack_page [] leaf.Nothing blocks pieces end number kept)
+  pub pauses : (b : BlankRow text) → line_taken text s b.line ≡ after_these ds (stack_page [] leaf.Nothing blocks pieces end number kept)
+  pub done : is_text_kind u.single.kind ≡ false → (s ≡ stack_page [] leaf.Nothing blocks pieces end number kept) × (ds ≡ [])
+  pub holds : Holds text top blocks pieces found
+  pub few : length pieces ≤ u.line.number
+
+-- a leaf that ends with its line
+top_done : (text : List ℕ) (u : LeafRow text) (s : State) (found : Blocks) (bs : List ReadBlock) (ps : List Piece) (end number kept : ℕ) → s ≡ stack_page [] leaf.Nothing bs ps end number kept → Holds text top bs ps found → length ps ≤ u.line.number → TopRest text u s found []
+top_done text u s found bs ps end number kept is h few = record {
+  blocks = bs;
+  pieces = ps;
+  end = end;
+  number = number;
+  kept = kept;
+  closes = ap (closed_to text 0) is ∙ top_stays text bs ps end number kept;
+  pauses = λ b. ap (λ x. line_taken text x b.line) is ∙ blank_at_top text b leaf.Nothing bs ps end number kept refl ∙ top_stays text bs ps end number kept;
+  done = λ q. (is, refl);
+  holds = h;
+  few = few;
+}
+
+top_leaf : (text : List ℕ) (u : LeafRow text) (bs : List ReadBlock) (ps : List Piece) (found : Blocks) (end number kept : ℕ) → Holds text top bs ps found → length ps < u.line.number → u.line.number + 1 < 2 ^ 64
+    → TopRest text u (line_taken text (stack_page [] leaf.Nothing bs ps end number kept) u.line) (also found (leaf_told u.single)) (entry_defined (LeafEntry u.single))
+top_leaf text u bs ps found end number kept h few small =
+    subst (λ s. TopRest text u s (also found (leaf_told u.single)) (entry_defined (LeafEntry u.single))) (sym (leaf_at_top text u g bs ps end number kept))
+    (subst (λ q. TopRest text u (page u.single.kind) (also found (told (tree (alone (Written q) u.single.kind)))) (defined (tree (alone (Written q) u.single.kind)))) (sym u.shown) (by u.single.kind refl u.single.one))
+  where
+    g : LeafSight text u
+    g = leaf_sight text u
+
+    l : Line
+    l = u.line
+
+    columns : List Cell
+    columns = line_columns text l
+
+    place : Cursor
+    place = line_place text l
+
+    xs : List ℕ
+    xs = bytes_between text l.start l.end
+
+    f : Facts text l columns place xs
+    f = g.content
+
+    dl : DeclaredLine
+    dl = left_at place xs
+
+    at_ink : ℕ
+    at_ink = cell_place columns place.ink l.end
+
+    page : Beginning → State
+    page k = started (start_as place false false f.level k) text columns l (tail_of columns) (here 0 place) (stack_page [] leaf.Nothing bs ps end number kept)
+
+    not_blank : is_blank_kind f.kind ≡ false
+    not_blank = ap is_blank_kind g.kind ∙ u.single.some
+
+    ruled : TopRest text u (page RuleLine) (also found (more Rule none)) []
+    ruled =
+        top_done text u (page RuleLine) (also found (more Rule none)) (bs ++ x ∷ []) ps l.end l.number (length ps) (rule_at_top text columns l place bs ps end number kept)
+        (subst (λ (qs : List Piece). Holds text top (bs ++ x ∷ []) qs (also found (more Rule none))) (append-nil ps) (holds_more text top bs ps found x Rule [] h refl (λ later. refl))) (omega (arith, few))
+      where
+        x : ReadBlock
+        x = rule_block 0 ps at_ink l.end
+
+    headed : (y : Heading) → u.single.kind ≡ HeadingLine y → TopRest text u (page (HeadingLine y)) (also found (more (HeadingBlock y.level (heading_text y (line_ink dl) (cells (line_ink dl)))) none)) []
+    headed y e =
+        top_done text u (page (HeadingLine y)) (also found (more (HeadingBlock y.level says) none)) (bs ++ x ∷ []) (ps ++ new) l.end l.number (length (ps ++ new)) (heading_at_top text columns l place mark bs ps end number kept)
+        (holds_more text top bs ps found x (HeadingBlock y.level says) new h refl (heading_told text 0 y.level ps new says at_ink l.end (words_told text l columns place.ink y (line_ink dl) (f.heads y (g.kind ∙ e)) (has_words columns mark l) refl)))
+        (let wide : length (ps ++ new) ≡ length ps + length new = length-append ps new in let one : length new ≤ 1 = few_words (has_words columns mark l) (heading_piece columns mark l) in omega (arith, wide, one, few))
+      where
+        mark : Heading
+        mark = heading_later place.ink y
+
+        new : List Piece
+        new = words columns mark l
+
+        says : List ℕ
+        says = heading_text y (line_ink dl) (cells (line_ink dl))
+
+        x : ReadBlock
+        x = ended_block 0 (kind.Heading y.level None) ps new at_ink l.end
+
+    texted : u.single.kind ≡ TextLine → TopRest text u (page TextLine) (also found (told (tree (alone dl TextLine)))) (defined (tree (alone dl TextLine)))
+    texted e =
+        subst (λ y. TopRest text u (page TextLine) (also found y) (defined (tree (alone dl TextLine)))) (sym (ap (λ fs. told (tree fs)) shape ∙ told_last ds 0 k us))
+        (subst (λ es. TopRest text u (page TextLine) (also found (more_if (left_as us) none)) es) (sym (ap (λ fs. defined (tree fs)) shape ∙ defined_last ds 0 k us))
+        (record {
+          blocks = bs ++ x ∷ [];
+          pieces = ps ++ p ∷ [];
+          end = l.end;
+          number = l.number;
+          kept = length (ps ++ p ∷ []);
+          closes = closes;
+          pauses = λ b. ap (λ y. line_taken text y b.line) is ∙ blank_at_top text b leaf.Paragraph (bs ++ block 0 kind.Paragraph at_ink at_ink (length ps) (length ps) ∷ []) (ps ++ p ∷ []) l.end l.number (length (ps ++ p ∷ [])) refl ∙ ap (closed_to text 0) (sym is) ∙ closes;
+          done = λ q. absurd (true≢false (sym (ap is_text_kind e) ∙ q));
+          holds = holds_if text top bs ps found x (left_as us) (p ∷ []) h refl (λ later. left_told text 0 ps (p ∷ []) k (start_from (ps ++ p ∷ []) (length ps + k) at_ink) l.end later ∙ ap (λ ts. left_as (drop k (ts ∷ []))) (f.ink not_blank));
+          few = (let wide : length (ps ++ p ∷ []) ≡ length ps + 1 = length-append ps (p ∷ []) in let q : length (ps ++ p ∷ []) ≤ l.number = omega (arith, wide, few) in q);
+        }))
+      where
+        p : Piece
+        p = piece_in columns place l
+
+        ink : List ℕ
+        ink = line_ink dl
+
+        ds : List DefinitionView
+        ds = (definitions (ink ∷ [])).0
+
+        k : ℕ
+        k = (definitions (ink ∷ [])).1
+
+        us : List (List ℕ)
+        us = drop k (ink ∷ [])
+
+        x : ReadBlock
+        x = left_block 0 ps (p ∷ []) k (first_draft ps at_ink l)
+
+        low : k ≤ 1
+        low = subst (λ q. (definitions (line_ink (Written q) ∷ [])).1 ≤ 1) u.shown u.single.short
+
+        reads : definitions_from text (p ∷ []) [] ≡ (ds, k)
+        reads = reads_same text (p ∷ []) f.plain ∙ ap (λ q. definitions (q ∷ [])) (f.ink not_blank)
+
+        is : page TextLine ≡ top_text l bs ps p at_ink
+        is = text_at_top text columns l place bs ps end number kept (f.some not_blank)
+
+        closes : closed_to text 0 (page TextLine) ≡ after_these ds (stack_page [] leaf.Nothing (bs ++ x ∷ []) (ps ++ p ∷ []) l.end l.number (length (ps ++ p ∷ [])))
+        closes =
+            closes_as text 0 [] (bs ++ x ∷ []) (ps ++ p ∷ []) l.end l.number (length (ps ++ p ∷ [])) ds (page TextLine) (ap (leaf_closed text) is ∙ top_text_ends text l bs ps p at_ink ds k reads (omega (arith, low, few, small)))
+            ∙ ap (after_these ds) (top_stays text (bs ++ x ∷ []) (ps ++ p ∷ []) l.end l.number (length (ps ++ p ∷ [])))
+
+        shape : alone dl TextLine ≡ definitions_found 0 ds k ++ (paragraph_left (0 + k) us ++ [])
+        shape = append_assoc (definitions_found 0 ds k) (paragraph_left (0 + k) us) []
+
+    by : (k : Beginning) → u.single.kind ≡ k → is_one_line k ≡ true → TopRest text u (page k) (also found (told (tree (alone dl k)))) (defined (tree (alone dl k)))
+    by BlankLine e o = absurd (true≢false (ap is_blank_kind (sym e) ∙ u.single.some))
+    by CodeLine e o = absurd (true≢false (sym o))
+    by QuoteLine e o = absurd (true≢false (sym o))
+    by (HeadingLine y) e o = headed y e
+    by (FenceLine y) e o = absurd (true≢false (sym o))
+    by (HtmlLine y) e o = absurd (true≢false (sym o))
+    by RuleLine e o = ruled
+    by (ItemLine m) e o = absurd (true≢false (sym o))
+    by TextLine e o = texted e
+    by LazyLine e o = absurd (true≢false (sym o))
+
+-- all lines
+
+pub data RowEntry (text : List ℕ) : Type 0 where
+  ItemRow : Row text → RowEntry text
+  SingleRow : LeafRow text → RowEntry text
+
+abbrev pub row_entry : (text : List ℕ) → RowEntry text → Entry
+row_entry text (ItemRow v) = ItemEntry v.item
+row_entry text (SingleRow u) = LeafEntry u.single
+
+abbrev pub row_pauses : (text : List ℕ) → RowEntry text → List (BlankRow text)
+row_pauses text (ItemRow v) = v.pauses
+row_pauses text (SingleRow u) = u.pauses
+
+abbrev pub row_line : (text : List ℕ) → RowEntry text → Line
+row_line text (ItemRow v) = v.line
+row_line text (SingleRow u) = u.line
+
+abbrev pub row_entries : (text : List ℕ) → List (RowEntry text) → List Entry
+row_entries text es = map (row_entry text) es
+
+abbrev pub row_lines : (text : List ℕ) → List (RowEntry text) → List Line
 row_lines text [] = []
-row_lines text (v ∷ vs) = v.line ∷ (blank_lines_of text v.pauses ++ row_lines text vs)
+row_lines text (e ∷ es) = row_line text e ∷ (blank_lines_of text (row_pauses text e) ++ row_lines text es)
 
 -- how many these are
-abbrev pub row_count : (text : List ℕ) → List (Row text) → ℕ
+abbrev pub row_count : (text : List ℕ) → List (RowEntry text) → ℕ
 row_count text [] = 0
-row_count text (v ∷ vs) = suc (length v.pauses) + row_count text vs
+row_count text (e ∷ es) = suc (length (row_pauses text e)) + row_count text es
 
--- each item is outside the one above it, and the lines are numbered
-abbrev pub Runs : (text : List ℕ) → ℕ → ℕ → List (Row text) → Type 0
-Runs text width number [] = Unit {0}
-Runs text width number (v ∷ vs) = (spaces_of (row_bytes text v) < width) × (v.line.number ≡ suc number) × Runs text v.item.mark.width (v.line.number + length v.pauses) vs
+-- each line is outside the item above it, continues no paragraph, and has the next number
+abbrev pub Runs : (text : List ℕ) → ℕ → Bool → ℕ → List (RowEntry text) → Type 0
+Runs text width quiet number [] = Unit {0}
+Runs text width quiet number (ItemRow v ∷ es) = (spaces_of (row_bytes text v) < width) × (v.line.number ≡ suc number) × Runs text v.item.mark.width (has_blanks v.item) (v.line.number + length v.pauses) es
+Runs text width quiet number (SingleRow u ∷ es) =
+    (spaces_of (bytes_between text u.line.start u.line.end) < width) × (u.line.number ≡ suc number) × ((is_text_kind u.single.kind && not quiet) ≡ false) × (closes_line u.single (row_entries text es) ≡ true) × Runs text 4 true (u.line.number + length u.pauses) es
 
 -- blank lines leave a page as it is
 pub fold_stays : (text : List ℕ) (s : State) (bl : List (BlankRow text)) (ls : List Line) → ((b : BlankRow text) → line_taken text s b.line ≡ s) → fold (line_taken text) s (blank_lines_of text bl ++ ls) ≡ fold (line_taken text) s ls
@@ -866,30 +1202,66 @@ fold_stays text s [] ls h = refl
 fold_stays text s (b ∷ bl) ls h = ap (λ x. fold (line_taken text) x (blank_lines_of text bl ++ ls)) (h b) ∙ fold_stays text s bl ls h
 
 -- lines after an item and blank lines
-settled_read : (text : List ℕ) (g : Listing text) (s : State) (width number : ℕ) (is : Blocks) (ds es : List DefinitionView) (bl : List (BlankRow text)) (ls : List Line) (found : Blocks) → Rest text g s width number is ds
-    → ((t : State) (fs : List DefinitionView) → Ready text g t width number is fs → Final text (fold (line_taken text) t ls) found (fs ++ es)) → Final text (fold (line_taken text) s (blank_lines_of text bl ++ ls)) found (ds ++ es)
-settled_read text g s width number is ds es [] ls found r again = again s ds r.now
-settled_read text g s width number is ds es (b ∷ bl) ls found r again =
+settled_read : (text : List ℕ) (g : Listing text) (s : State) (width number : ℕ) (is : Blocks) (ds es : List DefinitionView) (bl : List (BlankRow text)) (blank : Bool) (ls : List Line) (found : Blocks) → Rest text g s width number is ds → nat_lt 0 (length bl) ≡ blank
+    → ((t : State) (fs : List DefinitionView) → Ready text g t width number is fs → (blank ≡ true → is_paragraph t.leaf ≡ false) → Final text (fold (line_taken text) t ls) found (fs ++ es)) → Final text (fold (line_taken text) s (blank_lines_of text bl ++ ls)) found (ds ++ es)
+settled_read text g s width number is ds es [] blank ls found r e again = again s ds r.now (λ q. absurd (true≢false (sym (e ∙ q))))
+settled_read text g s width number is ds es (b ∷ bl) blank ls found r e again =
     subst (λ x. Final text (fold (line_taken text) x (blank_lines_of text bl ++ ls)) found (ds ++ es)) (sym (r.pauses b))
     (final_after text ds es r.paused (blank_lines_of text bl ++ ls) found
-    (subst (λ x. Final text x found es) (sym (fold_stays text r.paused bl ls r.stays)) (again r.paused [] r.later)))
+    (subst (λ x. Final text x found es) (sym (fold_stays text r.paused bl ls r.stays)) (again r.paused [] r.later (λ q. r.calm))))
 
-rows_read : (text : List ℕ) (vs : List (Row text)) (g : Listing text) (s : State) (width number at : ℕ) (blank : Bool) (is : Blocks) (ds : List DefinitionView) → Ready text g s width number is ds → Runs text width at vs → number ≤ at → nat_lt number at ≡ blank → at + row_count text vs + 1 < 2 ^ 64
-    → Final text (fold (line_taken text) s (row_lines text vs)) (also g.found (lists_told g.number g.sort is g.tight blank (row_items text vs))) (ds ++ all_defined (row_items text vs))
-rows_read text [] g s width number at blank is ds r runs below gap small =
-    subst (λ es. Final text s (also g.found (more (list_told g.tight g.number is) none)) es) (sym (append-nil ds))
-    (record {
-      blocks = ended r.blocks (length g.before) r.after_end;
-      pieces = r.pieces;
-      end = r.end;
-      number = r.last;
-      kept = r.kept;
-      is = closes_list text g.sort (length g.before) r.after_end r.after_line true r.blocks r.pieces r.end r.last r.kept ds s r.closes r.deep;
-      holds = list_done text g s width number is ds r;
-    })
-rows_read text (v ∷ vs) g s width number at blank is ds r runs below gap small =
-    by (v.item.mark.sort == g.sort) refl
-    (λ h o t fs q. rows_read text vs h t v.item.mark.width v.line.number (v.line.number + length v.pauses) (has_blanks v.item) o fs q (runs.2) (omega arith) (let paused : length v.pauses ≡ length v.item.blanks = v.paused in grind (arith, paused, nat_tests)) fits)
+-- lines after a leaf and blank lines
+top_settled : (text : List ℕ) (u : LeafRow text) (s : State) (found after : Blocks) (ds xs : List DefinitionView) (bl : List (BlankRow text)) (es : List (RowEntry text)) (r : TopRest text u s found ds) → closes_line u.single (row_entries text es) ≡ true → length bl ≡ length u.single.blanks
+    → Final text (fold (line_taken text) (stack_page [] leaf.Nothing r.blocks r.pieces r.end r.number r.kept) (row_lines text es)) after xs → (es ≡ [] → (after ≡ found) × (xs ≡ []))
+    → Final text (fold (line_taken text) s (blank_lines_of text bl ++ row_lines text es)) after (ds ++ xs)
+top_settled text u s found after ds xs (b ∷ bl) es r closes count later last =
+    subst (λ x. Final text (fold (line_taken text) x (blank_lines_of text bl ++ row_lines text es)) after (ds ++ xs)) (sym (r.pauses b))
+    (final_after text ds xs page (blank_lines_of text bl ++ row_lines text es) after
+    (subst (λ x. Final text x after xs) (sym (fold_stays text page bl (row_lines text es) (λ c. blank_at_top text c leaf.Nothing r.blocks r.pieces r.end r.number r.kept refl ∙ top_stays text r.blocks r.pieces r.end r.number r.kept))) later))
+  where
+    page : State
+    page = stack_page [] leaf.Nothing r.blocks r.pieces r.end r.number r.kept
+top_settled text u s found after ds xs [] [] r closes count later last =
+    let both = last refl in
+    subst (λ y. Final text s y (ds ++ xs)) (sym (both.0))
+    (subst (λ ys. Final text s found (ds ++ ys)) (sym (both.1))
+    (subst (λ ys. Final text s found ys) (sym (append-nil ds))
+    (record { blocks = r.blocks; pieces = r.pieces; end = r.end; number = r.number; kept = r.kept; is = r.closes; holds = r.holds })))
+top_settled text u s found after ds xs [] (e ∷ es) r closes count later last = by (is_text_kind u.single.kind) refl
+  where
+    by : (k : Bool) → is_text_kind u.single.kind ≡ k → Final text (fold (line_taken text) s (row_lines text (e ∷ es))) after (ds ++ xs)
+    by true q =
+        let none : nat_lt 0 (length u.single.blanks) ≡ false = ap (λ n. nat_lt 0 n) (sym count) in
+        absurd (true≢false (sym closes ∙ ap (λ k. not k || nat_lt 0 (length u.single.blanks)) q ∙ none))
+    by false q =
+        let d = r.done q in
+        subst (λ x. Final text (fold (line_taken text) x (row_lines text (e ∷ es))) after (ds ++ xs)) (sym (d.0))
+        (subst (λ ys. Final text (fold (line_taken text) (stack_page [] leaf.Nothing r.blocks r.pieces r.end r.number r.kept) (row_lines text (e ∷ es))) after (ys ++ xs)) (sym (d.1)) later)
+
+-- what is read of lines after an item of a list
+abbrev RowsRead : (text : List ℕ) → List (RowEntry text) → Type 0
+RowsRead text es = (g : Listing text) (s : State) (width number at : ℕ) (blank : Bool) (is : Blocks) (ds : List DefinitionView) → Ready text g s width number is ds → (blank ≡ true → is_paragraph s.leaf ≡ false) → Runs text width blank at es → number ≤ at → nat_lt number at ≡ blank → at + row_count text es + 1 < 2 ^ 64
+    → Final text (fold (line_taken text) s (row_lines text es)) (also g.found (lists_told g.number g.sort is g.tight blank (row_entries text es))) (ds ++ all_defined (row_entries text es))
+
+-- and where no list is open
+abbrev TopsRead : (text : List ℕ) → List (RowEntry text) → Type 0
+TopsRead text es = (bs : List ReadBlock) (ps : List Piece) (found : Blocks) (end number kept width at : ℕ) → Holds text top bs ps found → length ps ≤ at → Runs text width true at es → at + row_count text es + 1 < 2 ^ 64
+    → Final text (fold (line_taken text) (stack_page [] leaf.Nothing bs ps end number kept) (row_lines text es)) (also found (docs_told (row_entries text es))) (all_defined (row_entries text es))
+
+list_finishes : (text : List ℕ) (g : Listing text) (s : State) (width number : ℕ) (is : Blocks) (ds : List DefinitionView) (r : Ready text g s width number is ds) → Final text s (also g.found (more (list_told g.tight g.number is) none)) ds
+list_finishes text g s width number is ds r = record {
+  blocks = ended r.blocks (length g.before) r.after_end;
+  pieces = r.pieces;
+  end = r.end;
+  number = r.last;
+  kept = r.kept;
+  is = closes_list text g.sort (length g.before) r.after_end r.after_line true r.blocks r.pieces r.end r.last r.kept ds s r.closes r.deep;
+  holds = list_done text g s width number is ds r;
+}
+
+-- an item comes
+item_read : (text : List ℕ) (v : Row text) (es : List (RowEntry text)) → RowsRead text es → RowsRead text (ItemRow v ∷ es)
+item_read text v es rows g s width number at blank is ds r calm runs below gap small = by (v.item.mark.sort == g.sort) refl
   where
     w : Sight text v
     w = sight text v
@@ -900,74 +1272,147 @@ rows_read text (v ∷ vs) g s width number at blank is ds r runs below gap small
     later : number < v.line.number
     later = omega (arith, next, below)
 
-    fits : v.line.number + length v.pauses + row_count text vs + 1 < 2 ^ 64
-    fits = omega (arith, next, small)
-
     now_fits : v.line.number + 1 < 2 ^ 64
     now_fits = omega (arith, next, small)
 
     apart : nat_lt (number + 1) v.line.number ≡ blank
     apart = (let q : nat_lt (number + 1) v.line.number ≡ nat_lt number at = grind (arith, next, nat_tests) in q) ∙ gap
 
-    es : List DefinitionView
-    es = defined (tree (content_blocks v.item))
+    fs : List DefinitionView
+    fs = defined (tree (content_blocks v.item))
 
-    more_items : List Marked
-    more_items = row_items text vs
+    more_entries : List Entry
+    more_entries = row_entries text es
 
     lines : List Line
-    lines = blank_lines_of text v.pauses ++ row_lines text vs
+    lines = blank_lines_of text v.pauses ++ row_lines text es
+
+    again : (h : Listing text) (o : Blocks) (t : State) (ys : List DefinitionView) → Ready text h t v.item.mark.width v.line.number o ys → (has_blanks v.item ≡ true → is_paragraph t.leaf ≡ false) → Final text (fold (line_taken text) t (row_lines text es)) (also h.found (lists_told h.number h.sort o h.tight (has_blanks v.item) more_entries)) (ys ++ all_defined more_entries)
+    again h o t ys q c = rows h t v.item.mark.width v.line.number (v.line.number + length v.pauses) (has_blanks v.item) o ys q c (runs.2) (omega arith) (let paused : length v.pauses ≡ length v.item.blanks = v.paused in grind (arith, paused, nat_tests)) (omega (arith, next, small))
+
+    some_blanks : nat_lt 0 (length v.pauses) ≡ has_blanks v.item
+    some_blanks = ap (λ n. nat_lt 0 n) v.paused
 
     by : (q : Bool) → (v.item.mark.sort == g.sort) ≡ q
-        → ((h : Listing text) (o : Blocks) (t : State) (fs : List DefinitionView) → Ready text h t v.item.mark.width v.line.number o fs → Final text (fold (line_taken text) t (row_lines text vs)) (also h.found (lists_told h.number h.sort o h.tight (has_blanks v.item) more_items)) (fs ++ all_defined more_items))
-        → Final text (fold (line_taken text) (line_taken text s v.line) lines) (also g.found (if q then lists_told g.number v.item.mark.sort (also is (item_told v.item)) (g.tight && not blank) (has_blanks v.item) more_items else more (list_told g.tight g.number is) (lists_told v.item.mark.number v.item.mark.sort (item_told v.item) true (has_blanks v.item) more_items))) (ds ++ (es ++ all_defined more_items))
-    by true e again =
-        subst (λ x. Final text (fold (line_taken text) x lines) (also g.found (lists_told g.number v.item.mark.sort (also is (item_told v.item)) (g.tight && not blank) (has_blanks v.item) more_items)) (ds ++ (es ++ all_defined more_items))) (sym (next_begins text g s width number is ds r v w blank later now_fits apart (runs.0) e))
-        (final_after text ds (es ++ all_defined more_items) (slot_page text slot) lines (also g.found (lists_told g.number v.item.mark.sort (also is (item_told v.item)) (g.tight && not blank) (has_blanks v.item) more_items))
-        (subst (λ k. Final text (fold (line_taken text) (slot_page text slot) lines) (also g.found (lists_told g.number k (also is (item_told v.item)) (g.tight && not blank) (has_blanks v.item) more_items)) (es ++ all_defined more_items)) (sym (eq_of v.item.mark.sort g.sort e))
-        (settled_read text slot.list (slot_page text slot) v.item.mark.width v.line.number (also is (item_told v.item)) es (all_defined more_items) v.pauses (row_lines text vs) (also g.found (lists_told g.number g.sort (also is (item_told v.item)) (g.tight && not blank) (has_blanks v.item) more_items)) (slot_content text slot)
-        (λ t fs q. again slot.list (also is (item_told v.item)) t fs q))))
+        → Final text (fold (line_taken text) (line_taken text s v.line) lines) (also g.found (if q then lists_told g.number v.item.mark.sort (also is (item_told v.item)) (g.tight && not blank) (has_blanks v.item) more_entries else more (list_told g.tight g.number is) (lists_told v.item.mark.number v.item.mark.sort (item_told v.item) true (has_blanks v.item) more_entries))) (ds ++ (fs ++ all_defined more_entries))
+    by true e =
+        subst (λ x. Final text (fold (line_taken text) x lines) (also g.found (lists_told g.number v.item.mark.sort (also is (item_told v.item)) (g.tight && not blank) (has_blanks v.item) more_entries)) (ds ++ (fs ++ all_defined more_entries))) (sym (next_begins text g s width number is ds r v w blank later now_fits apart (runs.0) e))
+        (final_after text ds (fs ++ all_defined more_entries) (slot_page text slot) lines (also g.found (lists_told g.number v.item.mark.sort (also is (item_told v.item)) (g.tight && not blank) (has_blanks v.item) more_entries))
+        (subst (λ k. Final text (fold (line_taken text) (slot_page text slot) lines) (also g.found (lists_told g.number k (also is (item_told v.item)) (g.tight && not blank) (has_blanks v.item) more_entries)) (fs ++ all_defined more_entries)) (sym (eq_of v.item.mark.sort g.sort e))
+        (settled_read text slot.list (slot_page text slot) v.item.mark.width v.line.number (also is (item_told v.item)) fs (all_defined more_entries) v.pauses (has_blanks v.item) (row_lines text es) (also g.found (lists_told g.number g.sort (also is (item_told v.item)) (g.tight && not blank) (has_blanks v.item) more_entries)) (slot_content text slot) some_blanks
+        (λ t ys q c. again slot.list (also is (item_told v.item)) t ys q c))))
       where
         slot : Slot text
         slot = next_slot text g s width number is ds r v w blank later now_fits
-    by false e again =
-        subst (λ x. Final text (fold (line_taken text) x lines) (also g.found (more (list_told g.tight g.number is) others)) (ds ++ (es ++ all_defined more_items))) (sym (other_begins text g s width number is ds r v w later now_fits (runs.0) e))
-        (final_after text ds (es ++ all_defined more_items) (slot_page text slot) lines (also g.found (more (list_told g.tight g.number is) others))
-        (subst (λ y. Final text (fold (line_taken text) (slot_page text slot) lines) y (es ++ all_defined more_items)) (also_also g.found (more (list_told g.tight g.number is) none) others)
-        (settled_read text slot.list (slot_page text slot) v.item.mark.width v.line.number (item_told v.item) es (all_defined more_items) v.pauses (row_lines text vs) (also slot.list.found others) (slot_content text slot)
-        (λ t fs q. again slot.list (item_told v.item) t fs q))))
+    by false e =
+        subst (λ x. Final text (fold (line_taken text) x lines) (also g.found (more (list_told g.tight g.number is) others)) (ds ++ (fs ++ all_defined more_entries))) (sym (other_begins text g s width number is ds r v w later now_fits (runs.0) e))
+        (final_after text ds (fs ++ all_defined more_entries) (slot_page text slot) lines (also g.found (more (list_told g.tight g.number is) others))
+        (subst (λ y. Final text (fold (line_taken text) (slot_page text slot) lines) y (fs ++ all_defined more_entries)) (also_also g.found (more (list_told g.tight g.number is) none) others)
+        (settled_read text slot.list (slot_page text slot) v.item.mark.width v.line.number (item_told v.item) fs (all_defined more_entries) v.pauses (has_blanks v.item) (row_lines text es) (also slot.list.found others) (slot_content text slot) some_blanks
+        (λ t ys q c. again slot.list (item_told v.item) t ys q c))))
       where
         slot : Slot text
         slot = other_slot text g s width number is ds r v w later now_fits
 
         others : Blocks
-        others = lists_told v.item.mark.number v.item.mark.sort (item_told v.item) true (has_blanks v.item) more_items
+        others = lists_told v.item.mark.number v.item.mark.sort (item_told v.item) true (has_blanks v.item) more_entries
 
--- lines of which the first begins an item
-pub text_read : (text : List ℕ) (v : Row text) (vs : List (Row text)) (number : ℕ) → Runs text 4 number (v ∷ vs) → number + row_count text (v ∷ vs) + 1 < 2 ^ 64
-    → Final text (fold (line_taken text) (stack_page [] leaf.Nothing [] [] 0 0 0) (row_lines text (v ∷ vs))) (lists_told v.item.mark.number v.item.mark.sort (item_told v.item) true (has_blanks v.item) (row_items text vs)) (all_defined (row_items text (v ∷ vs)))
-text_read text v vs number runs small =
-    subst (λ x. Final text (fold (line_taken text) x (blank_lines_of text v.pauses ++ row_lines text vs)) result (all_defined (row_items text (v ∷ vs)))) (sym (first_begins text v w [] [] none start 0 0 0 few fits))
-    (settled_read text slot.list (slot_page text slot) v.item.mark.width v.line.number (item_told v.item) (defined (tree (content_blocks v.item))) (all_defined (row_items text vs)) v.pauses (row_lines text vs) result (slot_content text slot)
-    (λ t fs q. rows_read text vs slot.list t v.item.mark.width v.line.number (v.line.number + length v.pauses) (has_blanks v.item) (item_told v.item) fs q (runs.2) (omega arith) (let paused : length v.pauses ≡ length v.item.blanks = v.paused in grind (arith, paused, nat_tests)) (omega (arith, next, small))))
+-- a list begins
+list_read : (text : List ℕ) (v : Row text) (es : List (RowEntry text)) → RowsRead text es → TopsRead text (ItemRow v ∷ es)
+list_read text v es rows bs ps found end number kept width at h few runs small =
+    subst (λ x. Final text (fold (line_taken text) x (blank_lines_of text v.pauses ++ row_lines text es)) result (all_defined (row_entries text (ItemRow v ∷ es)))) (sym (first_begins text v w bs ps found h end number kept low fits))
+    (settled_read text slot.list (slot_page text slot) v.item.mark.width v.line.number (item_told v.item) (defined (tree (content_blocks v.item))) (all_defined (row_entries text es)) v.pauses (has_blanks v.item) (row_lines text es) result (slot_content text slot) (ap (λ n. nat_lt 0 n) v.paused)
+    (λ t ys q c. rows slot.list t v.item.mark.width v.line.number (v.line.number + length v.pauses) (has_blanks v.item) (item_told v.item) ys q c (runs.2) (omega arith) (let paused : length v.pauses ≡ length v.item.blanks = v.paused in grind (arith, paused, nat_tests)) (omega (arith, next, small))))
   where
     w : Sight text v
     w = sight text v
 
-    next : v.line.number ≡ suc number
+    next : v.line.number ≡ suc at
     next = runs.1
 
-    few : 0 < v.line.number
-    few = omega (arith, next)
+    low : length ps < v.line.number
+    low = omega (arith, next, few)
 
     fits : v.line.number + 1 < 2 ^ 64
     fits = omega (arith, next, small)
 
-    start : Holds text top [] [] none
-    start = holds_none text top
-
     slot : Slot text
-    slot = first_slot text v w [] [] none start 0 0 0 few fits
+    slot = first_slot text v w bs ps found h end number kept low fits
 
     result : Blocks
-    result = lists_told v.item.mark.number v.item.mark.sort (item_told v.item) true (has_blanks v.item) (row_items text vs)
+    result = also found (lists_told v.item.mark.number v.item.mark.sort (item_told v.item) true (has_blanks v.item) (row_entries text es))
+
+-- a leaf comes where no list is open
+leaf_read : (text : List ℕ) (u : LeafRow text) (es : List (RowEntry text)) → TopsRead text es → TopsRead text (SingleRow u ∷ es)
+leaf_read text u es tops bs ps found end number kept width at h few runs small =
+    top_settled text u (line_taken text (stack_page [] leaf.Nothing bs ps end number kept) u.line) (also found (leaf_told u.single)) (also found (also (leaf_told u.single) (docs_told (row_entries text es)))) (entry_defined (LeafEntry u.single)) (all_defined (row_entries text es)) u.pauses es r (runs.3) u.paused
+    (subst (λ y. Final text (fold (line_taken text) (stack_page [] leaf.Nothing r.blocks r.pieces r.end r.number r.kept) (row_lines text es)) y (all_defined (row_entries text es))) (also_also found (leaf_told u.single) (docs_told (row_entries text es)))
+    (tops r.blocks r.pieces (also found (leaf_told u.single)) r.end r.number r.kept 4 (u.line.number + length u.pauses) r.holds (let few' : length r.pieces ≤ u.line.number = r.few in omega (arith, few')) (runs.4) (omega (arith, next, small))))
+    (λ e. (ap (λ ys. also found (also (leaf_told u.single) (docs_told (row_entries text ys)))) e ∙ ap (also found) (also_none (leaf_told u.single)), ap (λ ys. all_defined (row_entries text ys)) e))
+  where
+    next : u.line.number ≡ suc at
+    next = runs.1
+
+    r : TopRest text u (line_taken text (stack_page [] leaf.Nothing bs ps end number kept) u.line) (also found (leaf_told u.single)) (entry_defined (LeafEntry u.single))
+    r = top_leaf text u bs ps found end number kept h (omega (arith, next, few)) (omega (arith, next, small))
+
+text_quiet : (k blank : Bool) → (k && not blank) ≡ false → k ≡ true → blank ≡ true
+text_quiet true true e q = refl
+text_quiet true false e q = absurd (true≢false e)
+text_quiet false blank e q = absurd (true≢false (sym q))
+
+-- a leaf comes after a list
+leaf_ends : (text : List ℕ) (u : LeafRow text) (es : List (RowEntry text)) → TopsRead text (SingleRow u ∷ es) → RowsRead text (SingleRow u ∷ es)
+leaf_ends text u es tops g s width number at blank is ds r calm runs below gap small =
+    subst (λ x. Final text (fold (line_taken text) x lines) (also g.found (more (list_told g.tight g.number is) others)) (ds ++ all_defined (row_entries text (SingleRow u ∷ es)))) (sym (leaf_leaves text g s width number is ds r u (leaf_sight text u) (runs.0) (λ q. calm (text_quiet (is_text_kind u.single.kind) blank (runs.2) q))))
+    (final_after text ds (all_defined (row_entries text (SingleRow u ∷ es))) (line_taken text page u.line) lines (also g.found (more (list_told g.tight g.number is) others))
+    (subst (λ y. Final text (fold (line_taken text) (line_taken text page u.line) lines) y (all_defined (row_entries text (SingleRow u ∷ es)))) (also_also g.found (more (list_told g.tight g.number is) none) others)
+    (tops (ended r.blocks (length g.before) r.after_end) r.pieces (also g.found (more (list_told g.tight g.number is) none)) r.end r.last r.kept width at (list_done text g s width number is ds r) (let few : length r.pieces ≤ number = r.few in omega (arith, few, below)) (runs.0, runs.1, no_text (is_text_kind u.single.kind), runs.3, runs.4) small)))
+  where
+    lines : List Line
+    lines = blank_lines_of text u.pauses ++ row_lines text es
+
+    others : Blocks
+    others = docs_told (row_entries text (SingleRow u ∷ es))
+
+    page : State
+    page = stack_page [] leaf.Nothing (ended r.blocks (length g.before) r.after_end) r.pieces r.end r.last r.kept
+
+    no_text : (k : Bool) → (k && false) ≡ false
+    no_text true = refl
+    no_text false = refl
+
+rows_none : (text : List ℕ) → RowsRead text []
+rows_none text g s width number at blank is ds r calm runs below gap small =
+    subst (λ es. Final text s (also g.found (more (list_told g.tight g.number is) none)) es) (sym (append-nil ds)) (list_finishes text g s width number is ds r)
+
+tops_none : (text : List ℕ) → TopsRead text []
+tops_none text bs ps found end number kept width at h few runs small = record {
+  blocks = bs;
+  pieces = ps;
+  end = end;
+  number = number;
+  kept = kept;
+  is = top_stays text bs ps end number kept;
+  holds = subst (λ y. Holds text top bs ps y) (sym (also_none found)) h;
+}
+
+tops_one : (text : List ℕ) (e : RowEntry text) (es : List (RowEntry text)) → RowsRead text es → TopsRead text es → TopsRead text (e ∷ es)
+tops_one text (ItemRow v) es rows tops = list_read text v es rows
+tops_one text (SingleRow u) es rows tops = leaf_read text u es tops
+
+rows_one : (text : List ℕ) (e : RowEntry text) (es : List (RowEntry text)) → RowsRead text es → TopsRead text (e ∷ es) → RowsRead text (e ∷ es)
+rows_one text (ItemRow v) es rows tops = item_read text v es rows
+rows_one text (SingleRow u) es rows tops = leaf_ends text u es tops
+
+all_read : (text : List ℕ) (es : List (RowEntry text)) → RowsRead text es × TopsRead text es
+all_read text [] = (rows_none text, tops_none text)
+all_read text (e ∷ es) =
+    let h : RowsRead text es × TopsRead text es = all_read text es in
+    let t : TopsRead text (e ∷ es) = tops_one text e es (h.0) (h.1) in
+    (rows_one text e es (h.0) t, t)
+
+-- lines from the front of a text on
+pub text_read : (text : List ℕ) (es : List (RowEntry text)) (at : ℕ) → Runs text 4 true at es → at + row_count text es + 1 < 2 ^ 64
+    → Final text (fold (line_taken text) (stack_page [] leaf.Nothing [] [] 0 0 0) (row_lines text es)) (docs_told (row_entries text es)) (all_defined (row_entries text es))
+text_read text es at runs small = (all_read text es).1 [] [] none 0 0 0 4 at (holds_none text top) (omega arith) runs small
