@@ -12,7 +12,7 @@ use Rattle.tocmark_event.specs.declared.event.flags.ParserOptions.{ParserOptions
 use Rattle.tocmark_compare.specs.Given.{given_events}
 use Rattle.tocmark_json.specs.Json.{pair_view}
 use Rattle.tocmark_laws.proofs.Handed.{drained}
-use Rattle.tocmark_judge.specs.Marks.{after_mark, has_mark, mark}
+use Rattle.tocmark_judge.specs.Marks.{after_mark, has_mark}
 use Rattle.tocmark_judge.proofs.Marking.{rest-unmarked}
 use Rattle.tocmark_rewrite.specs.Edited.{HasItsCause, IsWrittenFor, edited_events}
 use Rattle.tocmark_rewrite.specs.declared.answer.Rewritten.{Rewritten}
@@ -21,7 +21,7 @@ use Rattle.tocmark_rewrite.specs.declared.fault.Fault.TheVariants as fault
 use Rattle.tocmark_state.specs.Ranges.{Pair, Range}
 use Rattle.tocmark_documents.specs.Document.{without_range}
 use Rattle.tocmark_documents.specs.Interchange.{IsTextOf, in_source, kept, places_left}
-use Rattle.tocmark_documents.specs.Rewriting.{IsAfterMark, IsOfBlock, IsRewriteCause, IsRewrittenFrom, IsWrittenAfterMark, mark_of, reading_under}
+use Rattle.tocmark_documents.specs.Rewriting.{IsOfBlock, IsRewriteCause, IsRewrittenFrom, IsWrittenAfterMark, mark_of, reading_under}
 use Rattle.tocmark_documents.specs.declared.fault.RewriteError.{RewriteError}
 use Rattle.tocmark_documents.specs.declared.fault.RewriteError.TheVariants as rewrite_error
 use Rattle.tocmark_documents.specs.declared.pairs.EventPairs.{EventPairs}

@@ -85,7 +85,7 @@ fn rewritten_pairs(
 /// The answer for the text after a mark, with the mark in front of its text.
 fn with_mark_again(alloc: Global, rest: Rewritten) -> Result<Rewritten, AllocError>
     ensures { IfOk result (λ answer. (after : List ℕ)
-        → IsAfterMark (mark ++ after) rest.entry answer) }
+        → IsAfterMark (mark ++ after) rest answer) }
 {
     let Rewritten { text, parts, trees } = rest;
     let text = with_mark(alloc, text.as_str())?;

@@ -1,4 +1,4 @@
-use Rattle.std.proofs.Common.{◌≡◌, ◌∙◌, ap, length, option_and_then, refl, slice_get, Some, sym}
+use Rattle.std.proofs.Common.{◌∙◌, ap, length, option_and_then, refl, sym}
 use Rattle.std.proofs.lemmas.Option.{slice_get_past, slice_get_read}
 use Rattle.tocmark_documents.specs.Interchange.{kept}
 use Rattle.tocmark_documents.proofs.Placed.{range_kept}

@@ -1,6 +1,5 @@
-use Rattle.std.proofs.Common.{◌≡◌, IfErr, IfOk, List, ℕ, ap, subst, sym}
+use Rattle.std.proofs.Common.{IfErr, IfOk, List, ℕ, subst, sym}
 use Rattle.tocmark_compare.specs.Given.{given_events}
-use Rattle.tocmark_judge.specs.Marks.{after_mark}
 use Rattle.tocmark_judge.proofs.Marking.{rest-marked, rest-unmarked}
 use Rattle.tocmark_documents.specs.Rewriting.{IsOfBlock, IsWrittenAfterMark, reading_under}
 use Rattle.tocmark_documents.proofs.Rewritten.{unmarked}
