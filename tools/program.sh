@@ -1,15 +1,16 @@
 # shellcheck shell=bash disable=SC2034,SC2154
-# What ./tocmark, ./tocmark-compare, ./tocmark-events, ./tocmark-format, ./tocmark-links, tools/install and tools/release share:
+# What ./tocmark, ./tocmark-compare, ./tocmark-events, ./tocmark-format, ./tocmark-links, ./tocmark-lsp, tools/install and tools/release share:
 # the programs' names, whether one is built and current, and what the wrappers do before that. It is sourced, with the
 # repository's top in top, and speaks of tocmark then.
 
 # Each command with its crate; tools/install builds them in this order.
-commands=(tocmark tocmark-format tocmark-compare tocmark-links tocmark-events)
+commands=(tocmark tocmark-format tocmark-compare tocmark-links tocmark-lsp tocmark-events)
 declare -A crate_of=(
   [tocmark]=tocmark_program
   [tocmark-format]=tocmark_format_program
   [tocmark-compare]=tocmark_compare_program
   [tocmark-links]=tocmark_links_program
+  [tocmark-lsp]=tocmark_lsp_program
   [tocmark-events]=tocmark_events_program
 )
 # Each script that runs as it is, and is installed beside the programs.

@@ -29,6 +29,7 @@ COMMANDS = {
     "tocmark-format": "tocmark_format_program",
     "tocmark-compare": "tocmark_compare_program",
     "tocmark-links": "tocmark_links_program",
+    "tocmark-lsp": "tocmark_lsp_program",
     "tocmark-events": "tocmark_events_program",
     "tocmark-filter": None,
     "tocmark-guard": None,

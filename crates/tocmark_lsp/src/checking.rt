@@ -1,0 +1,180 @@
+//! What is wrong in a document: links that lead nowhere, and blocks that formatting leaves as they are.
+
+use crate::formatting::formatted_as;
+use crate::lined::{Lined, Span};
+use crate::links::{Asking, front_of};
+use crate::message::JsonText;
+use crate::settings::Settings;
+use crate::tree::Files;
+use std::alloc::{AllocError, Global};
+use std::fmt::Write;
+use tocmark_format::Left;
+use tocmark_links::destination::encoded;
+use tocmark_links::page::Link;
+use tocmark_links::paths::{folder_and_name, relative};
+use tocmark_links::tree::{Led, Tree};
+
+/// What a destination must not have where no angle brackets are round it.
+const APART: [char; 6] = [' ', '(', ')', '<', '>', '\\'];
+
+/// A problem's code and what is said of it. `None`: there is no problem.
+fn problem_of(led: &Led) -> Option<(&'static str, &'static str)> {
+    match led {
+        Led::Outside => Some(("outside", "leads out of the tree")),
+        Led::Nowhere { .. } => Some(("path", "there is no such file or folder")),
+        Led::NoAnchor { .. } => Some(("anchor", "the file has no such anchor")),
+        _ => None,
+    }
+}
+
+/// Adds a problem to a list of JSON.
+fn add_problem(
+    json: &mut String,
+    span: Span,
+    severity: u8,
+    code: &str,
+    message: &str,
+) -> Result<(), AllocError> {
+    if json.ends_with('}') {
+        json.push(',')?;
+    }
+    let message = JsonText(message);
+    write!(
+        json,
+        "{{\"range\":{span},\"severity\":{severity},\"code\":\"{code}\",\"source\":\"tocmark-lsp\",\"message\":{message}}}"
+    )
+}
+
+/// The range of a link's destination, or the front of its line if that isn't found.
+fn span_of(lined: &Lined<'_>, link: &Link) -> Span {
+    match link.place {
+        Some(place) => lined.span(place),
+        None => front_of(link.line),
+    }
+}
+
+/// The destination by which a page leads to what is nearest to a broken one.
+fn nearest(
+    alloc: Global,
+    tree: &Tree,
+    from: &str,
+    led: &Led,
+) -> Result<Option<String>, AllocError> {
+    let Some(found) = tree.nearest(led)? else {
+        return Ok(None);
+    };
+    let (folder, _name) = folder_and_name(from);
+    let Led::NoAnchor { path, .. } = led else {
+        let path = relative(alloc, folder, found.as_str())?;
+        return Ok(Some(encoded(alloc, path.as_str())?));
+    };
+    let mut near = String::new(alloc);
+    if path.as_str() != from {
+        let path = relative(alloc, folder, path.as_str())?;
+        near.push_str(encoded(alloc, path.as_str())?.as_str())?;
+    }
+    near.push('#')?;
+    near.push_str(found.as_str())?;
+    if near.as_str().contains(&APART) {
+        return Ok(None);
+    }
+    Ok(Some(near))
+}
+
+/// Adds the links that lead nowhere.
+fn add_broken<F: Files>(
+    json: &mut String,
+    asking: &Asking<'_, F>,
+    lined: &Lined<'_>,
+) -> Result<(), AllocError> {
+    let alloc = asking.gathering.alloc;
+    let page = asking.page()?;
+    let tree = asking.gathering.tree(&page)?;
+    let from = asking.gathering.place.path.as_str();
+    for link in &page.links {
+        let destination = link.destination.as_str();
+        let led = tree.led_to(from, destination)?;
+        if let Some((code, why)) = problem_of(&led) {
+            let message = format!(in alloc; "{destination}: {why}")?;
+            add_problem(json, span_of(lined, link), 2, code, message.as_str())?;
+        }
+    }
+    Ok(())
+}
+
+/// The range of a block that is left as it is.
+fn left_span(lined: &Lined<'_>, left: &Left) -> Span {
+    let (first, last) = left.lines;
+    Span {
+        start: front_of(first).start,
+        stop: lined.line_end(last.saturating_sub(1)),
+    }
+}
+
+/// The problems of a document, as JSON.
+pub(crate) fn problems<F: Files>(
+    asking: &Asking<'_, F>,
+    settings: Settings,
+) -> Result<String, AllocError> {
+    let alloc = asking.gathering.alloc;
+    let lined = Lined::new(alloc, asking.text, asking.encoding)?;
+    let mut json = String::from_str(alloc, "[")?;
+    add_broken(&mut json, asking, &lined)?;
+    let answer = formatted_as(alloc, settings, asking.text, None)?;
+    for left in &answer.left {
+        let reason = left.reason;
+        let message = format!(in alloc; "formatting leaves this as it is: {reason}")?;
+        add_problem(
+            &mut json,
+            left_span(&lined, left),
+            4,
+            "left",
+            message.as_str(),
+        )?;
+    }
+    json.push(']')?;
+    Ok(json)
+}
+
+/// Whether two ranges have a place in common.
+fn touch(one: (usize, usize), other: (usize, usize)) -> bool {
+    one.0 <= other.1 && other.0 <= one.1
+}
+
+/// The changes that mend broken links in a range, as JSON: each to what is nearest.
+pub(crate) fn mendings<F: Files>(
+    asking: &Asking<'_, F>,
+    asked: Span,
+) -> Result<String, AllocError> {
+    let alloc = asking.gathering.alloc;
+    let lined = Lined::new(alloc, asking.text, asking.encoding)?;
+    let asked = (lined.byte(asked.start), lined.byte(asked.stop));
+    let page = asking.page()?;
+    let tree = asking.gathering.tree(&page)?;
+    let from = asking.gathering.place.path.as_str();
+    let uri = JsonText(asking.uri);
+    let mut json = String::from_str(alloc, "[")?;
+    for link in &page.links {
+        let Some(place) = link.place else {
+            continue;
+        };
+        if !touch(place, asked) {
+            continue;
+        }
+        let led = tree.led_to(from, link.destination.as_str())?;
+        if let Some(near) = nearest(alloc, &tree, from, &led)? {
+            if json.ends_with('}') {
+                json.push(',')?;
+            }
+            let title = format!(in alloc; "Change to {near}")?;
+            let (title, near) = (JsonText(title.as_str()), JsonText(near.as_str()));
+            let span = lined.span(place);
+            write!(
+                json,
+                "{{\"title\":{title},\"kind\":\"quickfix\",\"isPreferred\":true,\"edit\":{{\"changes\":{{{uri}:[{{\"range\":{span},\"newText\":{near}}}]}}}}}}"
+            )?;
+        }
+    }
+    json.push(']')?;
+    Ok(json)
+}

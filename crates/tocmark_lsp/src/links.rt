@@ -1,0 +1,417 @@
+//! Where links lead: the answers about links, labels and anchors.
+
+use crate::formatting::READER;
+use crate::lined::{Lined, Span, holds};
+use crate::message::JsonText;
+use crate::outline::headings;
+use crate::tree::{Files, Gathering, Place, Terms};
+use std::alloc::{AllocError, Global};
+use std::fmt::Write;
+use tocmark_event::event::{Event, LinkType, Tag};
+use tocmark_event::reader::Reading;
+use tocmark_links::destination::{is_local, parts};
+use tocmark_links::page::Page;
+use tocmark_links::tree::{Led, Tree};
+use tocmark_lsp_text::positions::{Encoding, Position};
+use tocmark_reader::ReferenceDefinition;
+
+/// A link of a text, as it is found at a place.
+#[derive(Drop)]
+pub(crate) struct Found {
+    place: (usize, usize),
+    destination: String,
+    /// The label that names its definition; empty if it has none.
+    label: String,
+}
+
+/// A label as it is compared.
+fn folded(alloc: Global, label: &str) -> Result<String, AllocError> {
+    let mut plain = String::new(alloc);
+    for word in label.split_whitespace() {
+        plain.push_str(word)?;
+        plain.push(' ')?;
+    }
+    plain.as_str().to_lowercase(alloc)
+}
+
+/// Whether a link is one by a label that is defined.
+fn is_by_label(link_type: LinkType) -> bool {
+    matches!(
+        link_type,
+        LinkType::Reference | LinkType::Collapsed | LinkType::Shortcut
+    )
+}
+
+/// A link with this destination, and a label if it is by one.
+fn new_found(
+    alloc: Global,
+    place: (usize, usize),
+    link_type: LinkType,
+    destination: &str,
+    label: &str,
+) -> Result<Option<Found>, AllocError> {
+    let label = if is_by_label(link_type) { label } else { "" };
+    Ok(Some(Found {
+        place,
+        destination: String::from_str(alloc, destination)?,
+        label: String::from_str(alloc, label)?,
+    }))
+}
+
+/// The link that an event begins.
+fn link_of(
+    alloc: Global,
+    event: &Event<'_>,
+    place: (usize, usize),
+) -> Result<Option<Found>, AllocError> {
+    let Event::Start(tag) = event else {
+        return Ok(None);
+    };
+    match tag {
+        Tag::Link {
+            link_type,
+            dest_url,
+            id,
+            ..
+        } => new_found(alloc, place, *link_type, dest_url.as_ref(), id.as_ref()),
+        Tag::Image {
+            link_type,
+            dest_url,
+            id,
+            ..
+        } => new_found(alloc, place, *link_type, dest_url.as_ref(), id.as_ref()),
+        _ => Ok(None),
+    }
+}
+
+/// A text, and what the reader finds in it.
+#[derive(Drop)]
+pub(crate) struct Read<'t> {
+    pub(crate) lined: Lined<'t>,
+    pub(crate) reading: Reading,
+    definitions: Vec<ReferenceDefinition>,
+}
+
+impl<'t> Read<'t> {
+    pub(crate) fn of(
+        alloc: Global,
+        text: &'t str,
+        encoding: Encoding,
+        terms: Terms,
+    ) -> Result<Read<'t>, AllocError> {
+        let (blocks, definitions) = READER.blocks_and_definitions(alloc, text, terms.flags)?;
+        let reading = blocks.rest()?;
+        let lined = Lined::new(alloc, text, encoding)?;
+        Ok(Read {
+            lined,
+            reading,
+            definitions,
+        })
+    }
+
+    /// The innermost link or the definition at a byte.
+    fn found(&self, alloc: Global, at: usize) -> Result<Option<Found>, AllocError> {
+        let mut found = None;
+        for (event, place) in &self.reading.events {
+            if holds(*place, at)
+                && let Some(link) = link_of(alloc, event, *place)?
+            {
+                found = Some(link);
+            }
+        }
+        for definition in &self.definitions {
+            if holds(definition.place.whole, at) {
+                found = Some(Found {
+                    place: definition.place.whole,
+                    destination: definition.destination.clone()?,
+                    label: String::new(alloc),
+                });
+            }
+        }
+        Ok(found)
+    }
+
+    /// Where a label is defined.
+    fn definition(&self, alloc: Global, label: &str) -> Result<Option<(usize, usize)>, AllocError> {
+        let label = folded(alloc, label)?;
+        for definition in &self.definitions {
+            if folded(alloc, definition.label.as_str())?.as_str() == label.as_str() {
+                return Ok(Some(definition.place.whole));
+            }
+        }
+        Ok(None)
+    }
+
+    /// The label of the link or of the definition at a byte.
+    fn label_at(&self, alloc: Global, at: usize) -> Result<Option<String>, AllocError> {
+        for definition in &self.definitions {
+            if holds(definition.place.whole, at) {
+                return Ok(Some(folded(alloc, definition.label.as_str())?));
+            }
+        }
+        match self.found(alloc, at)? {
+            Some(link) if !link.label.is_empty() => Ok(Some(folded(alloc, link.label.as_str())?)),
+            _ => Ok(None),
+        }
+    }
+
+    /// The places of the links by a label.
+    fn links_by(&self, alloc: Global, label: &str) -> Result<Vec<(usize, usize)>, AllocError> {
+        let mut places = Vec::new(alloc);
+        for (event, place) in &self.reading.events {
+            if let Some(link) = link_of(alloc, event, *place)?
+                && folded(alloc, link.label.as_str())?.as_str() == label
+            {
+                places.push(*place)?;
+            }
+        }
+        Ok(places)
+    }
+}
+
+/// Adds a location to a list of JSON.
+fn add_location(json: &mut String, uri: &str, span: Span) -> Result<(), AllocError> {
+    if json.ends_with('}') {
+        json.push(',')?;
+    }
+    let uri = JsonText(uri);
+    write!(json, "{{\"uri\":{uri},\"range\":{span}}}")
+}
+
+/// The range of a line's front; lines count from 1.
+pub(crate) fn front_of(line: usize) -> Span {
+    let front = Position {
+        line: line.saturating_sub(1),
+        character: 0,
+    };
+    Span {
+        start: front,
+        stop: front,
+    }
+}
+
+/// The answers about the links of one document.
+#[derive(Clone, Copy)]
+pub(crate) struct Asking<'a, F> {
+    pub(crate) gathering: Gathering<'a, F>,
+    pub(crate) uri: &'a str,
+    pub(crate) text: &'a str,
+    pub(crate) encoding: Encoding,
+}
+
+impl<'a, F: Files> Asking<'a, F> {
+    fn alloc(&self) -> Global {
+        self.gathering.alloc
+    }
+
+    fn place(&self) -> &Place {
+        self.gathering.place
+    }
+
+    /// The links and anchors of the document.
+    pub(crate) fn page(&self) -> Result<Page, AllocError> {
+        let Terms { flags, slugs } = self.gathering.terms;
+        Page::read(self.alloc(), self.text, flags, slugs)
+    }
+
+    fn read(&self) -> Result<Read<'a>, AllocError> {
+        Read::of(self.alloc(), self.text, self.encoding, self.gathering.terms)
+    }
+
+    /// Where a destination leads.
+    fn led_to(&self, page: &Page, destination: &str) -> Result<Led, AllocError> {
+        let mut tree = Tree::new(self.alloc());
+        let path = self.place().path.as_str();
+        tree.add(path, Some(page))?;
+        self.gathering.add_targets(&mut tree, destination)?;
+        tree.led_to(path, destination)
+    }
+
+    /// The URI to which a destination leads, for a client that opens it. `None`: it leads out of the tree.
+    fn target(&self, destination: &str) -> Result<Option<String>, AllocError> {
+        if !is_local(destination) {
+            return Ok(Some(String::from_str(self.alloc(), destination)?));
+        }
+        let parts = parts(destination);
+        let mut uri = if parts.path.is_empty() {
+            String::from_str(self.alloc(), self.uri)?
+        } else {
+            match self.place().resolved(self.alloc(), parts.path)? {
+                None => return Ok(None),
+                Some(path) => self.place().uri(self.alloc(), path.as_str())?,
+            }
+        };
+        uri.push_str(parts.anchor)?;
+        Ok(Some(uri))
+    }
+
+    /// The destinations of the document's links, with where they lead.
+    pub(crate) fn document_links(&self) -> Result<String, AllocError> {
+        let lined = Lined::new(self.alloc(), self.text, self.encoding)?;
+        let mut json = String::from_str(self.alloc(), "[")?;
+        let page = self.page()?;
+        for link in &page.links {
+            let Some(place) = link.place else {
+                continue;
+            };
+            if json.ends_with('}') {
+                json.push(',')?;
+            }
+            let span = lined.span(place);
+            write!(json, "{{\"range\":{span}")?;
+            if let Some(target) = self.target(link.destination.as_str())? {
+                let target = JsonText(target.as_str());
+                write!(json, ",\"target\":{target}")?;
+            }
+            json.push('}')?;
+        }
+        json.push(']')?;
+        Ok(json)
+    }
+
+    /// The line of an anchor in the page at a path, from 1 on.
+    fn anchor_line(&self, path: &str, anchor: &str) -> Result<usize, AllocError> {
+        if anchor.is_empty() {
+            return Ok(1);
+        }
+        let it = &self.gathering;
+        let text = it.place.page_text(it.alloc, it.files, it.documents, path)?;
+        let Some(text) = text else {
+            return Ok(1);
+        };
+        let Terms { flags, slugs } = it.terms;
+        let page = Page::read(it.alloc, text.as_str(), flags, slugs)?;
+        for it in &page.anchors {
+            if it.name.as_str() == anchor {
+                return Ok(it.line);
+            }
+        }
+        Ok(1)
+    }
+
+    /// Where a position leads: a label to its definition, a link to its file and heading.
+    pub(crate) fn definition(&self, position: Position) -> Result<String, AllocError> {
+        let read = self.read()?;
+        let mut json = String::from_str(self.alloc(), "[")?;
+        let Some(link) = read.found(self.alloc(), read.lined.byte(position))? else {
+            return String::from_str(self.alloc(), "null");
+        };
+        if !link.label.is_empty() {
+            if let Some(place) = read.definition(self.alloc(), link.label.as_str())? {
+                add_location(&mut json, self.uri, read.lined.span(place))?;
+            }
+            json.push(']')?;
+            return Ok(json);
+        }
+        let page = self.page()?;
+        let led = self.led_to(&page, link.destination.as_str())?;
+        if let Led::To { path, anchor, .. } = &led {
+            let uri = self.place().uri(self.alloc(), path.as_str())?;
+            let line = self.anchor_line(path.as_str(), anchor.as_str())?;
+            add_location(&mut json, uri.as_str(), front_of(line))?;
+        }
+        json.push(']')?;
+        Ok(json)
+    }
+
+    /// What is said of where a link leads.
+    fn said(&self, destination: &str) -> Result<String, AllocError> {
+        let alloc = self.alloc();
+        let page = self.page()?;
+        let led = self.led_to(&page, destination)?;
+        match &led {
+            Led::External => String::from_str(alloc, destination),
+            Led::Outside => format!(in alloc; "{destination}: leads out of the tree"),
+            Led::Nowhere { path } => format!(in alloc; "{path}: there is no such file or folder"),
+            Led::NoAnchor { path, anchor } => {
+                format!(in alloc; "{path}#{anchor}: the file has no such anchor")
+            }
+            Led::To { path, anchor, .. } => {
+                let mark = if anchor.is_empty() { "" } else { "#" };
+                format!(in alloc; "{path}{mark}{anchor}")
+            }
+        }
+    }
+
+    /// What a client shows for a link: where it leads.
+    pub(crate) fn hover(&self, position: Position) -> Result<String, AllocError> {
+        let read = self.read()?;
+        let Some(link) = read.found(self.alloc(), read.lined.byte(position))? else {
+            return String::from_str(self.alloc(), "null");
+        };
+        let said = self.said(link.destination.as_str())?;
+        let (said, span) = (JsonText(said.as_str()), read.lined.span(link.place));
+        format!(in self.alloc();
+            "{{\"contents\":{{\"kind\":\"plaintext\",\"value\":{said}}},\"range\":{span}}}"
+        )
+    }
+
+    /// The anchor of the heading in whose line a byte is.
+    fn anchor_at(&self, read: &Read<'_>, at: usize) -> Result<Option<String>, AllocError> {
+        let page = self.page()?;
+        let headings = headings(self.alloc(), self.text, &read.reading)?;
+        for heading in &headings {
+            if holds(read.lined.inked(heading.place), at) {
+                let line = read.lined.span(heading.place).start.line.saturating_add(1);
+                for anchor in &page.anchors {
+                    if anchor.line == line {
+                        return Ok(Some(anchor.name.clone()?));
+                    }
+                }
+            }
+        }
+        Ok(None)
+    }
+
+    /// Adds the document's links that lead to an anchor of a page.
+    pub(crate) fn add_links_to(
+        &self,
+        json: &mut String,
+        target: &str,
+        name: &str,
+    ) -> Result<(), AllocError> {
+        let lined = Lined::new(self.alloc(), self.text, self.encoding)?;
+        let page = self.page()?;
+        let tree = self.gathering.tree(&page)?;
+        for link in &page.links {
+            let led = tree.led_to(self.place().path.as_str(), link.destination.as_str())?;
+            if let Led::To { path, anchor, .. } = &led
+                && path.as_str() == target
+                && anchor.as_str() == name
+                && let Some(place) = link.place
+            {
+                add_location(json, self.uri, lined.span(place))?;
+            }
+        }
+        Ok(())
+    }
+
+    /// The links by the label at a position, as JSON, and its definition if that is wanted. `None`: there is no label.
+    pub(crate) fn label_references(
+        &self,
+        position: Position,
+        with_definition: bool,
+    ) -> Result<Option<String>, AllocError> {
+        let read = self.read()?;
+        let at = read.lined.byte(position);
+        let Some(label) = read.label_at(self.alloc(), at)? else {
+            return Ok(None);
+        };
+        let mut json = String::from_str(self.alloc(), "[")?;
+        if with_definition && let Some(place) = read.definition(self.alloc(), label.as_str())? {
+            add_location(&mut json, self.uri, read.lined.span(place))?;
+        }
+        let places = read.links_by(self.alloc(), label.as_str())?;
+        for place in &places {
+            add_location(&mut json, self.uri, read.lined.span(*place))?;
+        }
+        json.push(']')?;
+        Ok(Some(json))
+    }
+
+    /// The anchor of the heading at a position.
+    pub(crate) fn heading_anchor(&self, position: Position) -> Result<Option<String>, AllocError> {
+        let read = self.read()?;
+        self.anchor_at(&read, read.lined.byte(position))
+    }
+}

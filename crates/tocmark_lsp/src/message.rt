@@ -1,0 +1,175 @@
+//! Messages of JSON-RPC: what a client calls, and the texts of answers.
+
+use serde_json::Value;
+use std::alloc::{AllocError, AllocFailed, Global};
+use std::fmt;
+use tocmark_command::escaped::{Escaped, Quoting};
+use tocmark_lsp_text::edits::EditError;
+use tocmark_lsp_text::positions::Position;
+
+/// What is wrong with a request, by the numbers of the protocol.
+#[derive(Clone, Copy, Drop)]
+pub(crate) enum Code {
+    Parse,
+    Request,
+    Method,
+    Params,
+    NotInitialized,
+    Failed,
+}
+
+/// Why a call isn't answered as it asks.
+#[derive(Drop)]
+pub(crate) enum Fault {
+    OutOfMemory,
+    Refused(Code, &'static str),
+}
+
+/// A request, or a notification, which has no id.
+#[derive(Clone, Copy)]
+pub(crate) struct Call<'m> {
+    pub(crate) method: &'m str,
+    pub(crate) id: Option<&'m Value>,
+    pub(crate) params: Option<&'m Value>,
+}
+
+/// A text as a string of JSON.
+#[derive(Clone, Copy)]
+pub(crate) struct JsonText<'t>(pub(crate) &'t str);
+
+impl Code {
+    fn number(self) -> i32 {
+        match self {
+            Code::Parse => -32700,
+            Code::Request => -32600,
+            Code::Method => -32601,
+            Code::Params => -32602,
+            Code::NotInitialized => -32002,
+            Code::Failed => -32803,
+        }
+    }
+}
+
+impl From<AllocError> for Fault {
+    fn from(_fault: AllocError) -> Fault {
+        Fault::OutOfMemory
+    }
+}
+
+impl<T: Drop> From<AllocFailed<T>> for Fault {
+    fn from(_fault: AllocFailed<T>) -> Fault {
+        Fault::OutOfMemory
+    }
+}
+
+impl From<EditError> for Fault {
+    fn from(fault: EditError) -> Fault {
+        match fault {
+            EditError::OutOfMemory => Fault::OutOfMemory,
+            EditError::Overlap => Fault::Refused(Code::Params, "the edits overlap"),
+            EditError::NotFound => Fault::Refused(Code::Failed, "no edits are found"),
+        }
+    }
+}
+
+impl fmt::Display for JsonText<'_> {
+    fn fmt<W: fmt::Write>(&self, f: &mut fmt::Formatter<W>) -> fmt::Result {
+        let text = Escaped(&self.0, Quoting::Json);
+        write!(f, "\"{text}\"")
+    }
+}
+
+impl<'m> Call<'m> {
+    /// The call that a message is. `None`: it is an answer of the client to a request, and there are none.
+    pub(crate) fn of(message: &'m Value) -> Result<Option<Call<'m>>, Fault> {
+        let Some(method) = message.get("method") else {
+            if message.get("result").is_some() || message.get("error").is_some() {
+                return Ok(None);
+            }
+            return Err(Fault::Refused(Code::Request, "a message has no method"));
+        };
+        match method.as_str() {
+            Some(method) => Ok(Some(Call {
+                method,
+                id: message.get("id"),
+                params: message.get("params"),
+            })),
+            None => Err(Fault::Refused(Code::Request, "a method is no text")),
+        }
+    }
+
+    /// What is at a path in the parameters.
+    pub(crate) fn at(self, path: &str) -> Option<&'m Value> {
+        self.params?.pointer(path)
+    }
+
+    /// The text at a path in the parameters.
+    pub(crate) fn text(self, path: &str) -> Result<&'m str, Fault> {
+        match self.at(path).and_then(Value::as_str) {
+            Some(text) => Ok(text),
+            None => Err(Fault::Refused(Code::Params, "a text is missing")),
+        }
+    }
+
+    /// The URI of the document that it is about.
+    pub(crate) fn uri(self) -> Result<&'m str, Fault> {
+        self.text("/textDocument/uri")
+    }
+
+    /// The position at a path in the parameters.
+    pub(crate) fn position(self, path: &str) -> Result<Position, Fault> {
+        match self.at(path).and_then(position_in) {
+            Some(position) => Ok(position),
+            None => Err(Fault::Refused(Code::Params, "a position is missing")),
+        }
+    }
+}
+
+/// The position that a value is.
+pub(crate) fn position_in(value: &Value) -> Option<Position> {
+    let line = value.get("line")?.as_u64()?;
+    let character = value.get("character")?.as_u64()?;
+    Some(Position {
+        line: line as usize,
+        character: character as usize,
+    })
+}
+
+/// The two positions of a range.
+pub(crate) fn range_in(value: &Value) -> Option<(Position, Position)> {
+    let start = position_in(value.get("start")?)?;
+    let stop = position_in(value.get("end")?)?;
+    let is_reversed = stop.line < start.line
+        || (stop.line == start.line && stop.character < start.character);
+    if is_reversed {
+        return Some((stop, start));
+    }
+    Some((start, stop))
+}
+
+/// The message that answers a request.
+pub(crate) fn answer_message(alloc: Global, id: &str, answer: &str) -> Result<String, AllocError> {
+    format!(in alloc; "{{\"jsonrpc\":\"2.0\",\"id\":{id},\"result\":{answer}}}")
+}
+
+/// The message that refuses a request.
+pub(crate) fn refusal_message(
+    alloc: Global,
+    id: &str,
+    code: Code,
+    why: &str,
+) -> Result<String, AllocError> {
+    let (code, why) = (code.number(), JsonText(why));
+    format!(in alloc;
+        "{{\"jsonrpc\":\"2.0\",\"id\":{id},\"error\":{{\"code\":{code},\"message\":{why}}}}}"
+    )
+}
+
+/// A message of the server's own.
+pub(crate) fn notice_message(
+    alloc: Global,
+    method: &str,
+    params: &str,
+) -> Result<String, AllocError> {
+    format!(in alloc; "{{\"jsonrpc\":\"2.0\",\"method\":\"{method}\",\"params\":{params}}}")
+}

@@ -1,0 +1,435 @@
+//! The server: what it keeps, and what it answers to each message.
+
+use crate::checking::{mendings, problems};
+use crate::documents::Documents;
+use crate::formatting;
+use crate::lined::Span;
+use crate::links::{Asking, Read};
+use crate::message::{
+    Call, Code, Fault, JsonText, answer_message, notice_message, range_in, refusal_message,
+};
+use crate::outline::{folding, headings, symbols};
+use crate::settings::{Settings, named};
+use crate::tree::{Files, Gathering, Place, Terms, path_in};
+use serde_json::Value;
+use std::alloc::{AllocError, Global};
+use tocmark_lsp_text::positions::Encoding;
+
+/// What is to be done after a message.
+#[derive(Clone, Copy, Drop)]
+pub enum Next {
+    /// The next message is read.
+    GoOn,
+    /// The program ends with this status.
+    End(u8),
+}
+
+/// How far a client is.
+#[derive(Clone, Copy, Drop)]
+enum Phase {
+    /// It hasn't said what it can do.
+    Begun,
+    Running,
+    /// It asks for nothing more.
+    ShutDown,
+}
+
+/// The requests that are answered.
+#[derive(Clone, Copy, Drop)]
+enum Request {
+    Initialize,
+    Shutdown,
+    Formatting,
+    RangeFormatting,
+    Symbols,
+    Folding,
+    Links,
+    Definition,
+    References,
+    Hover,
+    Mendings,
+    Text,
+}
+
+/// The notifications that change something.
+#[derive(Clone, Copy, Drop)]
+enum Notice {
+    Exit,
+    Open,
+    Change,
+    Close,
+    Save,
+}
+
+static REQUESTS: [(&str, Request); 12] = [
+    ("initialize", Request::Initialize),
+    ("shutdown", Request::Shutdown),
+    ("textDocument/formatting", Request::Formatting),
+    ("textDocument/rangeFormatting", Request::RangeFormatting),
+    ("textDocument/documentSymbol", Request::Symbols),
+    ("textDocument/foldingRange", Request::Folding),
+    ("textDocument/documentLink", Request::Links),
+    ("textDocument/definition", Request::Definition),
+    ("textDocument/references", Request::References),
+    ("textDocument/hover", Request::Hover),
+    ("textDocument/codeAction", Request::Mendings),
+    // not of the protocol: the text as the server has it, for tests of clients
+    ("tocmark/text", Request::Text),
+];
+
+static NOTICES: [(&str, Notice); 5] = [
+    ("exit", Notice::Exit),
+    ("textDocument/didOpen", Notice::Open),
+    ("textDocument/didChange", Notice::Change),
+    ("textDocument/didClose", Notice::Close),
+    ("textDocument/didSave", Notice::Save),
+];
+
+/// What the server can do, as JSON, after the encoding of positions.
+const ABILITIES: &str = "\"textDocumentSync\":{\"openClose\":true,\"change\":2,\"save\":true},\
+\"documentFormattingProvider\":true,\"documentRangeFormattingProvider\":true,\
+\"documentSymbolProvider\":true,\"foldingRangeProvider\":true,\"documentLinkProvider\":{},\
+\"definitionProvider\":true,\"referencesProvider\":true,\"hoverProvider\":true,\
+\"codeActionProvider\":{\"codeActionKinds\":[\"quickfix\"]}";
+
+/// A server, with the texts that its client has open.
+#[derive(Drop)]
+pub struct Server {
+    alloc: Global,
+    phase: Phase,
+    encoding: Encoding,
+    settings: Settings,
+    /// The path of the folder that the client has open; empty if it has none.
+    root: String,
+    documents: Documents,
+}
+
+/// UTF-8 if the client can count so, and else UTF-16.
+fn encoding_of(call: Call<'_>) -> Encoding {
+    let offers = call
+        .at("/capabilities/general/positionEncodings")
+        .and_then(Value::as_array);
+    if let Some(offers) = offers {
+        for offer in offers {
+            if offer.as_str() == Some("utf-8") {
+                return Encoding::Utf8;
+            }
+        }
+    }
+    Encoding::Utf16
+}
+
+/// The path of the folder that a client has open; empty if it names none.
+fn root_of(alloc: Global, call: Call<'_>) -> Result<String, AllocError> {
+    for path in &["/workspaceFolders/0/uri", "/rootUri"] {
+        if let Some(uri) = call.at(*path).and_then(Value::as_str)
+            && let Some(root) = path_in(alloc, uri)?
+        {
+            return String::from_str(alloc, root.as_str().trim_end_matches('/'));
+        }
+    }
+    Ok(String::new(alloc))
+}
+
+impl Server {
+    /// A server that no client has called.
+    pub fn new(alloc: Global) -> Server {
+        Server {
+            alloc,
+            phase: Phase::Begun,
+            encoding: Encoding::Utf16,
+            settings: Settings::new(),
+            root: String::new(alloc),
+            documents: Documents::new(alloc),
+        }
+    }
+
+    /// Takes a message, and adds the messages that answer it.
+    ///
+    /// It fails if memory runs out.
+    pub fn take<F: Files>(
+        &mut self,
+        files: &F,
+        message: &[u8],
+        answers: &mut Vec<String>,
+    ) -> Result<Next, AllocError> {
+        let message = match Value::from_slice(self.alloc, message) {
+            Ok(message) => message,
+            Err(error) if error.is_memory() => return Err(AllocError),
+            Err(_) => {
+                let why = "the message is not JSON";
+                answers.push(refusal_message(self.alloc, "null", Code::Parse, why)?)?;
+                return Ok(Next::GoOn);
+            }
+        };
+        match Call::of(&message) {
+            Ok(Some(call)) => self.take_call(files, call, answers),
+            Ok(None) => Ok(Next::GoOn),
+            Err(Fault::OutOfMemory) => Err(AllocError),
+            Err(Fault::Refused(code, why)) => {
+                let id = match message.get("id") {
+                    Some(id) => id.to_string(self.alloc)?,
+                    None => String::from_str(self.alloc, "null")?,
+                };
+                answers.push(refusal_message(self.alloc, id.as_str(), code, why)?)?;
+                Ok(Next::GoOn)
+            }
+        }
+    }
+
+    /// Answers a request, or takes a notification.
+    fn take_call<F: Files>(
+        &mut self,
+        files: &F,
+        call: Call<'_>,
+        answers: &mut Vec<String>,
+    ) -> Result<Next, AllocError> {
+        let Some(id) = call.id else {
+            return self.take_notice(files, call, answers);
+        };
+        let id = id.to_string(self.alloc)?;
+        let answer = match self.answer(files, call) {
+            Ok(answer) => answer_message(self.alloc, id.as_str(), answer.as_str())?,
+            Err(Fault::OutOfMemory) => return Err(AllocError),
+            Err(Fault::Refused(code, why)) => {
+                refusal_message(self.alloc, id.as_str(), code, why)?
+            }
+        };
+        answers.push(answer)?;
+        Ok(Next::GoOn)
+    }
+
+    /// Takes a notification. One that is unknown, or wrong, changes nothing, and isn't answered.
+    fn take_notice<F: Files>(
+        &mut self,
+        files: &F,
+        call: Call<'_>,
+        answers: &mut Vec<String>,
+    ) -> Result<Next, AllocError> {
+        let Some(notice) = named(&NOTICES, call.method) else {
+            return Ok(Next::GoOn);
+        };
+        if let Notice::Exit = notice {
+            let is_shut_down = matches!(self.phase, Phase::ShutDown);
+            return Ok(Next::End(if is_shut_down { 0 } else { 1 }));
+        }
+        if !matches!(self.phase, Phase::Running) {
+            return Ok(Next::GoOn);
+        }
+        match self.follow(files, notice, call, answers) {
+            Err(Fault::OutOfMemory) => Err(AllocError),
+            _ => Ok(Next::GoOn),
+        }
+    }
+
+    /// Does what a notification of a text asks for.
+    fn follow<F: Files>(
+        &mut self,
+        files: &F,
+        notice: Notice,
+        call: Call<'_>,
+        answers: &mut Vec<String>,
+    ) -> Result<(), Fault> {
+        match notice {
+            Notice::Exit => {}
+            Notice::Open => self.documents.open(call)?,
+            Notice::Change => return self.documents.change(self.encoding, call),
+            Notice::Close => {
+                self.documents.close(call)?;
+                answers.push(self.problems_message(call.uri()?, "[]")?)?;
+                return Ok(());
+            }
+            Notice::Save => {}
+        }
+        let uri = call.uri()?;
+        let found = self.problems_of(files, uri)?;
+        answers.push(self.problems_message(uri, found.as_str())?)?;
+        Ok(())
+    }
+
+    /// What is wrong in an open text, as JSON.
+    fn problems_of<'x, F: Files>(&'x self, files: &'x F, uri: &'x str) -> Result<String, Fault> {
+        let text = self.documents.text(uri)?;
+        if !uri.starts_with("file://") {
+            return Ok(String::from_str(self.alloc, "[]")?);
+        }
+        let place = Place::of(self.alloc, self.root.as_str(), uri)?;
+        Ok(problems(&self.asking(files, &place, uri, text), self.settings)?)
+    }
+
+    /// The message that says what is wrong in a text.
+    fn problems_message(&self, uri: &str, found: &str) -> Result<String, AllocError> {
+        let uri = JsonText(uri);
+        let params = format!(in self.alloc; "{{\"uri\":{uri},\"diagnostics\":{found}}}")?;
+        notice_message(
+            self.alloc,
+            "textDocument/publishDiagnostics",
+            params.as_str(),
+        )
+    }
+
+    /// The result of a request, as JSON.
+    fn answer<F: Files>(&mut self, files: &F, call: Call<'_>) -> Result<String, Fault> {
+        let request = named(&REQUESTS, call.method);
+        match (self.phase, request) {
+            (Phase::Begun, Some(Request::Initialize)) => self.initialize(call),
+            (Phase::Begun, _) => Err(Fault::Refused(
+                Code::NotInitialized,
+                "the first request is initialize",
+            )),
+            (Phase::ShutDown, _) => Err(Fault::Refused(Code::Request, "the server is shut down")),
+            (Phase::Running, Some(Request::Initialize)) => Err(Fault::Refused(
+                Code::Request,
+                "initialize is asked for once",
+            )),
+            (Phase::Running, Some(Request::Shutdown)) => {
+                self.phase = Phase::ShutDown;
+                Ok(String::from_str(self.alloc, "null")?)
+            }
+            (Phase::Running, Some(request)) => self.answer_about_text(files, request, call),
+            (Phase::Running, None) => Err(Fault::Refused(Code::Method, "no such request is known")),
+        }
+    }
+
+    /// What answers questions about the links of an open text.
+    fn asking<'a, F: Files>(
+        &'a self,
+        files: &'a F,
+        place: &'a Place,
+        uri: &'a str,
+        text: &'a str,
+    ) -> Asking<'a, F> {
+        Asking {
+            gathering: Gathering {
+                alloc: self.alloc,
+                files,
+                documents: &self.documents,
+                place,
+                terms: self.terms(),
+            },
+            uri,
+            text,
+            encoding: self.encoding,
+        }
+    }
+
+    fn terms(&self) -> Terms {
+        Terms {
+            flags: self.settings.flags,
+            slugs: self.settings.slugs,
+        }
+    }
+
+    /// The result of a request about an open text.
+    fn answer_about_text<'x, F: Files>(
+        &'x self,
+        files: &'x F,
+        request: Request,
+        call: Call<'x>,
+    ) -> Result<String, Fault> {
+        let uri = call.uri()?;
+        let text = self.documents.text(uri)?;
+        let (alloc, encoding, settings) = (self.alloc, self.encoding, self.settings);
+        match request {
+            Request::Formatting => formatting::whole(alloc, encoding, settings, text),
+            Request::RangeFormatting => {
+                formatting::part(alloc, encoding, settings, text, call.at("/range"))
+            }
+            Request::Symbols | Request::Folding => self.answer_about_blocks(request, text),
+            Request::Text => {
+                let text = JsonText(text);
+                Ok(format!(in alloc; "{text}")?)
+            }
+            _ => {
+                let place = Place::of(alloc, self.root.as_str(), uri)?;
+                let asking = self.asking(files, &place, uri, text);
+                self.answer_about_links(files, request, call, &asking)
+            }
+        }
+    }
+
+    /// The result of a request about the blocks of a text.
+    fn answer_about_blocks(&self, request: Request, text: &str) -> Result<String, Fault> {
+        let read = Read::of(self.alloc, text, self.encoding, self.terms())?;
+        let found = headings(self.alloc, text, &read.reading)?;
+        if let Request::Symbols = request {
+            return Ok(symbols(self.alloc, &read.lined, &found)?);
+        }
+        Ok(folding(self.alloc, &read.lined, &read.reading, &found)?)
+    }
+
+    /// The result of a request about the links of a text.
+    fn answer_about_links<F: Files>(
+        &self,
+        files: &F,
+        request: Request,
+        call: Call<'_>,
+        asking: &Asking<'_, F>,
+    ) -> Result<String, Fault> {
+        match request {
+            Request::Links => Ok(asking.document_links()?),
+            Request::Definition => Ok(asking.definition(call.position("/position")?)?),
+            Request::Hover => Ok(asking.hover(call.position("/position")?)?),
+            Request::References => self.references(files, call, asking),
+            Request::Mendings => {
+                let Some((start, stop)) = call.at("/range").and_then(range_in) else {
+                    return Err(Fault::Refused(Code::Params, "a range is missing"));
+                };
+                Ok(mendings(asking, Span { start, stop })?)
+            }
+            _ => Err(Fault::Refused(Code::Method, "no such request is known")),
+        }
+    }
+
+    /// The links by the label at a position, or those of all open texts that lead to the heading there.
+    fn references<'x, F: Files>(
+        &'x self,
+        files: &'x F,
+        call: Call<'_>,
+        asking: &Asking<'_, F>,
+    ) -> Result<String, Fault> {
+        let position = call.position("/position")?;
+        let with_definition = call
+            .at("/context/includeDeclaration")
+            .and_then(Value::as_bool)
+            .unwrap_or(false);
+        if let Some(json) = asking.label_references(position, with_definition)? {
+            return Ok(json);
+        }
+        let Some(anchor) = asking.heading_anchor(position)? else {
+            return Ok(String::from_str(self.alloc, "null")?);
+        };
+        let mut json = String::from_str(self.alloc, "[")?;
+        let target = asking.gathering.place.path.as_str();
+        let uris = self.documents.uris()?;
+        for uri in &uris {
+            let text = self.documents.text(*uri)?;
+            let place = Place::of(self.alloc, self.root.as_str(), *uri)?;
+            let other = self.asking(files, &place, *uri, text);
+            other.add_links_to(&mut json, target, anchor.as_str())?;
+        }
+        json.push(']')?;
+        Ok(json)
+    }
+
+    /// Takes what a client can do and sets, and says what the server can do.
+    fn initialize(&mut self, call: Call<'_>) -> Result<String, Fault> {
+        let settings = match call.at("/initializationOptions") {
+            None | Some(Value::Null) => Settings::new(),
+            Some(options) => Settings::of(options)?,
+        };
+        let encoding = encoding_of(call);
+        let name = match encoding {
+            Encoding::Utf8 => "utf-8",
+            Encoding::Utf16 => "utf-16",
+        };
+        let answer = format!(in self.alloc;
+            "{{\"capabilities\":{{\"positionEncoding\":\"{name}\",{ABILITIES}}},\"serverInfo\":{{\"name\":\"tocmark-lsp\",\"version\":\"0.1.0\"}}}}"
+        )?;
+        self.root = root_of(self.alloc, call)?;
+        self.settings = settings;
+        self.encoding = encoding;
+        self.phase = Phase::Running;
+        Ok(answer)
+    }
+}
