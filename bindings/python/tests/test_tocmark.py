@@ -822,7 +822,7 @@ class Commands(unittest.TestCase):
         short = "|a|b|\n|-|-|\n|1|\n"
         self.assertEqual([event for event, _ in json.loads(self.run_module("read", given=short))], [event for event, _ in tocmark.read(short)])
         self.run_module("rewrite", "--source", self.path, given='["Rule", 1]', status=1)
-        self.assertEqual(self.said, "tocmark: event 1: event: expected an event, by its name or as an object with its name as the only key\n")
+        self.assertEqual(self.said, "tocmark: event 1: found 1, expected an event, by its name or as an object with its name as the only key\n")
         for wrong in ("[", "[" * 100_000):
             self.run_module("write", given=wrong, status=1)
             self.assertTrue(self.said.startswith("tocmark: "), self.said[:100])
