@@ -17,7 +17,7 @@ use std::env;
 use std::io::{self, Read};
 use std::process::ExitCode;
 
-/// What a name stands for.
+/// The examples.
 #[derive(Clone, Copy)]
 enum Example {
     HttpsLinks,

@@ -70,7 +70,7 @@ struct Row<'r> {
     options: Options<'r>,
     flags: ParserOptions,
     units: Vec<Events>,
-    /// The events after the last of them, of which some container is open, if there are any.
+    /// The events after the last unit, if a container in them is still open.
     pending: Events,
 }
 

@@ -148,7 +148,7 @@ pub fn escapes_of_lines_are_plain()
 {}
 
 /// For paragraphs and headings without id, classes and attributes, each with one or more texts in which some
-/// character is, exactly one text is handed for each: the line feeds that set it apart from the one before,
+/// character is, the writer receives exactly one text for each: the line feeds that set it apart from the one before,
 /// as many `#` as its level and a space if it is a heading, and the escape of its texts as one. This holds for
 /// all flags, for every reader, and for all options that don't ask that plain blocks be checked.
 pub fn blocks_are_escapes()
