@@ -7,6 +7,7 @@ use Rattle.tocmark_c.specs.Codes.{code_of}
 use Rattle.tocmark_c.specs.Place.{IsFilled, IsTold}
 use Rattle.tocmark_c.specs.declared.cause.Cause.{Cause}
 use Rattle.tocmark_c.specs.declared.place.TocmarkPlace.{TocmarkPlace}
+use Rattle.tocmark_c.specs.declared.refusal.Refusal.{Refusal}
 
 -- a text that is laid is answered
 pub text_answered : (IsText : List ℕ → Type 0) (IsCause : Cause → Type 0) (text : List ℕ) (result : ℤ) (old new : List ℕ) → IsText text → result ≡ pos (length text) → new ≡ laid text old → IsAnswer IsText IsCause result old new
@@ -34,3 +35,21 @@ place_kept n result old new is same =
 pub place_filled : (cause : Cause) (result : ℤ) (old new : TocmarkPlace) → result ≡ code_of cause → IsFilled old new → IsTold result old new
 place_filled cause result old new is filled =
     subst (λ (r : ℤ). IsTold r old new) (sym is) filled
+
+-- what is answered, and what is told of the place
+abbrev AnswersAt : Result (String Global) Refusal → ℤ → List ℕ → List ℕ → TocmarkPlace → TocmarkPlace → Type 0
+AnswersAt said result old new before after = MatchResult said (λ text. (result ≡ pos (length (string_bytes text))) × (new ≡ laid (string_bytes text) old) × (after ≡ before)) (λ refusal. (result ≡ code_of refusal.cause) × (new ≡ old) × IsFilled before after)
+
+-- what was said is answered, with a place
+pub answered_at : (IsText : List ℕ → Type 0) (IsCause : Cause → Type 0) (said : Result (String Global) Refusal) (result : ℤ) (old new : List ℕ) (before after : TocmarkPlace) → IfOk said (λ s. IsText (string_bytes s)) → IfErr said (λ refusal. IsCause refusal.cause) → AnswersAt said result old new before after → IsAnswer IsText IsCause result old new
+answered_at IsText IsCause (Ok s) result old new before after is cause h =
+    text_answered IsText IsCause (string_bytes s) result old new is h.0 h.1.0
+answered_at IsText IsCause (Err refusal) result old new before after is cause h =
+    cause_answered IsText IsCause refusal.cause result old new cause h.0 h.1.0
+
+-- its place is told
+pub told_at : (said : Result (String Global) Refusal) (result : ℤ) (old new : List ℕ) (before after : TocmarkPlace) → AnswersAt said result old new before after → IsTold result before after
+told_at (Ok s) result old new before after h =
+    place_kept (length (string_bytes s)) result before after h.0 h.1.1
+told_at (Err refusal) result old new before after h =
+    place_filled refusal.cause result before after h.0 h.1.1

@@ -43,7 +43,7 @@ use outlining::{Outlined, outline};
 use packed_events::write_packed_events;
 use place::TocmarkPlace;
 use rewriting::rewrite;
-use room::{answer, lay, lay_bytes};
+use room::{answer, answer_at, lay, lay_bytes};
 use std::alloc::{AllocError, Global};
 use style::{TocmarkStyle, style_of};
 use tocmark::event::ParserOptions;
@@ -168,7 +168,7 @@ pub extern "C" fn tocmark_write_json(
 
 /// Writes events as Markdown, as `tocmark_write_json` does. If that fails, `place` is filled with where the error is.
 #[unsafe(no_mangle)]
-#[tactic(auto, using(crate::proofs::Answers::text_answered, crate::proofs::Answers::cause_answered, crate::proofs::Answers::place_kept, crate::proofs::Answers::place_filled))]
+#[tactic(auto, using(crate::proofs::Answers::answered_at, crate::proofs::Answers::told_at))]
 pub extern "C" fn tocmark_write_json_at(
     alloc: Global,
     json: &[u8],
@@ -182,10 +182,11 @@ pub extern "C" fn tocmark_write_json_at(
         (IsWriteCause flags source.now options.now json.now) result out.old out.new }
     ensures told { IsTold result place.old place.new }
 {
-    match write(alloc, json, source, flags, options, false) {
-        Ok(markdown) => lay(markdown.as_str(), out),
-        Err(refusal) => refusal.told(place),
-    }
+    answer_at(
+        write(alloc, json, source, flags, options, false),
+        place,
+        out,
+    )
 }
 
 /// Writes events as Markdown, as `tocmark_write_json` does, and parses the whole result again. If it doesn't have just
@@ -212,7 +213,7 @@ pub extern "C" fn tocmark_write_checked(
 /// Writes events as Markdown that has just these events, as `tocmark_write_checked` does. If that fails, `place` is
 /// filled with where the error is.
 #[unsafe(no_mangle)]
-#[tactic(auto, using(crate::proofs::Answers::text_answered, crate::proofs::Answers::cause_answered, crate::proofs::Answers::place_kept, crate::proofs::Answers::place_filled))]
+#[tactic(auto, using(crate::proofs::Answers::answered_at, crate::proofs::Answers::told_at))]
 pub extern "C" fn tocmark_write_checked_at(
     alloc: Global,
     json: &[u8],
@@ -226,15 +227,12 @@ pub extern "C" fn tocmark_write_checked_at(
         (IsDocumentCauseOf flags source.now options.now json.now) result out.old out.new }
     ensures told { IsTold result place.old place.new }
 {
-    match write(alloc, json, source, flags, options, true) {
-        Ok(document) => lay(document.as_str(), out),
-        Err(refusal) => refusal.told(place),
-    }
+    answer_at(write(alloc, json, source, flags, options, true), place, out)
 }
 
 /// Writes packed events as Markdown, as `tocmark_write_json_at` does with events as JSON.
 #[unsafe(no_mangle)]
-#[tactic(auto, using(crate::proofs::Answers::text_answered, crate::proofs::Answers::cause_answered, crate::proofs::Answers::place_kept, crate::proofs::Answers::place_filled))]
+#[tactic(auto, using(crate::proofs::Answers::answered_at, crate::proofs::Answers::told_at))]
 pub extern "C" fn tocmark_write_packed_at(
     alloc: Global,
     packed: &[u8],
@@ -248,16 +246,17 @@ pub extern "C" fn tocmark_write_packed_at(
         (IsPackedWriteCause flags source.now options.now packed.now) result out.old out.new }
     ensures told { IsTold result place.old place.new }
 {
-    match write_packed_events(alloc, packed, source, flags, options) {
-        Ok(written) => lay(written.as_str(), out),
-        Err(refusal) => refusal.told(place),
-    }
+    answer_at(
+        write_packed_events(alloc, packed, source, flags, options),
+        place,
+        out,
+    )
 }
 
 /// Writes the events of bytes that Python's `marshal.dumps` makes as Markdown, as `tocmark_write_json_at` does with those
 /// of JSON.
 #[unsafe(no_mangle)]
-#[tactic(auto, using(crate::proofs::Answers::text_answered, crate::proofs::Answers::cause_answered, crate::proofs::Answers::place_kept, crate::proofs::Answers::place_filled))]
+#[tactic(auto, using(crate::proofs::Answers::answered_at, crate::proofs::Answers::told_at))]
 pub extern "C" fn tocmark_write_marshal_at(
     alloc: Global,
     bytes: &[u8],
@@ -271,16 +270,17 @@ pub extern "C" fn tocmark_write_marshal_at(
         (IsDumpWriteCause flags source.now options.now bytes.now) result out.old out.new }
     ensures told { IsTold result place.old place.new }
 {
-    match write_marshal_events(alloc, bytes, source, flags, options) {
-        Ok(output) => lay(output.as_str(), out),
-        Err(refusal) => refusal.told(place),
-    }
+    answer_at(
+        write_marshal_events(alloc, bytes, source, flags, options),
+        place,
+        out,
+    )
 }
 
 /// Rewrites a source to the events of a JSON text, and writes the new text into `out`. Lines whose events aren't
 /// edited stay byte for byte. If that fails, `place` is filled with where the error is.
 #[unsafe(no_mangle)]
-#[tactic(auto, using(crate::proofs::Answers::text_answered, crate::proofs::Answers::cause_answered, crate::proofs::Answers::place_kept, crate::proofs::Answers::place_filled))]
+#[tactic(auto, using(crate::proofs::Answers::answered_at, crate::proofs::Answers::told_at))]
 pub extern "C" fn tocmark_rewrite(
     alloc: Global,
     json: &[u8],
@@ -294,10 +294,7 @@ pub extern "C" fn tocmark_rewrite(
         (IsRewriteCauseOf flags source.now options.now json.now) result out.old out.new }
     ensures told { IsTold result place.old place.new }
 {
-    match rewrite(alloc, json, source, flags, options) {
-        Ok(rewritten) => lay(rewritten.as_str(), out),
-        Err(refusal) => refusal.told(place),
-    }
+    answer_at(rewrite(alloc, json, source, flags, options), place, out)
 }
 
 /// Formats Markdown in a style, and writes the result into `out`. The result parses to the same events as the text that is

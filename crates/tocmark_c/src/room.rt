@@ -3,8 +3,11 @@
 ghost use Rattle.std.specs.Prelude.{◌≡◌, MatchResult, length, pos, string_bytes};
 ghost use Rattle.tocmark_c.specs.Answer.{laid};
 ghost use Rattle.tocmark_c.specs.Codes.{code_of};
+ghost use Rattle.tocmark_c.specs.Place.{IsFilled};
 
 use crate::cause::Cause;
+use crate::place::TocmarkPlace;
+use crate::refusal::Refusal;
 
 /// Copies bytes into the front of a buffer if it is large enough, and returns how many they are.
 pub fn lay_bytes(bytes: &[u8], out: &mut [u8]) -> isize
@@ -36,5 +39,20 @@ pub fn answer(said: Result<String, Cause>, out: &mut [u8]) -> isize
     match said {
         Ok(text) => lay(text.as_str(), out),
         Err(cause) => cause.code(),
+    }
+}
+
+/// Copies a text as `lay` does. Otherwise it returns the code of the cause, leaves the buffer, and fills `place` with where
+/// the error is.
+pub fn answer_at(said: Result<String, Refusal>, place: &mut TocmarkPlace, out: &mut [u8]) -> isize
+    ensures { MatchResult said
+        (λ text. (result ≡ pos (length (string_bytes text)))
+        × (out.new ≡ laid (string_bytes text) out.old) × (place.new ≡ place.old))
+        (λ refusal. (result ≡ code_of refusal.cause) × (out.new ≡ out.old)
+        × IsFilled place.old place.new) }
+{
+    match said {
+        Ok(text) => lay(text.as_str(), out),
+        Err(refusal) => refusal.told(place),
     }
 }

@@ -9,10 +9,11 @@ ghost use Rattle.tocmark_reader.specs.Reading.{reading_of};
 ghost use Rattle.tocmark_marked.specs.Marked.{blocks_left, in_whole};
 
 use crate::later::moved;
+use crate::reader::READER;
 use std::alloc::{AllocError, Global};
 use tocmark_event::event::ParserOptions;
 use tocmark_event::reader::Reading;
-use tocmark_reader::{BlockReading, ExtendedReader, Names};
+use tocmark_reader::BlockReading;
 
 /// A text whose events are handed out part by part, as those of `BlockReading` are.
 #[derive(Drop)]
@@ -41,9 +42,10 @@ impl<'t> MarkedBlocks<'t> {
         ensures { IfOk result (λ blocks.
             blocks_left blocks ≡ in_whole is_marked (reading_of (syntax_of All flags) rest.now)) }
     {
-        let reader = ExtendedReader { names: Names::All };
-        let rest = reader.blocks(alloc, rest, flags)?;
-        Ok(MarkedBlocks { rest, is_marked })
+        Ok(MarkedBlocks {
+            rest: READER.blocks(alloc, rest, flags)?,
+            is_marked,
+        })
     }
 
     /// The next events, some of those that are left, and no labels. `None` says that no events are left.

@@ -21,23 +21,15 @@ use tocmark_reader::{ExtendedReader, Names, ReferenceDefinition};
 #[derive(Clone, Copy, Debug, PartialEq, Eq)]
 pub struct MarkedReader;
 
+/// What reads a text that has no mark.
+pub(crate) const READER: ExtendedReader = ExtendedReader { names: Names::All };
+
 /// Reads the text after a mark.
 fn read_rest(alloc: Global, rest: &str, flags: ParserOptions) -> Result<Reading, AllocError>
     ensures { IfOk result (λ found.
         reading_view found ≡ later_reading (reading_of (syntax_of All flags) rest.now)) }
 {
-    let reader = ExtendedReader { names: Names::All };
-    let reading = reader.read(alloc, rest, flags)?;
-    Ok(moved(reading))
-}
-
-/// Reads a text without a mark.
-fn read_all(alloc: Global, text: &str, flags: ParserOptions) -> Result<Reading, AllocError>
-    ensures { IfOk result (λ found.
-        reading_view found ≡ reading_of (syntax_of All flags) text.now) }
-{
-    let reader = ExtendedReader { names: Names::All };
-    reader.read(alloc, text, flags)
+    Ok(moved(READER.read(alloc, rest, flags)?))
 }
 
 /// The definitions of the text after a mark.
@@ -49,23 +41,9 @@ fn definitions_of_rest(
     ensures { IfOk result (λ all. map said_view all.items
         ≡ map later_definition (definitions_of (syntax_of All flags) rest.now)) }
 {
-    let reader = ExtendedReader { names: Names::All };
-    let mut definitions = reader.definitions(alloc, rest, flags)?;
+    let mut definitions = READER.definitions(alloc, rest, flags)?;
     move_definitions(&mut definitions);
     Ok(definitions)
-}
-
-/// The definitions of a text without a mark.
-fn definitions_of_all(
-    alloc: Global,
-    text: &str,
-    flags: ParserOptions,
-) -> Result<Vec<ReferenceDefinition>, AllocError>
-    ensures { IfOk result (λ all. map said_view all.items
-        ≡ definitions_of (syntax_of All flags) text.now) }
-{
-    let reader = ExtendedReader { names: Names::All };
-    reader.definitions(alloc, text, flags)
 }
 
 impl MarkedReader {
@@ -97,7 +75,7 @@ impl MarkedReader {
     {
         match without_mark(text) {
             Some(rest) => definitions_of_rest(alloc, rest, flags),
-            None => definitions_of_all(alloc, text, flags),
+            None => READER.definitions(alloc, text, flags),
         }
     }
 }
@@ -116,7 +94,7 @@ impl Reader for MarkedReader {
     {
         match without_mark(text) {
             Some(rest) => read_rest(alloc, rest, flags),
-            None => read_all(alloc, text, flags),
+            None => READER.read(alloc, text, flags),
         }
     }
 }
