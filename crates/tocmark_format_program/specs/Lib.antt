@@ -1,3 +1,2 @@
-pub mod AlsoRead
 pub mod Formats
 pub mod Outcomes

@@ -3,13 +3,13 @@
 use crate::lookup::{Refused, whole_path};
 use crate::outcome::Terms;
 use crate::report::Form;
-use crate::settings::{KEYS, Key, Setting, Settings, named, set_all};
 use clap::{Arg, ArgAction, ArgMatches, Command};
 use std::alloc::{AllocError, Global};
 use tocmark_command::options::{CommandOption, Takes, with_options};
 use tocmark_command::syntax::with_syntax;
 use tocmark_files::rules::Rules;
 use tocmark_format::Lines;
+use tocmark_settings::{KEYS, Key, Setting, Settings, named, set_all};
 
 /// What becomes of formatted texts.
 #[derive(Clone, Copy)]

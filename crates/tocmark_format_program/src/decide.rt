@@ -4,13 +4,13 @@ ghost use Rattle.std.specs.Prelude.{◌≡◌, ◌≢◌, IfOk, IfSome, string_b
 ghost use Rattle.tocmark_judge.specs.Letters.{letters};
 ghost use Rattle.tocmark_judge.specs.Marks.{after_mark, has_mark};
 ghost use Rattle.tocmark_judge.specs.Shape.{HaveSameShapes};
-ghost use Rattle.tocmark_format_program.specs.AlsoRead.{also_flags};
+ghost use Rattle.tocmark_settings.specs.AlsoRead.{also_flags};
 ghost use Rattle.tocmark_format_program.specs.Formats.{KeepsWhatItSays};
 
-use crate::settings::Settings;
 use std::alloc::{AllocError, Global};
 use tocmark_format::{Formatted, Left, StyledLines, formatted_lines};
 use tocmark_judge::PartReader;
+use tocmark_settings::Settings;
 
 /// What becomes of a text.
 #[derive(Drop)]

@@ -76,7 +76,7 @@ fn add_names(
         number = number.saturating_add(1);
         if end == b'\n' && name.ends_with(b"\r") && !is_there(rt, name) {
             let path = String::from_str(rt.alloc(), shown_name(path))?;
-            return Err(Refused::ListLine(path, number, RETURN));
+            return Err(Refused::Line(path, number, RETURN));
         }
         if name.is_empty() {
             continue;

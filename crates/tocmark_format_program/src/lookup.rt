@@ -1,9 +1,6 @@
 //! The configuration of each folder: the nearest file in it or above, what files of EditorConfig say if it asks for them, and
 //! whether it belongs to a site of MkDocs. Each file is read once.
 
-use crate::configuration::{ConfigError, Configuration};
-use crate::editorconfig::{Asked, EditorConfig, Said};
-use crate::settings::Settings;
 use crate::text::text_of;
 use std::alloc::{AllocError, AllocFailed, Global};
 use std::collections::HashMap;
@@ -11,16 +8,13 @@ use std::path::{Path, PathBuf};
 use std::{fmt, fs, io};
 use tocmark_files::quoted::Quoted;
 use tocmark_files::trust::{Caller, Distrust};
-use tocmark_print::ListIndent;
+use tocmark_settings::{
+    Asked, CONFIGURATION_FILE, ConfigError, Configuration, Document, EDITORCONFIG_FILE,
+    EditorConfig, Location, SITE_FILE, Said, Settings,
+};
 
-/// The name of configuration files.
-const NAME: &str = ".tocmark.toml";
-
-/// The name of files of EditorConfig.
-const EDITORCONFIG: &str = ".editorconfig";
-
-/// The name of the file that MkDocs reads.
-const SITE: &str = "mkdocs.yml";
+/// What is said of a line of a configuration file that isn't UTF-8.
+const NOT_UTF8: &str = "the line is not UTF-8";
 
 /// What is said of a file that isn't there.
 pub const MISSING: &str = "no such file";
@@ -36,8 +30,8 @@ pub enum Refused {
     File(String, &'static str),
     /// A configuration file or a list that can't be read.
     Unreadable(String, io::Error),
-    /// A list of files, a line of it, and what is wrong there.
-    ListLine(String, usize, &'static str),
+    /// A configuration file or a list of files, a line of it, and what is wrong there.
+    Line(String, usize, &'static str),
     /// A configuration or ignore file that was looked for and doesn't count, and why.
     Untrusted(String, Distrust),
     /// A configuration file, and what is wrong in it.
@@ -63,7 +57,7 @@ impl Refused {
         match self {
             Refused::File(path, _) => Some(path.as_str()),
             Refused::Unreadable(path, _) => Some(path.as_str()),
-            Refused::ListLine(path, _, _) => Some(path.as_str()),
+            Refused::Line(path, _, _) => Some(path.as_str()),
             Refused::Untrusted(path, _) => Some(path.as_str()),
             Refused::Wrong(path, _) => Some(path.as_str()),
             _ => None,
@@ -82,9 +76,12 @@ impl fmt::Display for Refused {
             Refused::Usage(why) => f.write_str(why),
             Refused::File(_, why) => write!(f, ": {why}"),
             Refused::Unreadable(_, error) => write!(f, ": cannot be read: {error}"),
-            Refused::ListLine(_, line, why) => write!(f, ":{line}: {why}"),
+            Refused::Line(_, line, why) => write!(f, ":{line}: {why}"),
             Refused::Untrusted(_, why) => write!(f, ": {why}; --config FILE names another one"),
-            Refused::Wrong(_, error) => write!(f, "{error}"),
+            Refused::Wrong(_, error) => match error.location() {
+                Some(Location { line, .. }) => write!(f, ":{line}: {error}"),
+                None => write!(f, ": {error}"),
+            },
             Refused::OutOfMemory => f.write_str("out of memory"),
         }
     }
@@ -131,6 +128,17 @@ pub fn whole_path(rt: &HostRuntime, path: &str) -> Result<String, Refused> {
     Ok(whole.into_string())
 }
 
+/// The text of a configuration file that has these bytes.
+fn config_text(alloc: Global, path: &str, bytes: Vec<u8>) -> Result<String, Refused> {
+    match text_of(bytes) {
+        Ok(text) => Ok(text),
+        Err(line) => {
+            let path = String::from_str(alloc, path)?;
+            Err(Refused::Line(path, line, NOT_UTF8))
+        }
+    }
+}
+
 /// The configuration in a file that has these bytes.
 fn configuration_in(
     rt: &HostRuntime,
@@ -138,7 +146,8 @@ fn configuration_in(
     bytes: Vec<u8>,
 ) -> Result<Configuration, Refused> {
     let folder = whole_path(rt, folder_of(path))?;
-    match Configuration::parse(rt.alloc(), bytes, folder.as_str()) {
+    let text = config_text(rt.alloc(), path, bytes)?;
+    match Configuration::parse(rt.alloc(), text.as_str(), folder.as_str()) {
         Ok(configuration) => Ok(configuration),
         Err(error) => {
             let path = String::from_str(rt.alloc(), path)?;
@@ -183,7 +192,7 @@ fn configuration_of(
     caller: Caller,
     folder: Path<'_>,
 ) -> Result<Option<Configuration>, Refused> {
-    match file_in(rt, caller, folder, NAME)? {
+    match file_in(rt, caller, folder, CONFIGURATION_FILE)? {
         Some((path, bytes)) => configuration_in(rt, path.as_str(), bytes).map(Some),
         None => Ok(None),
     }
@@ -247,11 +256,8 @@ impl EditorConfigs {
             file: None,
             is_last: false,
         };
-        if let Some((path, bytes)) = file_in(rt, self.caller, folder, EDITORCONFIG)? {
-            let text = match text_of(bytes) {
-                Ok(text) => text,
-                Err(line) => return Err(Refused::Wrong(path, ConfigError::NotUtf8(line))),
-            };
+        if let Some((path, bytes)) = file_in(rt, self.caller, folder, EDITORCONFIG_FILE)? {
+            let text = config_text(rt.alloc(), path.as_str(), bytes)?;
             let config = EditorConfig::parse(rt.alloc(), text.as_str(), folder.as_str())?;
             read.is_last = config.is_root;
             read.file = Some(self.all.len());
@@ -388,7 +394,7 @@ impl Configurations {
                 break;
             }
             passed = passed.saturating_add(1);
-            if let Some((path, _)) = file_in(rt, self.caller, above, SITE)? {
+            if let Some((path, _)) = file_in(rt, self.caller, above, SITE_FILE)? {
                 self.site_files.push(path)?;
                 is_of_site = true;
                 break;
@@ -404,27 +410,25 @@ impl Configurations {
         Ok(is_of_site)
     }
 
-    /// Sets what files of EditorConfig say of the file with this path in this folder, if a configuration asks for them.
-    fn set_by_editor(
+    /// What files of EditorConfig say of the file with this path in this folder, if a configuration asks for them.
+    fn said_of(
         &mut self,
         rt: &HostRuntime,
         at: usize,
         folder: &str,
-        path: &str,
-        settings: &mut Settings,
-    ) -> Result<(), Refused> {
+        path: Option<&str>,
+    ) -> Result<Said, Refused> {
         let asked = match self.all.get(at) {
             Some(configuration) => configuration.editorconfig,
             None => Asked::Nothing,
         };
-        if asked != Asked::Nothing {
-            self.editors.said_of(rt, folder, path)?.set(asked, settings);
+        match path {
+            Some(path) if asked != Asked::Nothing => self.editors.said_of(rt, folder, path),
+            _ => Ok(Said::NOTHING),
         }
-        Ok(())
     }
 
-    /// The settings by a configuration, in this folder, of the file with this path, or of a text without a name. Nested lists of a
-    /// site of MkDocs need four columns.
+    /// The settings by a configuration, in this folder, of the file with this path, or of a text without a name.
     pub(crate) fn settings(
         &mut self,
         rt: &HostRuntime,
@@ -432,16 +436,15 @@ impl Configurations {
         folder: &str,
         path: Option<&str>,
     ) -> Result<Settings, Refused> {
-        let mut settings = Settings::new();
-        if self.is_of_site(rt, folder)? {
-            settings.style.list_indent = ListIndent::Four;
+        let is_of_site = self.is_of_site(rt, folder)?;
+        let document = Document {
+            path,
+            said: self.said_of(rt, at, folder, path)?,
+            is_of_site,
+        };
+        match self.all.get(at) {
+            Some(configuration) => Ok(configuration.settings_for(rt.alloc(), document)?),
+            None => Ok(Settings::new()),
         }
-        if let Some(path) = path {
-            self.set_by_editor(rt, at, folder, path, &mut settings)?;
-        }
-        if let Some(configuration) = self.all.get(at) {
-            configuration.set(rt.alloc(), path, &mut settings)?;
-        }
-        Ok(settings)
     }
 }

@@ -2,21 +2,20 @@
 //! compared, so a document never says anything else afterwards (the clause `same` of `decided`). `docs/FORMAT.md` has the
 //! options.
 //!
-//! It uses `tocmark_format`, `tocmark_files`, which matches names, shows what changed and replaces files, and
-//! `tocmark_command`, which has what it shares with `tocmark-events`. Enter at `main`.
+//! It uses `tocmark_format`, `tocmark_settings`, which has what options and configurations name, `tocmark_files`, which
+//! matches names, shows what changed and replaces files, and `tocmark_command`, which has what it shares with
+//! `tocmark-events`. Enter at `main`.
 //!
-//! What a call asks for: `words` has its words, `arguments` the command line, `settings` what the options and the keys of a
-//! configuration name, `configuration` reads such a file, and `lookup` finds that of each folder; `editorconfig` reads files of EditorConfig. Which texts are meant:
-//! `search` finds them, `walk` those below a folder, and `list` those of a list; `ignores` has the rules of `.gitignore`.
+//! What a call asks for: `words` has its words, `arguments` the command line, and `lookup` finds and reads the configuration of
+//! each folder. Which texts are meant: `search` finds them, `walk` those below a folder, and `list` those of a list; `ignores`
+//! has the rules of `.gitignore`.
 //! What is done: `decide` has what is written for a text, `text` reads one, `stream` answers standard input, and `replace`
 //! replaces a file. What is printed: `outcome` has what became of a text and the status, `report` and `fault` have the
 //! messages.
 #![tactic(auto)]
 
 mod arguments;
-mod configuration;
 mod decide;
-mod editorconfig;
 mod fault;
 mod ignores;
 mod list;
@@ -25,7 +24,6 @@ mod outcome;
 mod replace;
 mod report;
 mod search;
-mod settings;
 mod stream;
 mod text;
 mod walk;
@@ -41,7 +39,6 @@ use outcome::{Outcome, first_change, outcome_of, status_of};
 use replace::{Change, replace_text};
 use report::{Form, Report};
 use search::{Found, Origin, Search, Target};
-use settings::Settings;
 use std::alloc::{AllocError, Global};
 use std::io::{BufWriter, IsTerminal, Read, Stderr, Write};
 use std::process::ExitCode;
@@ -55,6 +52,7 @@ use tocmark_files::diff::{Look, unified_diff};
 use tocmark_files::place::{OpenFile, Place};
 use tocmark_files::quoted::Quoted;
 use tocmark_files::replace::remove_left;
+use tocmark_settings::Settings;
 use words::{Words, words_of};
 
 /// This program.

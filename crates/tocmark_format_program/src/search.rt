@@ -4,12 +4,12 @@ use crate::arguments::Choice;
 use crate::fault::Fault;
 use crate::ignores::Ignores;
 use crate::lookup::{Configurations, Refused, folder_of, joined, whole_path};
-use crate::settings::{Settings, set_all};
 use std::collections::{HashMap, HashSet};
 use std::{fs, io};
 use tocmark_files::names::is_markdown;
 use tocmark_files::place::Place;
 use tocmark_files::rules::{Entry, Rules, name_of};
+use tocmark_settings::{Settings, set_all};
 
 /// Where a text comes from, and what becomes of it.
 #[derive(Drop)]

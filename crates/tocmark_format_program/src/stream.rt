@@ -8,7 +8,6 @@ ghost use Rattle.tocmark_format_program.specs.Formats.{IsFormatted, IsOutputFaul
 use crate::decide::{Decision, decided};
 use crate::fault::Fault;
 use crate::outcome::{Outcome, first_change, outcome_of};
-use crate::settings::Settings;
 use crate::text::text_in;
 use std::alloc::Global;
 use std::io::{Read, Write};
@@ -16,6 +15,7 @@ use tocmark_command::streams::write_out;
 use tocmark_format::Left;
 use tocmark_judge::PartReader;
 use tocmark_reader::{ExtendedReader, Names};
+use tocmark_settings::Settings;
 
 /// The reader of all documents.
 pub const READER: ExtendedReader = ExtendedReader { names: Names::All };

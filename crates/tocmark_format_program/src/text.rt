@@ -6,19 +6,9 @@ ghost use Rattle.tocmark_format_program.specs.Formats.{IsOutputFault};
 use crate::fault::Fault;
 use std::alloc::Global;
 use std::io::Read;
+use tocmark_settings::Location;
 
-/// The line, counted from 1, in which the byte after these is.
-pub(crate) fn line_behind(bytes: &[u8]) -> usize {
-    let mut line = 1usize;
-    for byte in bytes {
-        if *byte == b'\n' {
-            line = line.saturating_add(1);
-        }
-    }
-    line
-}
-
-/// Bytes as text, or the first line that isn't UTF-8.
+/// Bytes as text, or the first line that isn't UTF-8, counted from 1.
 pub(crate) fn text_of(bytes: Vec<u8>) -> Result<String, usize>
     ensures { IfOk result (λ text. string_bytes text ≡ bytes.items) }
 {
@@ -27,7 +17,7 @@ pub(crate) fn text_of(bytes: Vec<u8>) -> Result<String, usize>
         Err(error) => {
             let end = error.utf8_error().valid_up_to();
             let valid = error.as_bytes().get(..end).unwrap_or(&[]);
-            Err(line_behind(valid))
+            Err(Location::after(valid).line)
         }
     }
 }

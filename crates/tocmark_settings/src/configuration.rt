@@ -1,26 +1,43 @@
 //! Configuration files: TOML, whose keys are the long options of formatting, `exclude`, `include` and `overrides`.
 
-use crate::editorconfig::Asked;
-use crate::settings::{Key, Setting, Settings, key_named, set_all};
-use crate::text::{line_behind, text_of};
-use std::alloc::{AllocError, AllocFailed, Global};
-use std::fmt;
+use crate::editorconfig::{Asked, Said};
+use crate::error::{ConfigError, GENERAL, Location, is_among};
+use crate::keys::{Key, Setting, key_named, set_all};
+use crate::settings::Settings;
+use std::alloc::{AllocError, Global};
 use std::fmt::Write;
-use tocmark_files::quoted::Quoted;
 use tocmark_files::rules::{Entry, Rules};
+use tocmark_print::ListIndent;
 use toml::{Table, Value};
+
+/// The name of configuration files. The nearest one in the folder of a document or above holds.
+pub const CONFIGURATION_FILE: &str = ".tocmark.toml";
+
+/// The name of the file that a site of MkDocs has. A document belongs to a site if this file is in its folder or above.
+pub const SITE_FILE: &str = "mkdocs.yml";
 
 /// What a configuration file says.
 #[derive(Drop)]
-pub(crate) struct Configuration {
+pub struct Configuration {
     values: Vec<Setting>,
-    /// Which files aren't formatted.
-    pub(crate) exclude: Rules,
-    /// Which files are formatted. `None`: those with names of Markdown.
-    pub(crate) include: Option<Rules>,
+    /// Which files aren't formatted: a document is excluded if they `cover` its path.
+    pub exclude: Rules,
+    /// Which files are formatted, if a program looks for them. `None`: those with names of Markdown.
+    pub include: Option<Rules>,
     overrides: Vec<Override>,
     /// What of files of EditorConfig counts.
-    pub(crate) editorconfig: Asked,
+    pub editorconfig: Asked,
+}
+
+/// A document, as far as its settings depend on where it is.
+#[derive(Clone, Copy)]
+pub struct Document<'p> {
+    /// Its path from the root on, without links. `None`: it is a text without a name.
+    pub path: Option<&'p str>,
+    /// What files of EditorConfig say of it. It counts as far as the configuration asks for it.
+    pub said: Said,
+    /// Whether it belongs to a site of MkDocs.
+    pub is_of_site: bool,
 }
 
 /// Options for some files.
@@ -28,20 +45,6 @@ pub(crate) struct Configuration {
 struct Override {
     files: Rules,
     values: Vec<Setting>,
-}
-
-/// What is wrong with the text of a configuration file.
-#[derive(Drop)]
-pub enum ConfigError {
-    /// The first line that isn't UTF-8.
-    NotUtf8(usize),
-    /// Why it is no TOML, and the line where that shows.
-    NotToml(String, Option<usize>),
-    /// A key, and its line where it is found.
-    UnknownKey(String, Option<usize>),
-    /// A key, its line where it is found, and what it takes.
-    WrongValue(&'static str, Option<usize>, &'static str),
-    OutOfMemory,
 }
 
 /// The text of a configuration file, and the lines in which a key is looked for.
@@ -60,9 +63,6 @@ struct Source<'t> {
 /// What a list of globs takes.
 const GLOBS: &str = "a list of globs, as [\"docs/**\", \"*.{md,txt}\"]";
 
-/// The keys that don't name an option, and that no override has.
-const GENERAL: [&str; 4] = ["editorconfig", "exclude", "include", "overrides"];
-
 /// The keys that are read before the others.
 const FIRST: [&str; 2] = ["syntax", "look"];
 
@@ -72,75 +72,15 @@ const EDITORCONFIG: &str = "true, false or \"wrap\"";
 /// What `overrides` takes.
 const OVERRIDES: &str = "a list of tables, each with files = [globs]";
 
-impl From<AllocError> for ConfigError {
-    fn from(_fault: AllocError) -> ConfigError {
-        ConfigError::OutOfMemory
-    }
-}
-
-impl<T: Drop> From<AllocFailed<T>> for ConfigError {
-    fn from(_fault: AllocFailed<T>) -> ConfigError {
-        ConfigError::OutOfMemory
-    }
-}
-
-/// The line, after the name of the file that is before it.
-fn place<W: fmt::Write>(f: &mut fmt::Formatter<W>, line: Option<usize>) -> fmt::Result {
-    match line {
-        Some(line) => write!(f, ":{line}: "),
-        None => f.write_str(": "),
-    }
-}
-
-/// What is after the name of the file: `:LINE: ` and what is wrong.
-impl fmt::Display for ConfigError {
-    fn fmt<W: fmt::Write>(&self, f: &mut fmt::Formatter<W>) -> fmt::Result {
-        match self {
-            ConfigError::NotUtf8(line) => write!(f, ":{line}: the line is not UTF-8"),
-            ConfigError::NotToml(why, line) => {
-                place(f, *line)?;
-                f.write_str(why.as_str())
-            }
-            ConfigError::UnknownKey(key, line) => {
-                place(f, *line)?;
-                let is_general = is_among(&GENERAL, key.as_str());
-                let key = Quoted(key.as_str());
-                if is_general {
-                    write!(f, "{key} must stand above [[overrides]]")
-                } else {
-                    write!(f, "there is no option {key}")
-                }
-            }
-            ConfigError::WrongValue(key, line, wanted) => {
-                place(f, *line)?;
-                write!(f, "{key} wants {wanted}")
-            }
-            ConfigError::OutOfMemory => f.write_str(": out of memory"),
-        }
-    }
-}
-
-/// The line of a text, counted from 1, in which this byte is.
-fn line_at(text: &str, at: usize) -> usize {
-    line_behind(text.as_bytes().get(..at).unwrap_or(&[]))
-}
-
-/// Whether a line begins with this key, in quotation marks or as the name of a table, too.
-fn names(line: &str, key: &str) -> bool {
+/// The byte of a line, counted from 0, at which this key begins: at its front, but for blanks, quotation marks and brackets.
+/// `None`: the line begins with something else.
+fn key_in(line: &str, key: &str) -> Option<usize> {
     let begin = line.trim_start_matches(&[' ', '\t', '[', '"', '\'']);
-    match begin.strip_prefix(key) {
-        None => false,
-        Some(rest) => rest.starts_with(&[' ', '\t', '=', '.', ']', '"', '\'']),
+    let rest = begin.strip_prefix(key)?;
+    if !rest.starts_with(&[' ', '\t', '=', '.', ']', '"', '\'']) {
+        return None;
     }
-}
-
-fn is_among(names: &[&str], name: &str) -> bool {
-    for it in names {
-        if *it == name {
-            return true;
-        }
-    }
-    false
+    Some(line.len().saturating_sub(begin.len()))
 }
 
 fn is_list(key: Key) -> bool {
@@ -151,31 +91,39 @@ fn is_list(key: Key) -> bool {
 }
 
 impl<'t> Source<'t> {
-    /// The source from after the first line that begins with this key, if one does.
-    fn behind(self, key: &str) -> Option<Source<'t>> {
+    /// Where this key begins in the first line that has it at its front, and the source from after that line.
+    fn find(self, key: &str) -> Option<(Location, Source<'t>)> {
         let (mut passed, mut at) = (self.passed, 0usize);
         for line in self.rest.split_inclusive('\n') {
             passed = passed.saturating_add(1);
             at = at.saturating_add(line.len());
-            if names(line, key) {
+            if let Some(byte) = key_in(line, key) {
+                let location = Location { line: passed, byte };
                 let rest = self.rest.get(at..).unwrap_or("");
-                return Some(Source {
+                let after = Source {
                     rest,
                     passed,
                     ..self
-                });
+                };
+                return Some((location, after));
             }
         }
         None
     }
 
-    /// The first line that begins with this key, counted from 1.
-    fn line_of(self, key: &str) -> Option<usize> {
-        Some(self.behind(key)?.passed)
+    /// Where this key is.
+    fn location_of(self, key: &str) -> Option<Location> {
+        Some(self.find(key)?.0)
     }
 
+    /// What is wrong if a key doesn't have what it takes.
     fn wrong(self, key: &'static str, wanted: &'static str) -> ConfigError {
-        ConfigError::WrongValue(key, self.line_of(key), wanted)
+        ConfigError::WrongValue(key, self.location_of(key), wanted)
+    }
+
+    /// Where this byte of the text is.
+    fn location_at(self, at: usize) -> Location {
+        Location::after(self.text.as_bytes().get(..at).unwrap_or(&[]))
     }
 
     /// The table that the text is, or why it is none.
@@ -184,12 +132,12 @@ impl<'t> Source<'t> {
             Ok(table) => Ok(table),
             Err(error) if error.is_memory() => Err(ConfigError::OutOfMemory),
             Err(error) => {
-                let line = match error.span() {
-                    Some(span) => Some(line_at(self.text, span.start)),
+                let location = match error.span() {
+                    Some(span) => Some(self.location_at(span.start)),
                     None => None,
                 };
                 let why = String::from_str(self.alloc, error.message())?;
-                Err(ConfigError::NotToml(why, line))
+                Err(ConfigError::NotToml(why, location))
             }
         }
     }
@@ -261,8 +209,9 @@ impl<'t> Source<'t> {
         value: &Value,
     ) -> Result<(), ConfigError> {
         let Some((key, option, wanted)) = key_named(name) else {
-            let line = self.line_of(name);
-            return Err(ConfigError::UnknownKey(String::from_str(self.alloc, name)?, line));
+            let location = self.location_of(name);
+            let name = String::from_str(self.alloc, name)?;
+            return Err(ConfigError::UnknownKey(name, location));
         };
         let before = values.len();
         let is_added = self.add_value(values, key, value)?;
@@ -304,8 +253,8 @@ impl<'t> Source<'t> {
 
     /// The source from after the next line that names `overrides`. If none does, no key is looked for any more.
     fn next_override(self) -> Source<'t> {
-        match self.behind("overrides") {
-            Some(next) => next,
+        match self.find("overrides") {
+            Some((_location, next)) => next,
             None => Source { rest: "", ..self },
         }
     }
@@ -384,8 +333,10 @@ impl<'t> Source<'t> {
 }
 
 impl Configuration {
-    /// The configuration of a folder that has no configuration file.
-    pub(crate) fn new(alloc: Global) -> Result<Configuration, AllocError> {
+    /// The configuration of a document that has no configuration file.
+    ///
+    /// It fails if memory runs out.
+    pub fn new(alloc: Global) -> Result<Configuration, AllocError> {
         Ok(Configuration {
             values: Vec::new(alloc),
             exclude: Rules::new(alloc, "/")?,
@@ -395,38 +346,56 @@ impl Configuration {
         })
     }
 
-    /// Parses what a configuration file in this folder has.
-    pub(crate) fn parse(
-        alloc: Global,
-        bytes: Vec<u8>,
-        folder: &str,
-    ) -> Result<Configuration, ConfigError> {
-        let text = match text_of(bytes) {
-            Ok(text) => text,
-            Err(line) => return Err(ConfigError::NotUtf8(line)),
-        };
+    /// Parses the text of a configuration file in this folder, whose path goes from the root on, without links. Globs are for
+    /// paths below the folder.
+    ///
+    /// Errors: `NotToml` if the text is no TOML, `UnknownKey` for a key that names no option, `WrongValue` for a value that
+    /// a key doesn't take, and `OutOfMemory`.
+    pub fn parse(alloc: Global, text: &str, folder: &str) -> Result<Configuration, ConfigError> {
         let source = Source {
             alloc,
-            text: text.as_str(),
+            text,
             folder,
-            rest: text.as_str(),
+            rest: text,
             passed: 0,
         };
         let table = source.table()?;
         source.configuration(&table)
     }
 
-    /// Sets what it says of the file with this path, or of a text without a name.
-    pub(crate) fn set(
+    /// The settings of a document. What its overrides say counts more than the other keys, and these more than files of
+    /// EditorConfig. Nested lists of a site of MkDocs need four columns, unless a key says otherwise. `lines` is `None`.
+    ///
+    /// It fails if memory runs out.
+    pub fn settings_for(
         &self,
         alloc: Global,
-        path: Option<&str>,
+        document: Document<'_>,
+    ) -> Result<Settings, AllocError> {
+        let Document {
+            path,
+            said,
+            is_of_site,
+        } = document;
+        let mut settings = Settings::new();
+        if is_of_site {
+            settings.style.list_indent = ListIndent::Four;
+        }
+        said.set(self.editorconfig, &mut settings);
+        let _ = set_all(&mut settings, &self.values);
+        if let Some(path) = path {
+            self.override_for(alloc, path, &mut settings)?;
+        }
+        Ok(settings)
+    }
+
+    /// Sets what the overrides say of the file with this path.
+    fn override_for(
+        &self,
+        alloc: Global,
+        path: &str,
         settings: &mut Settings,
     ) -> Result<(), AllocError> {
-        let _ = set_all(settings, &self.values);
-        let Some(path) = path else {
-            return Ok(());
-        };
         let entry = Entry::file(path);
         for Override { files, values } in &self.overrides {
             if files.mean(alloc, entry)? {

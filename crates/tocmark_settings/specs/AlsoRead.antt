@@ -2,8 +2,8 @@
 use Rattle.std.specs.Prelude.{Bool, if◌then◌else◌, List, [], ◌∷◌, ◌++◌}
 use Rattle.tocmark_event.specs.declared.event.flags.ParserOptions.{ParserOptions}
 use Rattle.tocmark_reader.specs.declared.extended.TheConstants.{EXTENSIONS, GFM}
-use Rattle.tocmark_format_program.specs.declared.settings.AlsoRead.{AlsoRead}
-use Rattle.tocmark_format_program.specs.declared.settings.TheConstants.{COMMONMARK}
+use Rattle.tocmark_settings.specs.declared.settings.AlsoRead.{AlsoRead}
+use Rattle.tocmark_settings.specs.declared.settings.TheConstants.{COMMONMARK}
 
 abbrev pub asked_flags : Bool → ParserOptions → List ParserOptions
 asked_flags asked flags = if asked then flags ∷ [] else []

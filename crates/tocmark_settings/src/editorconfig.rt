@@ -1,15 +1,20 @@
 //! Files of EditorConfig: how lines end, and up to which column they are filled. Other keys, unknown values and what is no glob
 //! say nothing.
 
-use crate::settings::{Settings, width_of};
+use crate::keys::width_of;
+use crate::settings::Settings;
 use std::alloc::{AllocError, Global};
 use tocmark_files::rules::{Entry, Rules};
 use tocmark_format::Ending;
 use tocmark_print::Wrap;
 
+/// The name of files of EditorConfig.
+pub const EDITORCONFIG_FILE: &str = ".editorconfig";
+
 /// What of these files counts.
 #[derive(Clone, Copy, PartialEq, Eq)]
-pub(crate) enum Asked {
+pub enum Asked {
+    /// Nothing: they needn't be read.
     Nothing,
     /// How lines end.
     Ends,
@@ -19,7 +24,7 @@ pub(crate) enum Asked {
 
 /// What is said of some files. `None`: nothing is; `Some(None)`: what is said elsewhere doesn't count.
 #[derive(Clone, Copy)]
-pub(crate) struct Said {
+pub struct Said {
     /// What each line ends with.
     each: Option<Option<Ending>>,
     /// Whether the last line has an end.
@@ -37,9 +42,9 @@ struct Section {
 
 /// A file of EditorConfig.
 #[derive(Drop)]
-pub(crate) struct EditorConfig {
+pub struct EditorConfig {
     /// Whether files further up don't count.
-    pub(crate) is_root: bool,
+    pub is_root: bool,
     sections: Vec<Section>,
 }
 
@@ -61,7 +66,7 @@ const LASTS: [(&str, Option<bool>); 3] = [
 
 const WIDTHS: [(&str, Option<usize>); 2] = [("off", None), ("unset", None)];
 
-/// The value that a word stands for, in upper or lower case.
+/// The value of a word in a table. Upper and lower case are the same.
 fn meant<T: Copy>(table: &[(&str, T)], word: &str) -> Option<T> {
     for (known, value) in table {
         if word.eq_ignore_ascii_case(known) {
@@ -119,14 +124,15 @@ fn rules_of(alloc: Global, folder: &str, glob: &str) -> Result<Rules, AllocError
 }
 
 impl Said {
-    pub(crate) const NOTHING: Said = Said {
+    /// Nothing is said.
+    pub const NOTHING: Said = Said {
         each: None,
         last: None,
         width: None,
     };
 
-    /// This, and what others say where it says nothing.
-    pub(crate) fn or(self, others: Said) -> Said {
+    /// This, and what others say where it says nothing. The others are those of files further up.
+    pub fn or(self, others: Said) -> Said {
         Said {
             each: self.each.or(others.each),
             last: self.last.or(others.last),
@@ -163,12 +169,10 @@ impl Said {
 }
 
 impl EditorConfig {
-    /// Parses the text of the file in this folder.
-    pub(crate) fn parse(
-        alloc: Global,
-        text: &str,
-        folder: &str,
-    ) -> Result<EditorConfig, AllocError> {
+    /// Parses the text of the file in this folder, whose path goes from the root on, without links.
+    ///
+    /// It fails if memory runs out.
+    pub fn parse(alloc: Global, text: &str, folder: &str) -> Result<EditorConfig, AllocError> {
         let mut config = EditorConfig {
             is_root: false,
             sections: Vec::new(alloc),
@@ -201,8 +205,11 @@ impl EditorConfig {
         }
     }
 
-    /// What it says of the file with this path. The last section that says something counts.
-    pub(crate) fn said_of(&self, alloc: Global, path: &str) -> Result<Said, AllocError> {
+    /// What it says of the file with this path, which goes from the root on, without links. The last section that says
+    /// something counts.
+    ///
+    /// It fails if memory runs out.
+    pub fn said_of(&self, alloc: Global, path: &str) -> Result<Said, AllocError> {
         let mut all = Said::NOTHING;
         for Section { files, said } in &self.sections {
             if files.mean(alloc, Entry::file(path))? {

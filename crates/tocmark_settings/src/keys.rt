@@ -1,45 +1,14 @@
 //! What the options of formatting name, on the command line and in configuration files.
 
-ghost use Rattle.std.specs.Prelude.{◌≡◌, ◌++◌, IfOk, OnOk};
-ghost use Rattle.tocmark_format_program.specs.AlsoRead.{also_flags, asked_flags};
-
-use std::alloc::{AllocError, Global};
+use crate::settings::Settings;
 use tocmark_command::syntax::{extended, syntax_named};
-use tocmark_event::event::ParserOptions;
-use tocmark_format::{Ends, Lines};
 use tocmark_print::{
     Bullet, Delimiter, Fence, HardBreak, ListIndent, Marker, Numbering, Rule, Style, Tables, Wrap,
 };
-use tocmark_reader::{EXTENSIONS, GFM};
 
-/// The flags of CommonMark.
-pub const COMMONMARK: ParserOptions = ParserOptions(0);
-
-/// The syntaxes as which a text keeps its blocks, beside its own.
-#[derive(Clone, Copy)]
-pub struct AlsoRead {
-    pub commonmark: bool,
-    pub gfm: bool,
-    pub all: bool,
-}
-
-/// What a text is read as, and how it is to look.
-#[derive(Clone, Copy)]
-pub struct Settings {
-    /// Which extensions of CommonMark are read.
-    pub flags: ParserOptions,
-    /// How it is to look.
-    pub style: Style,
-    pub also: AlsoRead,
-    /// Which of its lines are formatted; `None`: all.
-    pub lines: Option<Lines>,
-    /// How its lines end.
-    pub ends: Ends,
-}
-
-/// An option of formatting.
+/// An option of formatting. `KEYS` has the name of each.
 #[derive(Clone, Copy, Drop)]
-pub(crate) enum Key {
+pub enum Key {
     Syntax,
     Extension,
     AlsoRead,
@@ -61,13 +30,15 @@ pub(crate) enum Key {
 
 /// An option with its value.
 #[derive(Drop)]
-pub(crate) struct Setting {
-    pub(crate) key: Key,
-    pub(crate) word: String,
+pub struct Setting {
+    /// Which option is set.
+    pub key: Key,
+    /// Its value, as it is written.
+    pub word: String,
 }
 
-/// The options by their names, with what each takes. Those that others change come first.
-pub(crate) const KEYS: [(&str, Key, &str); 17] = [
+/// The options by their names, with what each takes, as messages say it. Those that others change come first.
+pub const KEYS: [(&str, Key, &str); 17] = [
     ("syntax", Key::Syntax, "commonmark, gfm or all"),
     (
         "extension",
@@ -207,68 +178,8 @@ impl Look {
     }
 }
 
-impl Settings {
-    /// GFM with front matter, in the style that changes least.
-    pub(crate) fn new() -> Settings {
-        Settings {
-            flags: GFM,
-            style: Style::new(),
-            also: AlsoRead::NONE,
-            lines: None,
-            ends: Ends::new(),
-        }
-    }
-}
-
-impl AlsoRead {
-    const NONE: AlsoRead = AlsoRead {
-        commonmark: false,
-        gfm: false,
-        all: false,
-    };
-
-    /// These syntaxes and the one with this name; none for `none`.
-    fn with(self, name: &str) -> Option<AlsoRead> {
-        match name {
-            "commonmark" => Some(AlsoRead {
-                commonmark: true,
-                ..self
-            }),
-            "gfm" => Some(AlsoRead { gfm: true, ..self }),
-            "all" => Some(AlsoRead { all: true, ..self }),
-            "none" => Some(AlsoRead::NONE),
-            _ => None,
-        }
-    }
-
-    /// Their flags.
-    pub(crate) fn flags(self, alloc: Global) -> Result<Vec<ParserOptions>, AllocError>
-        ensures { IfOk result (λ list. list.items ≡ also_flags self) }
-    {
-        let mut list = Vec::new(alloc);
-        push_asked(&mut list, self.commonmark, COMMONMARK)?;
-        push_asked(&mut list, self.gfm, GFM)?;
-        push_asked(&mut list, self.all, EXTENSIONS)?;
-        Ok(list)
-    }
-}
-
-/// Adds flags if they are asked for.
-fn push_asked(
-    list: &mut Vec<ParserOptions>,
-    is_asked: bool,
-    flags: ParserOptions,
-) -> Result<(), AllocError>
-    ensures { OnOk result (list.new.items ≡ list.old.items ++ asked_flags is_asked flags) }
-{
-    if is_asked {
-        list.push(flags)?;
-    }
-    Ok(())
-}
-
-/// The value that a name stands for.
-pub(crate) fn named<T: Copy>(table: &[(&str, T)], name: &str) -> Option<T> {
+/// The value of a name in a table. `None`: the table lacks the name.
+pub fn named<T: Copy>(table: &[(&str, T)], name: &str) -> Option<T> {
     for (known, value) in table {
         if *known == name {
             return Some(*value);
@@ -324,8 +235,10 @@ fn wrap_of(word: &str) -> Option<Wrap> {
     }
 }
 
-/// Sets each option to what its word says. `Err`: the first that takes no such word.
-pub(crate) fn set_all(settings: &mut Settings, values: &[Setting]) -> Result<(), Key> {
+/// Sets each option to what its word says, in the order of the list.
+///
+/// The answer is an `Err` with the first option that takes no such word. Then those before it are set, and no other.
+pub fn set_all(settings: &mut Settings, values: &[Setting]) -> Result<(), Key> {
     for Setting { key, word } in values {
         if !set(settings, *key, word.as_str()) {
             return Err(*key);
@@ -335,7 +248,7 @@ pub(crate) fn set_all(settings: &mut Settings, values: &[Setting]) -> Result<(),
 }
 
 /// Sets an option to what a word says. `false`: it takes no such word, and nothing is changed.
-pub(crate) fn set(settings: &mut Settings, key: Key, word: &str) -> bool {
+pub fn set(settings: &mut Settings, key: Key, word: &str) -> bool {
     let Settings {
         flags,
         style,
