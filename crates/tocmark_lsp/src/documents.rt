@@ -1,17 +1,41 @@
 //! The texts that a client has open, as it changes them.
 
 use crate::message::{Call, Code, Fault, range_in};
+use crate::tree::path_in;
 use serde_json::Value;
 use std::alloc::{AllocError, Global};
 use std::collections::HashMap;
 use tocmark_lsp_text::edits::{Edit, edited};
 use tocmark_lsp_text::positions::Encoding;
 
-/// The open texts, by their URIs.
+/// A text that is open.
+#[derive(Drop)]
+pub(crate) struct Document {
+    /// The URI by which the client names it.
+    pub(crate) uri: String,
+    pub(crate) text: String,
+    /// The number that the client gives this state of the text.
+    pub(crate) version: Option<i64>,
+}
+
+/// The open texts, by their paths; by its URI, if a text is no file.
 #[derive(Drop)]
 pub(crate) struct Documents {
     alloc: Global,
-    texts: HashMap<String, String>,
+    texts: HashMap<String, Document>,
+}
+
+/// The name under which the text with a URI is kept: a client may spell the URI of a file in several ways.
+fn key_of(alloc: Global, uri: &str) -> Result<String, AllocError> {
+    match path_in(alloc, uri)? {
+        Some(path) => Ok(path),
+        None => String::from_str(alloc, uri),
+    }
+}
+
+/// The number that a call gives a text.
+fn version_of(call: Call<'_>) -> Option<i64> {
+    call.at("/textDocument/version").and_then(Value::as_i64)
 }
 
 impl Documents {
@@ -23,53 +47,60 @@ impl Documents {
     }
 
     /// The text with a URI, as the client has it.
-    pub(crate) fn text(&self, uri: &str) -> Result<&str, Fault> {
-        match self.get(uri) {
-            Some(text) => Ok(text),
+    pub(crate) fn document(&self, uri: &str) -> Result<&Document, Fault> {
+        let key = key_of(self.alloc, uri)?;
+        match self.at(key.as_str()) {
+            Some(document) => Ok(document),
             None => Err(Fault::Refused(Code::Params, "the document is not open")),
         }
     }
 
-    /// The text with a URI, if it is open.
-    pub(crate) fn get(&self, uri: &str) -> Option<&str> {
-        match self.texts.get(uri) {
-            Some(text) => Some(text.as_str()),
-            None => None,
-        }
+    /// The text of the file at a path, if it is open.
+    pub(crate) fn at(&self, path: &str) -> Option<&Document> {
+        self.texts.get(path)
     }
 
-    /// The URIs of all open texts.
-    pub(crate) fn uris(&self) -> Result<Vec<&str>, AllocError> {
-        let mut uris = Vec::new(self.alloc);
-        for uri in self.texts.keys() {
-            uris.push(uri.as_str())?;
+    /// All open texts.
+    pub(crate) fn all(&self) -> Result<Vec<&Document>, AllocError> {
+        let mut all = Vec::new(self.alloc);
+        for document in self.texts.values() {
+            all.push(document)?;
         }
-        Ok(uris)
+        Ok(all)
     }
 
     /// Takes a text that is opened.
     pub(crate) fn open(&mut self, call: Call<'_>) -> Result<(), Fault> {
-        let uri = String::from_str(self.alloc, call.uri()?)?;
         let text = String::from_str(self.alloc, call.text("/textDocument/text")?)?;
-        self.texts.insert(uri, text)?;
+        self.put(call, text)
+    }
+
+    /// Keeps the text that a call leads to.
+    fn put(&mut self, call: Call<'_>, text: String) -> Result<(), Fault> {
+        let uri = String::from_str(self.alloc, call.uri()?)?;
+        let key = key_of(self.alloc, uri.as_str())?;
+        let document = Document {
+            uri,
+            text,
+            version: version_of(call),
+        };
+        self.texts.insert(key, document)?;
         Ok(())
     }
 
     /// Forgets a text.
     pub(crate) fn close(&mut self, call: Call<'_>) -> Result<(), Fault> {
-        let _ = self.texts.remove(call.uri()?);
+        let key = key_of(self.alloc, call.uri()?)?;
+        let _ = self.texts.remove(key.as_str());
         Ok(())
     }
 
     /// Changes a text, in the order of the changes. If one of them is none, the text is forgotten, because the client has
     /// another one from then on.
     pub(crate) fn change(&mut self, encoding: Encoding, call: Call<'_>) -> Result<(), Fault> {
-        let uri = call.uri()?;
-        let changed = self.changed(encoding, uri, call);
-        let _ = self.texts.remove(uri);
-        let uri = String::from_str(self.alloc, uri)?;
-        self.texts.insert(uri, changed?)?;
-        Ok(())
+        let changed = self.changed(encoding, call.uri()?, call);
+        self.close(call)?;
+        self.put(call, changed?)
     }
 
     /// A text after changes.
@@ -77,7 +108,7 @@ impl Documents {
         let Some(changes) = call.at("/contentChanges").and_then(Value::as_array) else {
             return Err(Fault::Refused(Code::Params, "the changes are missing"));
         };
-        let mut text = String::from_str(self.alloc, self.text(uri)?)?;
+        let mut text = self.document(uri)?.text.clone()?;
         for change in changes {
             text = after(self.alloc, encoding, text.as_str(), change)?;
         }

@@ -1,34 +1,17 @@
 //! The edits that format a text, or some of its lines.
 
-use crate::message::{Code, Fault, JsonText, range_in};
+use crate::edits::edits_json;
+use crate::message::{Code, Fault, range_in};
 use crate::settings::Settings;
 use serde_json::Value;
 use std::alloc::{AllocError, Global};
-use std::fmt::Write;
 use tocmark_format::{Ends, Formatted, Lines, StyledLines, formatted_lines};
-use tocmark_lsp_text::edits::{Edit, line_edits};
+use tocmark_lsp_text::edits::line_edits;
 use tocmark_lsp_text::positions::Encoding;
 use tocmark_reader::{ExtendedReader, Names};
 
 /// What reads texts.
 pub(crate) const READER: ExtendedReader = ExtendedReader { names: Names::All };
-
-/// Edits as JSON.
-fn json_of(alloc: Global, edits: &[Edit]) -> Result<String, AllocError> {
-    let mut json = String::from_str(alloc, "[")?;
-    for edit in edits {
-        if json.len() > 1 {
-            json.push(',')?;
-        }
-        let (start, stop, text) = (edit.start, edit.stop, JsonText(edit.text.as_str()));
-        write!(
-            json,
-            "{{\"range\":{{\"start\":{start},\"end\":{stop}}},\"newText\":{text}}}"
-        )?;
-    }
-    json.push(']')?;
-    Ok(json)
-}
 
 /// Formats the blocks of a text that these lines touch, or all.
 pub(crate) fn formatted_as(
@@ -55,7 +38,7 @@ fn edits_for(
 ) -> Result<String, Fault> {
     let answer = formatted_as(alloc, settings, text, lines)?;
     let edits = line_edits(alloc, encoding, text, answer.text.as_str())?;
-    Ok(json_of(alloc, &edits)?)
+    Ok(edits_json(alloc, &edits)?)
 }
 
 /// The edits that format a text.

@@ -95,6 +95,11 @@ impl<'t> Lined<'t> {
         }
     }
 
+    /// The byte at which a line begins.
+    pub(crate) fn line_start(&self, line: usize) -> usize {
+        self.starts.get(line).copied().unwrap_or(self.text.len())
+    }
+
     /// Where a line ends, before what ends it.
     pub(crate) fn line_end(&self, line: usize) -> Position {
         let next = self.starts.get(line.saturating_add(1)).copied();

@@ -8,7 +8,8 @@ use crate::tree::{Files, Gathering, Place, Terms};
 use std::alloc::{AllocError, Global};
 use std::fmt::Write;
 use tocmark_event::event::{Event, LinkType, Tag};
-use tocmark_event::reader::Reading;
+use tocmark_event::reader::{Reader, Reading};
+use tocmark_links::anchors::AnchorKind;
 use tocmark_links::destination::{is_local, parts};
 use tocmark_links::page::Page;
 use tocmark_links::tree::{Led, Tree};
@@ -25,7 +26,7 @@ pub(crate) struct Found {
 }
 
 /// A label as it is compared.
-fn folded(alloc: Global, label: &str) -> Result<String, AllocError> {
+pub(crate) fn folded(alloc: Global, label: &str) -> Result<String, AllocError> {
     let mut plain = String::new(alloc);
     for word in label.split_whitespace() {
         plain.push_str(word)?;
@@ -40,6 +41,23 @@ fn is_by_label(link_type: LinkType) -> bool {
         link_type,
         LinkType::Reference | LinkType::Collapsed | LinkType::Shortcut
     )
+}
+
+/// How a link or an image by a label is written, and that label. `None`: it is by none, or the event is something else.
+pub(crate) fn label_of<'e>(event: &'e Event<'_>) -> Option<(LinkType, &'e str)> {
+    let Event::Start(tag) = event else {
+        return None;
+    };
+    let (link_type, label) = match tag {
+        Tag::Link { link_type, id, .. } => (*link_type, id.as_ref()),
+        Tag::Image { link_type, id, .. } => (*link_type, id.as_ref()),
+        _ => return None,
+    };
+    if is_by_label(link_type) {
+        Some((link_type, label))
+    } else {
+        None
+    }
 }
 
 /// A link with this destination, and a label if it is by one.
@@ -89,7 +107,7 @@ fn link_of(
 pub(crate) struct Read<'t> {
     pub(crate) lined: Lined<'t>,
     pub(crate) reading: Reading,
-    definitions: Vec<ReferenceDefinition>,
+    pub(crate) definitions: Vec<ReferenceDefinition>,
 }
 
 impl<'t> Read<'t> {
@@ -170,7 +188,7 @@ impl<'t> Read<'t> {
 }
 
 /// Adds a location to a list of JSON.
-fn add_location(json: &mut String, uri: &str, span: Span) -> Result<(), AllocError> {
+pub(crate) fn add_location(json: &mut String, uri: &str, span: Span) -> Result<(), AllocError> {
     if json.ends_with('}') {
         json.push(',')?;
     }
@@ -196,6 +214,8 @@ pub(crate) struct Asking<'a, F> {
     pub(crate) gathering: Gathering<'a, F>,
     pub(crate) uri: &'a str,
     pub(crate) text: &'a str,
+    /// The number that the client gives this state of the text.
+    pub(crate) version: Option<i64>,
     pub(crate) encoding: Encoding,
 }
 
@@ -210,16 +230,26 @@ impl<'a, F: Files> Asking<'a, F> {
 
     /// The links and anchors of the document.
     pub(crate) fn page(&self) -> Result<Page, AllocError> {
-        let Terms { flags, slugs } = self.gathering.terms;
-        Page::read(self.alloc(), self.text, flags, slugs)
+        self.page_of(self.text)
     }
 
-    fn read(&self) -> Result<Read<'a>, AllocError> {
+    pub(crate) fn read(&self) -> Result<Read<'a>, AllocError> {
         Read::of(self.alloc(), self.text, self.encoding, self.gathering.terms)
     }
 
+    /// What the reader finds in a text.
+    pub(crate) fn reading(&self, text: &str) -> Result<Reading, AllocError> {
+        READER.read(self.alloc(), text, self.gathering.terms.flags)
+    }
+
+    /// The links and anchors of a text.
+    pub(crate) fn page_of(&self, text: &str) -> Result<Page, AllocError> {
+        let Terms { flags, slugs } = self.gathering.terms;
+        Page::read(self.alloc(), text, flags, slugs)
+    }
+
     /// Where a destination leads.
-    fn led_to(&self, page: &Page, destination: &str) -> Result<Led, AllocError> {
+    pub(crate) fn led_to(&self, page: &Page, destination: &str) -> Result<Led, AllocError> {
         let mut tree = Tree::new(self.alloc());
         let path = self.place().path.as_str();
         tree.add(path, Some(page))?;
@@ -279,8 +309,7 @@ impl<'a, F: Files> Asking<'a, F> {
         let Some(text) = text else {
             return Ok(1);
         };
-        let Terms { flags, slugs } = it.terms;
-        let page = Page::read(it.alloc, text.as_str(), flags, slugs)?;
+        let page = self.page_of(text.as_str())?;
         for it in &page.anchors {
             if it.name.as_str() == anchor {
                 return Ok(it.line);
@@ -346,44 +375,26 @@ impl<'a, F: Files> Asking<'a, F> {
         )
     }
 
-    /// The anchor of the heading in whose line a byte is.
-    fn anchor_at(&self, read: &Read<'_>, at: usize) -> Result<Option<String>, AllocError> {
-        let page = self.page()?;
-        let headings = headings(self.alloc(), self.text, &read.reading)?;
-        for heading in &headings {
-            if holds(read.lined.inked(heading.place), at) {
-                let line = read.lined.span(heading.place).start.line.saturating_add(1);
-                for anchor in &page.anchors {
-                    if anchor.line == line {
-                        return Ok(Some(anchor.name.clone()?));
-                    }
-                }
-            }
-        }
-        Ok(None)
-    }
-
-    /// Adds the document's links that lead to an anchor of a page.
-    pub(crate) fn add_links_to(
+    /// The heading in whose lines a byte is, by its number among the anchors of the page.
+    pub(crate) fn heading_at(
         &self,
-        json: &mut String,
-        target: &str,
-        name: &str,
-    ) -> Result<(), AllocError> {
-        let lined = Lined::new(self.alloc(), self.text, self.encoding)?;
-        let page = self.page()?;
-        let tree = self.gathering.tree(&page)?;
-        for link in &page.links {
-            let led = tree.led_to(self.place().path.as_str(), link.destination.as_str())?;
-            if let Led::To { path, anchor, .. } = &led
-                && path.as_str() == target
-                && anchor.as_str() == name
-                && let Some(place) = link.place
-            {
-                add_location(json, self.uri, lined.span(place))?;
-            }
-        }
-        Ok(())
+        read: &Read<'_>,
+        page: &Page,
+        at: usize,
+    ) -> Result<Option<usize>, AllocError> {
+        let headings = headings(self.alloc(), self.text, &read.reading)?;
+        let Some(heading) = headings
+            .iter()
+            .find(|it| holds(read.lined.inked(it.place), at))
+        else {
+            return Ok(None);
+        };
+        let line = read.lined.span(heading.place).start.line.saturating_add(1);
+        let found = page
+            .anchors
+            .iter()
+            .position(|it| it.line == line && it.kind != AnchorKind::Html);
+        Ok(found)
     }
 
     /// The links by the label at a position, as JSON, and its definition if that is wanted. `None`: there is no label.
@@ -407,11 +418,5 @@ impl<'a, F: Files> Asking<'a, F> {
         }
         json.push(']')?;
         Ok(Some(json))
-    }
-
-    /// The anchor of the heading at a position.
-    pub(crate) fn heading_anchor(&self, position: Position) -> Result<Option<String>, AllocError> {
-        let read = self.read()?;
-        self.anchor_at(&read, read.lined.byte(position))
     }
 }

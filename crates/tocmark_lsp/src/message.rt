@@ -72,6 +72,21 @@ impl From<EditError> for Fault {
     }
 }
 
+impl From<tocmark_links::Fault> for Fault {
+    fn from(fault: tocmark_links::Fault) -> Fault {
+        match fault {
+            tocmark_links::Fault::OutOfMemory => Fault::OutOfMemory,
+            tocmark_links::Fault::NoWords => {
+                Fault::Refused(Code::Failed, "a heading has words, in one line")
+            }
+            _ => Fault::Refused(
+                Code::Failed,
+                "with this change, a page would say something else",
+            ),
+        }
+    }
+}
+
 impl fmt::Display for JsonText<'_> {
     fn fmt<W: fmt::Write>(&self, f: &mut fmt::Formatter<W>) -> fmt::Result {
         let text = Escaped(&self.0, Quoting::Json);

@@ -1,16 +1,20 @@
 //! The server: what it keeps, and what it answers to each message.
 
 use crate::checking::{mendings, problems};
-use crate::documents::Documents;
+use crate::completion::completions;
+use crate::documents::{Document, Documents};
 use crate::formatting;
+use crate::headings::{prepared, renamed};
 use crate::lined::Span;
 use crate::links::{Asking, Read};
 use crate::message::{
     Call, Code, Fault, JsonText, answer_message, notice_message, range_in, refusal_message,
 };
+use crate::moves::moves_in;
 use crate::outline::{folding, headings, symbols};
 use crate::settings::{Settings, named};
 use crate::tree::{Files, Gathering, Place, Terms, path_in};
+use crate::workspace::Workspace;
 use serde_json::Value;
 use std::alloc::{AllocError, Global};
 use tocmark_lsp_text::positions::Encoding;
@@ -48,6 +52,10 @@ enum Request {
     References,
     Hover,
     Mendings,
+    PrepareRename,
+    Rename,
+    WillRename,
+    Completion,
     Text,
 }
 
@@ -61,7 +69,7 @@ enum Notice {
     Save,
 }
 
-static REQUESTS: [(&str, Request); 12] = [
+static REQUESTS: [(&str, Request); 16] = [
     ("initialize", Request::Initialize),
     ("shutdown", Request::Shutdown),
     ("textDocument/formatting", Request::Formatting),
@@ -73,6 +81,10 @@ static REQUESTS: [(&str, Request); 12] = [
     ("textDocument/references", Request::References),
     ("textDocument/hover", Request::Hover),
     ("textDocument/codeAction", Request::Mendings),
+    ("textDocument/prepareRename", Request::PrepareRename),
+    ("textDocument/rename", Request::Rename),
+    ("workspace/willRenameFiles", Request::WillRename),
+    ("textDocument/completion", Request::Completion),
     // not of the protocol: the text as the server has it, for tests of clients
     ("tocmark/text", Request::Text),
 ];
@@ -90,7 +102,9 @@ const ABILITIES: &str = "\"textDocumentSync\":{\"openClose\":true,\"change\":2,\
 \"documentFormattingProvider\":true,\"documentRangeFormattingProvider\":true,\
 \"documentSymbolProvider\":true,\"foldingRangeProvider\":true,\"documentLinkProvider\":{},\
 \"definitionProvider\":true,\"referencesProvider\":true,\"hoverProvider\":true,\
-\"codeActionProvider\":{\"codeActionKinds\":[\"quickfix\"]}";
+\"codeActionProvider\":{\"codeActionKinds\":[\"quickfix\"]},\
+\"completionProvider\":{\"triggerCharacters\":[\"(\",\"/\",\"#\",\"[\"]},\
+\"workspace\":{\"fileOperations\":{\"willRename\":{\"filters\":[{\"scheme\":\"file\",\"pattern\":{\"glob\":\"**/*\"}}]}}}";
 
 /// A server, with the texts that its client has open.
 #[derive(Drop)]
@@ -102,6 +116,12 @@ pub struct Server {
     /// The path of the folder that the client has open; empty if it has none.
     root: String,
     documents: Documents,
+    /// The paths of the Markdown files below the root, as they were when they were last listed.
+    listed: Vec<String>,
+    /// Whether a text was opened, closed or saved since.
+    is_stale: bool,
+    /// Whether the client takes a version with the edits of a text.
+    is_versioned: bool,
 }
 
 /// UTF-8 if the client can count so, and else UTF-16.
@@ -131,6 +151,11 @@ fn root_of(alloc: Global, call: Call<'_>) -> Result<String, AllocError> {
     Ok(String::new(alloc))
 }
 
+/// Whether a client says that it can do what is at a path of its capabilities.
+fn is_able(call: Call<'_>, path: &str) -> bool {
+    call.at(path).and_then(Value::as_bool).unwrap_or(false)
+}
+
 impl Server {
     /// A server that no client has called.
     pub fn new(alloc: Global) -> Server {
@@ -141,6 +166,9 @@ impl Server {
             settings: Settings::new(),
             root: String::new(alloc),
             documents: Documents::new(alloc),
+            listed: Vec::new(alloc),
+            is_stale: true,
+            is_versioned: false,
         }
     }
 
@@ -230,16 +258,18 @@ impl Server {
         call: Call<'_>,
         answers: &mut Vec<String>,
     ) -> Result<(), Fault> {
+        if let Notice::Change = notice {
+            return self.documents.change(self.encoding, call);
+        }
+        self.is_stale = true;
         match notice {
-            Notice::Exit => {}
             Notice::Open => self.documents.open(call)?,
-            Notice::Change => return self.documents.change(self.encoding, call),
             Notice::Close => {
                 self.documents.close(call)?;
                 answers.push(self.problems_message(call.uri()?, "[]")?)?;
                 return Ok(());
             }
-            Notice::Save => {}
+            _ => {}
         }
         let uri = call.uri()?;
         let found = self.problems_of(files, uri)?;
@@ -249,12 +279,12 @@ impl Server {
 
     /// What is wrong in an open text, as JSON.
     fn problems_of<'x, F: Files>(&'x self, files: &'x F, uri: &'x str) -> Result<String, Fault> {
-        let text = self.documents.text(uri)?;
+        let document = self.documents.document(uri)?;
         if !uri.starts_with("file://") {
             return Ok(String::from_str(self.alloc, "[]")?);
         }
         let place = Place::of(self.alloc, self.root.as_str(), uri)?;
-        Ok(problems(&self.asking(files, &place, uri, text), self.settings)?)
+        Ok(problems(&self.asking(files, &place, document), self.settings)?)
     }
 
     /// The message that says what is wrong in a text.
@@ -286,8 +316,52 @@ impl Server {
                 self.phase = Phase::ShutDown;
                 Ok(String::from_str(self.alloc, "null")?)
             }
-            (Phase::Running, Some(request)) => self.answer_about_text(files, request, call),
+            (Phase::Running, Some(request)) => self.answer_running(files, request, call),
             (Phase::Running, None) => Err(Fault::Refused(Code::Method, "no such request is known")),
+        }
+    }
+
+    /// Lists the pages of the workspace, if a request needs them. For a completion, which is asked for at each key, the last list
+    /// counts until a text is opened, closed or saved.
+    fn list_for<F: Files>(&mut self, files: &F, request: Request) -> Result<(), AllocError> {
+        let is_needed = match request {
+            Request::References | Request::Rename | Request::WillRename => true,
+            Request::Completion => self.is_stale,
+            _ => false,
+        };
+        if is_needed && !self.root.is_empty() {
+            self.listed = files.pages(self.root.as_str())?;
+            self.is_stale = false;
+        }
+        Ok(())
+    }
+
+    /// The result of a request about an open text, or about the workspace.
+    fn answer_running<F: Files>(
+        &mut self,
+        files: &F,
+        request: Request,
+        call: Call<'_>,
+    ) -> Result<String, Fault> {
+        self.list_for(files, request)?;
+        if let Request::WillRename = request {
+            let moves = moves_in(self.alloc, self.root.as_str(), call)?;
+            return self.workspace(files).moved(moves);
+        }
+        self.answer_about_text(files, request, call)
+    }
+
+    /// What finds the pages of the workspace.
+    fn workspace<'a, F: Files>(&'a self, files: &'a F) -> Workspace<'a, F> {
+        Workspace {
+            alloc: self.alloc,
+            files,
+            documents: &self.documents,
+            root: self.root.as_str(),
+            listed: &self.listed,
+            terms: self.terms(),
+            encoding: self.encoding,
+            is_versioned: self.is_versioned,
         }
     }
 
@@ -296,8 +370,7 @@ impl Server {
         &'a self,
         files: &'a F,
         place: &'a Place,
-        uri: &'a str,
-        text: &'a str,
+        document: &'a Document,
     ) -> Asking<'a, F> {
         Asking {
             gathering: Gathering {
@@ -307,8 +380,9 @@ impl Server {
                 place,
                 terms: self.terms(),
             },
-            uri,
-            text,
+            uri: document.uri.as_str(),
+            text: document.text.as_str(),
+            version: document.version,
             encoding: self.encoding,
         }
     }
@@ -328,7 +402,8 @@ impl Server {
         call: Call<'x>,
     ) -> Result<String, Fault> {
         let uri = call.uri()?;
-        let text = self.documents.text(uri)?;
+        let document = self.documents.document(uri)?;
+        let text = document.text.as_str();
         let (alloc, encoding, settings) = (self.alloc, self.encoding, self.settings);
         match request {
             Request::Formatting => formatting::whole(alloc, encoding, settings, text),
@@ -342,7 +417,7 @@ impl Server {
             }
             _ => {
                 let place = Place::of(alloc, self.root.as_str(), uri)?;
-                let asking = self.asking(files, &place, uri, text);
+                let asking = self.asking(files, &place, document);
                 self.answer_about_links(files, request, call, &asking)
             }
         }
@@ -377,11 +452,21 @@ impl Server {
                 };
                 Ok(mendings(asking, Span { start, stop })?)
             }
+            Request::PrepareRename => Ok(prepared(asking, call.position("/position")?)?),
+            Request::Rename => {
+                let position = call.position("/position")?;
+                let name = call.text("/newName")?;
+                renamed(&self.workspace(files), asking, position, name)
+            }
+            Request::Completion => {
+                let position = call.position("/position")?;
+                Ok(completions(&self.workspace(files), asking, position)?)
+            }
             _ => Err(Fault::Refused(Code::Method, "no such request is known")),
         }
     }
 
-    /// The links by the label at a position, or those of all open texts that lead to the heading there.
+    /// The links by the label at a position, or those of all pages that lead to the heading there.
     fn references<'x, F: Files>(
         &'x self,
         files: &'x F,
@@ -389,27 +474,19 @@ impl Server {
         asking: &Asking<'_, F>,
     ) -> Result<String, Fault> {
         let position = call.position("/position")?;
-        let with_definition = call
-            .at("/context/includeDeclaration")
-            .and_then(Value::as_bool)
-            .unwrap_or(false);
+        let with_definition = is_able(call, "/context/includeDeclaration");
         if let Some(json) = asking.label_references(position, with_definition)? {
             return Ok(json);
         }
-        let Some(anchor) = asking.heading_anchor(position)? else {
+        let read = asking.read()?;
+        let page = asking.page()?;
+        let number = asking.heading_at(&read, &page, read.lined.byte(position))?;
+        let Some(heading) = number.and_then(|number| page.anchors.get(number)) else {
             return Ok(String::from_str(self.alloc, "null")?);
         };
-        let mut json = String::from_str(self.alloc, "[")?;
-        let target = asking.gathering.place.path.as_str();
-        let uris = self.documents.uris()?;
-        for uri in &uris {
-            let text = self.documents.text(*uri)?;
-            let place = Place::of(self.alloc, self.root.as_str(), *uri)?;
-            let other = self.asking(files, &place, *uri, text);
-            other.add_links_to(&mut json, target, anchor.as_str())?;
-        }
-        json.push(']')?;
-        Ok(json)
+        let place = asking.gathering.place;
+        let workspace = self.workspace(files);
+        Ok(workspace.links_to(place, &page, heading.name.as_str())?)
     }
 
     /// Takes what a client can do and sets, and says what the server can do.
@@ -423,10 +500,19 @@ impl Server {
             Encoding::Utf8 => "utf-8",
             Encoding::Utf16 => "utf-16",
         };
+        let renames = if is_able(call, "/capabilities/textDocument/rename/prepareSupport") {
+            "{\"prepareProvider\":true}"
+        } else {
+            "true"
+        };
         let answer = format!(in self.alloc;
-            "{{\"capabilities\":{{\"positionEncoding\":\"{name}\",{ABILITIES}}},\"serverInfo\":{{\"name\":\"tocmark-lsp\",\"version\":\"0.1.0\"}}}}"
+            "{{\"capabilities\":{{\"positionEncoding\":\"{name}\",\"renameProvider\":{renames},{ABILITIES}}},\"serverInfo\":{{\"name\":\"tocmark-lsp\",\"version\":\"0.1.0\"}}}}"
         )?;
         self.root = root_of(self.alloc, call)?;
+        self.is_versioned = is_able(
+            call,
+            "/capabilities/workspace/workspaceEdit/documentChanges",
+        );
         self.settings = settings;
         self.encoding = encoding;
         self.phase = Phase::Running;

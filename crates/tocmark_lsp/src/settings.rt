@@ -30,7 +30,7 @@ const WRAPS: [(&str, Wrap); 3] = [
     ("sentence", Wrap::Sentence),
 ];
 
-/// What a name stands for.
+/// The value of a name in a table.
 pub(crate) fn named<T: Copy>(table: &[(&str, T)], name: &str) -> Option<T> {
     for (known, value) in table {
         if *known == name {

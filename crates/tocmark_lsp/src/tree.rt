@@ -3,6 +3,7 @@
 use crate::documents::Documents;
 use std::alloc::{AllocError, Global};
 use tocmark_event::event::ParserOptions;
+use tocmark_files::names::is_markdown;
 use tocmark_links::destination::{decoded, encoded, is_local, parts};
 use tocmark_links::page::Page;
 use tocmark_links::paths::{folder_and_name, resolved};
@@ -16,10 +17,11 @@ pub trait Files {
 
     /// The text of a file. `None`: it can't be read as text, or is too long.
     fn text(&self, path: &str) -> Option<String>;
-}
 
-/// What the names of Markdown files end with.
-const ENDINGS: [&str; 4] = [".md", ".markdown", ".mdown", ".mkd"];
+    /// The paths of the Markdown files below a folder, from that folder on. Folders that can't be read have none. It fails if
+    /// memory runs out.
+    fn pages(&self, folder: &str) -> Result<Vec<String>, AllocError>;
+}
 
 /// What is after a link's path in the path of a page that it can lead to.
 const FORMS: [&str; 4] = ["", ".md", "/README.md", "/index.md"];
@@ -34,7 +36,7 @@ pub(crate) struct Terms {
 /// Where a document is: the root of its tree, and its path from there on.
 #[derive(Drop)]
 pub(crate) struct Place {
-    root: String,
+    pub(crate) root: String,
     pub(crate) path: String,
 }
 
@@ -97,22 +99,12 @@ impl Place {
         documents: &Documents,
         path: &str,
     ) -> Result<Option<String>, AllocError> {
-        let uri = self.uri(alloc, path)?;
-        if let Some(text) = documents.get(uri.as_str()) {
-            return Ok(Some(String::from_str(alloc, text)?));
+        let full = self.full(alloc, path)?;
+        if let Some(document) = documents.at(full.as_str()) {
+            return Ok(Some(document.text.clone()?));
         }
-        Ok(files.text(self.full(alloc, path)?.as_str()))
+        Ok(files.text(full.as_str()))
     }
-}
-
-/// Whether a path is that of a Markdown file.
-fn is_page(path: &str) -> bool {
-    for ending in &ENDINGS {
-        if path.ends_with(*ending) {
-            return true;
-        }
-    }
-    false
 }
 
 /// A link's path without what sites write in place of `.md`.
@@ -141,7 +133,7 @@ impl<F: Files> Gathering<'_, F> {
         if !self.files.has(full.as_str()) {
             return Ok(());
         }
-        if !is_page(path) {
+        if !is_markdown(path) {
             return tree.add(path, None);
         }
         let text = self

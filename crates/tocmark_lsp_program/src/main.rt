@@ -1,6 +1,9 @@
 //! `tocmark-lsp`: a language server for Markdown over standard input and output.
 #![tactic(auto)]
 
+mod walk;
+
+use crate::walk::pages_below;
 use clap::Command;
 use std::alloc::{AllocError, Global};
 use std::io::BufReader;
@@ -67,6 +70,10 @@ impl Files for HostFiles<'_> {
             return None;
         }
         fs::read_to_string(self.0, path).ok()
+    }
+
+    fn pages(&self, folder: &str) -> Result<Vec<String>, AllocError> {
+        pages_below(self.0, folder)
     }
 }
 
