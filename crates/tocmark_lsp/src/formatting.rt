@@ -2,13 +2,13 @@
 
 use crate::edits::edits_json;
 use crate::message::{Code, Fault, range_in};
-use crate::settings::Settings;
 use serde_json::Value;
 use std::alloc::{AllocError, Global};
-use tocmark_format::{Ends, Formatted, Lines, StyledLines, formatted_lines};
+use tocmark_format::{Formatted, Lines, StyledLines, formatted_lines};
 use tocmark_lsp_text::edits::line_edits;
 use tocmark_lsp_text::positions::Encoding;
 use tocmark_reader::{ExtendedReader, Names};
+use tocmark_settings::Settings;
 
 /// What reads texts.
 pub(crate) const READER: ExtendedReader = ExtendedReader { names: Names::All };
@@ -23,9 +23,10 @@ pub(crate) fn formatted_as(
     let asked = StyledLines {
         style: settings.style,
         lines,
-        ends: Ends::new(),
+        ends: settings.ends,
     };
-    formatted_lines(alloc, text, &READER, settings.flags, asked, &[])
+    let also = settings.also.flags(alloc)?;
+    formatted_lines(alloc, text, &READER, settings.flags, asked, &also)
 }
 
 /// The edits that format a text, as JSON: the blocks that these lines touch, or all.

@@ -2,6 +2,7 @@
 
 use crate::checking::{mendings, problems};
 use crate::completion::completions;
+use crate::configured::{Configured, Lookup, Unknown};
 use crate::documents::{Document, Documents};
 use crate::formatting;
 use crate::headings::{prepared, renamed};
@@ -12,12 +13,13 @@ use crate::message::{
 };
 use crate::moves::moves_in;
 use crate::outline::{folding, headings, symbols};
-use crate::settings::{Settings, named};
+use crate::settings::Settings;
 use crate::tree::{Files, Gathering, Place, Terms, path_in};
 use crate::workspace::Workspace;
 use serde_json::Value;
 use std::alloc::{AllocError, Global};
 use tocmark_lsp_text::positions::Encoding;
+use tocmark_settings::named;
 
 /// What is to be done after a message.
 #[derive(Clone, Copy, Drop)]
@@ -284,7 +286,9 @@ impl Server {
             return Ok(String::from_str(self.alloc, "[]")?);
         }
         let place = Place::of(self.alloc, self.root.as_str(), uri)?;
-        Ok(problems(&self.asking(files, &place, document), self.settings)?)
+        let configured = self.configured(files, uri);
+        let asking = self.asking(files, &place, document, self.terms_by(&configured));
+        Ok(problems(&asking, &configured)?)
     }
 
     /// The message that says what is wrong in a text.
@@ -346,20 +350,20 @@ impl Server {
         self.list_for(files, request)?;
         if let Request::WillRename = request {
             let moves = moves_in(self.alloc, self.root.as_str(), call)?;
-            return self.workspace(files).moved(moves);
+            return self.workspace(files, self.terms()).moved(moves);
         }
         self.answer_about_text(files, request, call)
     }
 
     /// What finds the pages of the workspace.
-    fn workspace<'a, F: Files>(&'a self, files: &'a F) -> Workspace<'a, F> {
+    fn workspace<'a, F: Files>(&'a self, files: &'a F, terms: Terms) -> Workspace<'a, F> {
         Workspace {
             alloc: self.alloc,
             files,
             documents: &self.documents,
             root: self.root.as_str(),
             listed: &self.listed,
-            terms: self.terms(),
+            terms,
             encoding: self.encoding,
             is_versioned: self.is_versioned,
         }
@@ -371,6 +375,7 @@ impl Server {
         files: &'a F,
         place: &'a Place,
         document: &'a Document,
+        terms: Terms,
     ) -> Asking<'a, F> {
         Asking {
             gathering: Gathering {
@@ -378,7 +383,7 @@ impl Server {
                 files,
                 documents: &self.documents,
                 place,
-                terms: self.terms(),
+                terms,
             },
             uri: document.uri.as_str(),
             text: document.text.as_str(),
@@ -387,11 +392,61 @@ impl Server {
         }
     }
 
+    /// How texts are read that have no configuration.
     fn terms(&self) -> Terms {
         Terms {
-            flags: self.settings.flags,
+            flags: self.settings.format.flags,
             slugs: self.settings.slugs,
         }
+    }
+
+    /// How a document is read, by its configuration if that is right.
+    fn terms_by(&self, configured: &Result<Configured, Unknown>) -> Terms {
+        match configured {
+            Ok(configured) => Terms {
+                flags: configured.settings.flags,
+                slugs: self.settings.slugs,
+            },
+            Err(_) => self.terms(),
+        }
+    }
+
+    /// The settings of the document with a URI.
+    fn configured<F: Files>(&self, files: &F, uri: &str) -> Result<Configured, Unknown> {
+        let lookup = Lookup {
+            alloc: self.alloc,
+            files,
+        };
+        let settings = self.settings.format;
+        match path_in(self.alloc, uri)? {
+            Some(path) => lookup.settings_of(path.as_str(), settings),
+            None => Ok(Configured {
+                settings,
+                is_excluded: false,
+            }),
+        }
+    }
+
+    /// The edits that format a text, or the blocks that a range touches. A text that isn't to be formatted stays.
+    fn format(
+        &self,
+        request: Request,
+        call: Call<'_>,
+        text: &str,
+        configured: Result<Configured, Unknown>,
+    ) -> Result<String, Fault> {
+        let Configured {
+            settings,
+            is_excluded,
+        } = configured?;
+        if is_excluded {
+            return Ok(String::from_str(self.alloc, "[]")?);
+        }
+        let (alloc, encoding) = (self.alloc, self.encoding);
+        if let Request::RangeFormatting = request {
+            return formatting::part(alloc, encoding, settings, text, call.at("/range"));
+        }
+        formatting::whole(alloc, encoding, settings, text)
     }
 
     /// The result of a request about an open text.
@@ -404,28 +459,33 @@ impl Server {
         let uri = call.uri()?;
         let document = self.documents.document(uri)?;
         let text = document.text.as_str();
-        let (alloc, encoding, settings) = (self.alloc, self.encoding, self.settings);
+        let configured = self.configured(files, uri);
+        let terms = self.terms_by(&configured);
         match request {
-            Request::Formatting => formatting::whole(alloc, encoding, settings, text),
-            Request::RangeFormatting => {
-                formatting::part(alloc, encoding, settings, text, call.at("/range"))
+            Request::Formatting | Request::RangeFormatting => {
+                self.format(request, call, text, configured)
             }
-            Request::Symbols | Request::Folding => self.answer_about_blocks(request, text),
+            Request::Symbols | Request::Folding => self.answer_about_blocks(request, text, terms),
             Request::Text => {
                 let text = JsonText(text);
-                Ok(format!(in alloc; "{text}")?)
+                Ok(format!(in self.alloc; "{text}")?)
             }
             _ => {
-                let place = Place::of(alloc, self.root.as_str(), uri)?;
-                let asking = self.asking(files, &place, document);
+                let place = Place::of(self.alloc, self.root.as_str(), uri)?;
+                let asking = self.asking(files, &place, document, terms);
                 self.answer_about_links(files, request, call, &asking)
             }
         }
     }
 
     /// The result of a request about the blocks of a text.
-    fn answer_about_blocks(&self, request: Request, text: &str) -> Result<String, Fault> {
-        let read = Read::of(self.alloc, text, self.encoding, self.terms())?;
+    fn answer_about_blocks(
+        &self,
+        request: Request,
+        text: &str,
+        terms: Terms,
+    ) -> Result<String, Fault> {
+        let read = Read::of(self.alloc, text, self.encoding, terms)?;
         let found = headings(self.alloc, text, &read.reading)?;
         if let Request::Symbols = request {
             return Ok(symbols(self.alloc, &read.lined, &found)?);
@@ -456,11 +516,13 @@ impl Server {
             Request::Rename => {
                 let position = call.position("/position")?;
                 let name = call.text("/newName")?;
-                renamed(&self.workspace(files), asking, position, name)
+                let workspace = self.workspace(files, asking.gathering.terms);
+                renamed(&workspace, asking, position, name)
             }
             Request::Completion => {
                 let position = call.position("/position")?;
-                Ok(completions(&self.workspace(files), asking, position)?)
+                let workspace = self.workspace(files, asking.gathering.terms);
+                Ok(completions(&workspace, asking, position)?)
             }
             _ => Err(Fault::Refused(Code::Method, "no such request is known")),
         }
@@ -485,7 +547,7 @@ impl Server {
             return Ok(String::from_str(self.alloc, "null")?);
         };
         let place = asking.gathering.place;
-        let workspace = self.workspace(files);
+        let workspace = self.workspace(files, asking.gathering.terms);
         Ok(workspace.links_to(place, &page, heading.name.as_str())?)
     }
 
@@ -493,7 +555,7 @@ impl Server {
     fn initialize(&mut self, call: Call<'_>) -> Result<String, Fault> {
         let settings = match call.at("/initializationOptions") {
             None | Some(Value::Null) => Settings::new(),
-            Some(options) => Settings::of(options)?,
+            Some(options) => Settings::of(self.alloc, options)?,
         };
         let encoding = encoding_of(call);
         let name = match encoding {

@@ -1,18 +1,17 @@
-//! What a client sets when it starts the server: the kind of Markdown, and where lines break.
+//! What a client sets when it starts the server: the kind of Markdown, where lines break, and how headings get their anchors.
 
 use crate::message::{Code, Fault};
 use serde_json::Value;
-use tocmark_command::syntax::{extended, syntax_named};
-use tocmark_event::event::ParserOptions;
+use std::alloc::{AllocError, Global};
 use tocmark_links::slug::Slugs;
-use tocmark_print::{Style, Wrap};
-use tocmark_reader::GFM;
+use tocmark_settings::{Key, named, set};
 
-/// How texts are read, and how they are to look.
+/// What a client sets.
 #[derive(Clone, Copy)]
 pub(crate) struct Settings {
-    pub(crate) flags: ParserOptions,
-    pub(crate) style: Style,
+    /// How a document is read and is to look, if it has no `.tocmark.toml`.
+    pub(crate) format: tocmark_settings::Settings,
+    /// How headings get their anchors.
     pub(crate) slugs: Slugs,
 }
 
@@ -23,62 +22,27 @@ const RULES: [(&str, Slugs); 3] = [
     ("python", Slugs::Python),
 ];
 
-/// Where lines break, by the names of that.
-const WRAPS: [(&str, Wrap); 3] = [
-    ("keep", Wrap::Keep),
-    ("no", Wrap::No),
-    ("sentence", Wrap::Sentence),
-];
-
-/// The value of a name in a table.
-pub(crate) fn named<T: Copy>(table: &[(&str, T)], name: &str) -> Option<T> {
-    for (known, value) in table {
-        if *known == name {
-            return Some(*value);
-        }
-    }
-    None
-}
-
 /// What is said of a value that can't be set.
 fn wrong(why: &'static str) -> Fault {
     Fault::Refused(Code::Params, why)
 }
 
-/// The flags of a syntax.
-fn flags_of(value: &Value) -> Result<ParserOptions, Fault> {
-    match value.as_str().and_then(syntax_named) {
-        Some(flags) => Ok(flags),
-        None => Err(wrong("syntax wants commonmark, gfm or all")),
+/// The rule for anchors that a value names.
+fn slugs_of(value: &Value) -> Result<Slugs, Fault> {
+    match value.as_str().and_then(|name| named(&RULES, name)) {
+        Some(slugs) => Ok(slugs),
+        None => Err(wrong("slugs wants github, mdbook or python")),
     }
 }
 
-/// The flags with extensions, or without those that `no-` is before.
-fn with_extensions(flags: ParserOptions, value: &Value) -> Result<ParserOptions, Fault> {
-    let Some(names) = value.as_array() else {
-        return Err(wrong("extensions wants a list of names"));
-    };
-    let mut flags = flags;
-    for name in names {
-        let Some(name) = name.as_str() else {
-            return Err(wrong("extensions wants a list of names"));
-        };
-        let Some(more) = extended(flags, name) else {
-            return Err(wrong("extensions has a name that no extension has"));
-        };
-        flags = more;
-    }
-    Ok(flags)
-}
-
-/// Where lines break.
-fn wrap_of(value: &Value) -> Result<Wrap, Fault> {
-    if let Some(wrap) = value.as_str().and_then(|name| named(&WRAPS, name)) {
-        return Ok(wrap);
+/// The word that a value is: a text, or a number.
+fn word_of(alloc: Global, value: &Value) -> Result<Option<String>, AllocError> {
+    if let Some(word) = value.as_str() {
+        return Ok(Some(String::from_str(alloc, word)?));
     }
     match value.as_u64() {
-        Some(width) if width >= 1 && width <= 1000 => Ok(Wrap::At(width as usize)),
-        _ => Err(wrong("wrap wants keep, no, sentence or a number from 1 to 1000")),
+        Some(number) => Ok(Some(format!(in alloc; "{number}")?)),
+        None => Ok(None),
     }
 }
 
@@ -86,29 +50,57 @@ impl Settings {
     /// GFM with front matter, in the style that changes least, and with GitHub's anchors.
     pub(crate) fn new() -> Settings {
         Settings {
-            flags: GFM,
-            style: Style::new(),
+            format: tocmark_settings::Settings::new(),
             slugs: Slugs::GitHub,
         }
     }
 
+    /// Sets an option of formatting.
+    fn put(
+        &mut self,
+        alloc: Global,
+        key: Key,
+        value: &Value,
+        why: &'static str,
+    ) -> Result<(), Fault> {
+        match word_of(alloc, value)? {
+            Some(word) if set(&mut self.format, key, word.as_str()) => Ok(()),
+            _ => Err(wrong(why)),
+        }
+    }
+
+    /// Adds extensions, or takes away those that `no-` is before.
+    fn put_extensions(&mut self, alloc: Global, value: &Value) -> Result<(), Fault> {
+        let Some(names) = value.as_array() else {
+            return Err(wrong("extensions wants a list of names"));
+        };
+        for name in names {
+            let why = "extensions has a name that no extension has";
+            self.put(alloc, Key::Extension, name, why)?;
+        }
+        Ok(())
+    }
+
     /// The settings with what a client's options say.
-    pub(crate) fn of(options: &Value) -> Result<Settings, Fault> {
+    pub(crate) fn of(alloc: Global, options: &Value) -> Result<Settings, Fault> {
         let mut settings = Settings::new();
         if let Some(value) = options.get("syntax") {
-            settings.flags = flags_of(value)?;
+            settings.put(
+                alloc,
+                Key::Syntax,
+                value,
+                "syntax wants commonmark, gfm or all",
+            )?;
         }
         if let Some(value) = options.get("extensions") {
-            settings.flags = with_extensions(settings.flags, value)?;
+            settings.put_extensions(alloc, value)?;
         }
         if let Some(value) = options.get("wrap") {
-            settings.style.wrap = wrap_of(value)?;
+            let why = "wrap wants keep, no, sentence or a number from 1 to 1000";
+            settings.put(alloc, Key::Wrap, value, why)?;
         }
         if let Some(value) = options.get("slugs") {
-            match value.as_str().and_then(|name| named(&RULES, name)) {
-                Some(slugs) => settings.slugs = slugs,
-                None => return Err(wrong("slugs wants github, mdbook or python")),
-            }
+            settings.slugs = slugs_of(value)?;
         }
         Ok(settings)
     }

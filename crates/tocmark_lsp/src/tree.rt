@@ -4,6 +4,7 @@ use crate::documents::Documents;
 use std::alloc::{AllocError, Global};
 use tocmark_event::event::ParserOptions;
 use tocmark_files::names::is_markdown;
+use tocmark_files::trust::Distrust;
 use tocmark_links::destination::{decoded, encoded, is_local, parts};
 use tocmark_links::page::Page;
 use tocmark_links::paths::{folder_and_name, resolved};
@@ -17,6 +18,12 @@ pub trait Files {
 
     /// The text of a file. `None`: it can't be read as text, or is too long.
     fn text(&self, path: &str) -> Option<String>;
+
+    /// What a file has that says how documents are formatted. `Ok(None)`: it isn't there. `Err`: why it doesn't count.
+    fn setting(&self, path: &str) -> Result<Option<Vec<u8>>, Distrust>;
+
+    /// Whether a folder is on the file system of the one in it, and belongs to the caller or to root.
+    fn is_near(&self, folder: &str, above: &str) -> bool;
 
     /// The paths of the Markdown files below a folder, from that folder on. Folders that can't be read have none. It fails if
     /// memory runs out.

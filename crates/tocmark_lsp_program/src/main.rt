@@ -11,6 +11,7 @@ use std::process::ExitCode;
 use std::{fmt, fs, io};
 use tocmark_command::options::{CommandOption, Takes, with_options};
 use tocmark_command::program::{Program, words_of};
+use tocmark_files::trust::{Caller, Distrust};
 use tocmark_lsp::{Files, Next, Server};
 use tocmark_lsp_text::frames::{FrameError, read_message, write_message};
 
@@ -57,30 +58,45 @@ impl fmt::Display for Fault {
 
 /// The files of the host.
 #[derive(Clone, Copy)]
-struct HostFiles<'r>(&'r HostRuntime);
+struct HostFiles<'r> {
+    rt: &'r HostRuntime,
+    caller: Caller,
+}
 
 impl Files for HostFiles<'_> {
     fn has(&self, path: &str) -> bool {
-        fs::exists(self.0, path).unwrap_or(false)
+        fs::exists(self.rt, path).unwrap_or(false)
     }
 
     fn text(&self, path: &str) -> Option<String> {
-        let found = fs::metadata(self.0, path).ok()?;
+        let found = fs::metadata(self.rt, path).ok()?;
         if !found.is_file() || found.len() > LONGEST_FILE {
             return None;
         }
-        fs::read_to_string(self.0, path).ok()
+        fs::read_to_string(self.rt, path).ok()
+    }
+
+    fn setting(&self, path: &str) -> Result<Option<Vec<u8>>, Distrust> {
+        self.caller.read(self.rt, path, true)
+    }
+
+    fn is_near(&self, folder: &str, above: &str) -> bool {
+        let above = if above.is_empty() { "/" } else { above };
+        self.caller.is_near(self.rt, folder, above)
     }
 
     fn pages(&self, folder: &str) -> Result<Vec<String>, AllocError> {
-        pages_below(self.0, folder)
+        pages_below(self.rt, folder)
     }
 }
 
 /// Answers messages until the client ends the server or the input ends, and returns the status.
 fn serve(rt: &HostRuntime) -> Result<u8, Fault> {
     let mut server = Server::new(rt.alloc());
-    let files = HostFiles(rt);
+    let files = HostFiles {
+        rt,
+        caller: Caller::new(rt),
+    };
     let mut output = rt.stdout();
     let Ok(mut input) = BufReader::new(rt.alloc(), rt.stdin()) else {
         return Err(Fault::OutOfMemory);
