@@ -178,7 +178,7 @@ joined-begins b path (part ∷ parts) = joined-begins b (path ++ (47 ∷ part)) 
 
 -- ---- the law
 
-start-root : (slash : Bool) → (if slash then Some [] else led []) ≡ Some []
+pub start-root : (slash : Bool) → (if slash then Some [] else led []) ≡ Some []
 start-root true = refl
 start-root false = refl
 
@@ -225,6 +225,17 @@ lands : (way : List (List ℕ)) (folder : List ℕ) (from to : List (List ℕ)) 
 lands [] folder from to e h f = lands-on 46 [] [] folder from to e (refl, tt) tt f
 lands ([] ∷ parts) folder from to e h f = absurd h
 lands ((b ∷ part) ∷ parts) folder from to e h f = lands-on b part parts folder from to e h.0 h.1 f
+
+front-of : (names : List (List ℕ)) → AllNames names → begins_at_root (joined names) ≡ false
+front-of [] h = refl
+front-of ([] ∷ names) h = absurd (true≢false h.0.1)
+front-of ((b ∷ part) ∷ names) h = joined-begins b part names ∙ h.0.2.0
+
+-- no place begins with a slash
+pub no-slash-in-front : (path : List ℕ) → IsPlace path → begins_at_root path ≡ false
+no-slash-in-front path h =
+    let f = placed path h in
+    ap begins_at_root (sym f.2) ∙ front-of f.0 (led-names [] (parts_of path) f.0 tt (parts-lack path) f.1)
 
 pub leads-back : (folder target : List ℕ) → IsPlace folder → IsPlace target → resolved folder (relative folder target) ≡ Some target
 leads-back folder target hf ht =

@@ -1,6 +1,9 @@
 pub mod Back
+pub mod Cutting
 pub mod Fronts
 pub mod Letters
+pub mod Moving
 pub mod Numbers
 pub mod Parts
+pub mod Renaming
 pub mod Splicing

@@ -1,8 +1,11 @@
 pub mod Anchors
 pub mod Changed
 pub mod Destinations
+pub mod Leading
+pub mod Naming
 pub mod Numbering
 pub mod Paths
 pub mod Places
+pub mod Renamed
 pub mod Slug
 pub mod Spliced

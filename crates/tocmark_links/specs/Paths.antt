@@ -1,7 +1,7 @@
 -- Paths as lists of parts: where a path leads from a folder, and the path from a folder to a place.
-use Rattle.std.specs.Prelude.{ℕ, suc, ◌-◌, ◌==◌, Bool, false, ◌||◌, List, [], ◌∷◌, ◌++◌, length, take, drop, map, Option, None, Some, unwrap_or, codes, ◌≡◌, if◌then◌else◌}
+use Rattle.std.specs.Prelude.{ℕ, suc, ◌-◌, ◌==◌, Bool, true, false, ◌||◌, List, [], ◌∷◌, ◌++◌, length, take, drop, map, Option, None, Some, unwrap_or, codes, ◌≡◌, if◌then◌else◌}
 use Rattle.std.specs.List.{fold}
-use Rattle.std.specs.Option.{option_map}
+use Rattle.std.specs.Option.{option_map, option_or}
 use Rattle.std.specs.Str.{bytes_eq}
 
 -- a byte in front of the first part
@@ -92,3 +92,28 @@ relative folder target = joined (between (place folder) (place target))
 -- a path from the root without a slash in front, empty parts, `.` and `..`
 abbrev pub IsPlace : List ℕ → Type 0
 IsPlace path = resolved [] path ≡ Some path
+
+-- what is in front of the last slash of a path
+abbrev pub before_slash : List ℕ → Option (List ℕ)
+before_slash [] = None
+before_slash (b ∷ path) = option_or (option_map (λ front. b ∷ front) (before_slash path)) (if b == 47 then Some [] else None)
+
+-- the folder that a path is in
+abbrev pub folder_of : List ℕ → List ℕ
+folder_of path = unwrap_or (before_slash path) []
+
+-- nothing, or a slash and more
+abbrev pub is_tail : List ℕ → Bool
+is_tail [] = true
+is_tail (b ∷ path) = b == 47
+
+-- what is left of a path after a folder; None if the path isn't in the folder
+abbrev pub below : List ℕ → List ℕ → Option (List ℕ)
+below [] path = if is_tail path then Some path else None
+below (a ∷ folder) [] = None
+below (a ∷ folder) (b ∷ path) = if a == b then below folder path else None
+
+-- what is in front of an ending of a path
+abbrev pub before : List ℕ → List ℕ → Option (List ℕ)
+before path ending =
+    if bytes_eq (drop (length path - length ending) path) ending then Some (take (length path - length ending) path) else None

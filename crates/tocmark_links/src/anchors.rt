@@ -79,7 +79,8 @@ fn first_free(
     base: &str,
     from: usize,
 ) -> Result<(usize, String), AllocError>
-    ensures { IfOk result (λ found. IsFirstFrom slugs taken.now base.now from found.0 (string_bytes found.1)) }
+    ensures { IfOk result (λ found.
+        IsFirstFrom slugs taken.now base.now from found.0 (string_bytes found.1)) }
 {
     for number in from..usize::MAX {
         let name = numbered(alloc, slugs, base, number)?;

@@ -1,7 +1,8 @@
 //! The parts of a destination: path, query and anchor.
 
-ghost use Rattle.std.specs.Prelude.{◌≡◌, IfOk, string_bytes};
-ghost use Rattle.tocmark_links.specs.Destinations.{decoded};
+ghost use Rattle.std.specs.Prelude.{◌≡◌, ◌<◌, All, IfOk, string_bytes};
+ghost use Rattle.percent_encoding.specs.Percent.{percent_decode};
+ghost use Rattle.tocmark_links.specs.Destinations.{IsPlain, decoded, ends_scheme, has_host, has_scheme, is_local, is_scheme_byte, path_of, until};
 
 use percent_encoding::{
     AsciiSet, NON_ALPHANUMERIC, ascii_set, percent_decode, utf8_percent_encode,
@@ -19,16 +20,28 @@ pub struct Destination<'d> {
     pub anchor: &'d str,
 }
 
-/// Cuts a text before the first such character.
-fn cut(text: &str, mark: char) -> (&str, &str) {
-    match text.find(mark) {
-        None => (text, ""),
-        Some(at) => (text.get(..at).unwrap_or(text), text.get(at..).unwrap_or("")),
+/// What is in front of the first such character of a text; all of it if there is none.
+fn until(text: &str, mark: char) -> &str
+    ensures { mark < 128 → result.now ≡ until mark text.now }
+{
+    match text.split_once(mark) {
+        None => text,
+        Some(parts) => parts.0,
     }
 }
 
+/// What is in front of the first such character of a text, and the rest from it on.
+fn cut(text: &str, mark: char) -> (&str, &str)
+    ensures { mark < 128 → result.0.now ≡ until mark text.now }
+{
+    let front = until(text, mark);
+    (front, text.get(front.len()..).unwrap_or(""))
+}
+
 /// The parts of a destination.
-pub fn parts(destination: &str) -> Destination<'_> {
+pub fn parts(destination: &str) -> Destination<'_>
+    ensures { result.path.now ≡ path_of destination.now }
+{
     let (front, anchor) = cut(destination, '#');
     let (path, query) = cut(front, '?');
     Destination {
@@ -38,21 +51,56 @@ pub fn parts(destination: &str) -> Destination<'_> {
     }
 }
 
+/// Whether a byte can be in the name of a scheme.
+fn is_scheme_byte(byte: u8) -> bool
+    ensures { result ≡ is_scheme_byte byte }
+{
+    byte.is_ascii_alphanumeric() || byte == b'+' || byte == b'-' || byte == b'.'
+}
+
+/// Whether the rest of a scheme's name is here, and a colon after it.
+fn ends_scheme(bytes: &[u8]) -> bool
+    ensures { result ≡ ends_scheme bytes.now }
+{
+    for byte in bytes {
+        if !is_scheme_byte(*byte) {
+            return *byte == b':';
+        }
+    }
+    false
+}
+
 /// Whether a destination begins with the name of a scheme and a colon, as `https:` does.
-fn has_scheme(destination: &str) -> bool {
-    let Some((name, _)) = destination.split_once(':') else {
-        return false;
-    };
-    name.starts_with(|c: char| c.is_ascii_alphabetic())
-        && name.bytes().all(|b| b.is_ascii_alphanumeric() || b == b'+' || b == b'.' || b == b'-')
+fn has_scheme(destination: &str) -> bool
+    ensures { result ≡ has_scheme destination.now }
+{
+    match destination.as_bytes().split_first() {
+        None => false,
+        Some((first, rest)) => first.is_ascii_alphabetic() && ends_scheme(rest),
+    }
+}
+
+/// Whether a destination begins with two slashes, which are in front of a host.
+fn has_host(destination: &str) -> bool
+    ensures { result ≡ has_host destination.now }
+{
+    match destination.as_bytes().split_first() {
+        None => false,
+        Some((first, rest)) => *first == b'/' && rest.first().copied() == Some(b'/'),
+    }
 }
 
 /// Whether a destination leads to a file: it isn't empty, and names no scheme and no host.
-pub fn is_local(destination: &str) -> bool {
-    !destination.is_empty() && !destination.starts_with("//") && !has_scheme(destination)
+pub fn is_local(destination: &str) -> bool
+    ensures { result ≡ is_local destination.now }
+{
+    if destination.is_empty() {
+        return false;
+    }
+    !has_host(destination) && !has_scheme(destination)
 }
 
-/// A text with the bytes that percent signs stand for; U+FFFD for each sequence of them that is no UTF-8.
+/// A text whose percent signs are decoded, with U+FFFD for each sequence of bytes that is no UTF-8.
 pub fn decoded(alloc: Global, text: &str) -> Result<String, AllocError>
     ensures { IfOk result (λ plain. string_bytes plain ≡ decoded text.now) }
 {
@@ -82,9 +130,10 @@ const ESCAPED_IN_PATHS: AsciiSet = ascii_set!(
         .remove(b'_')
 );
 
-/// A path with percent signs for all bytes but letters, numbers and `/~!$&'*+,;=:@-._`: it stands for this one.
+/// A path with percent signs for all bytes but letters, numbers and `/~!$&'*+,;=:@-._`. Decoding it gives the path.
 pub fn encoded(alloc: Global, path: &str) -> Result<String, AllocError>
-    ensures { IfOk result (λ text. decoded (string_bytes text) ≡ path.now) }
+    ensures path { IfOk result (λ text. percent_decode (string_bytes text) ≡ path.now) }
+    ensures plain { IfOk result (λ text. All IsPlain (string_bytes text)) }
 {
     let mut text = String::new(alloc);
     utf8_percent_encode(path, ESCAPED_IN_PATHS).append_to(&mut text)?;

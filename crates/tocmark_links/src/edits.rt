@@ -19,8 +19,10 @@ pub(crate) fn spliced(
     text: &str,
     edits: &[Edit],
 ) -> Result<Option<String>, AllocError>
-    ensures apart { IfOk result (λ new. IfSome new (λ new. AreApart 0 (length text.now) edits.now)) }
-    ensures bytes { IfOk result (λ new. IfSome new (λ new. string_bytes new ≡ spliced text.now edits.now)) }
+    ensures apart { IfOk result (λ new. IfSome new (λ new.
+        AreApart 0 (length text.now) edits.now)) }
+    ensures bytes { IfOk result (λ new. IfSome new (λ new.
+        string_bytes new ≡ spliced text.now edits.now)) }
 {
     let mut new = String::new(alloc);
     let mut at = 0;

@@ -1,49 +1,25 @@
 //! Which destination a link needs after a file or a folder has moved.
 
-ghost use Rattle.std.specs.Prelude.{IfNone, IfOk, IfSome, IsTrue, string_bytes};
-ghost use Rattle.tocmark_links.specs.Destinations.{LeadsTo};
-ghost use Rattle.tocmark_links.specs.Paths.{IsPlace};
+ghost use Rattle.std.specs.Prelude.{◌≡◌, ℕ, List, IfOk, IfSome, IsTrue, None, Some, string_bytes};
+ghost use Rattle.std.specs.Option.{option_map};
+ghost use Rattle.tocmark_links.specs.Destinations.{IsFollowed, IsRest};
+ghost use Rattle.tocmark_links.specs.Leading.{Follows, LeadsAfter, NamesItself, after, led_to, new_or};
+ghost use Rattle.tocmark_links.specs.Naming.{kind_at, kind_in};
+ghost use Rattle.tocmark_links.specs.declared.tree.Kind.{Kind};
 
 use crate::destination::{decoded, encoded, is_local, parts};
+use crate::moves::Moves;
 use crate::paths::{folder_and_name, relative, resolved};
 use crate::tree::{Form, Tree};
 use std::alloc::{AllocError, Global};
-
-/// A move of a file, or of a folder with all that is in it.
-#[derive(Drop)]
-pub struct Moves {
-    pub old: String,
-    pub new: String,
-}
-
-impl Moves {
-    /// A move from one path to another.
-    pub fn new(alloc: Global, old: &str, new: &str) -> Result<Moves, AllocError> {
-        Ok(Moves {
-            old: String::from_str(alloc, old)?,
-            new: String::from_str(alloc, new)?,
-        })
-    }
-
-    /// Where a file or folder is after the move.
-    pub fn place_of(&self, alloc: Global, path: &str) -> Result<String, AllocError> {
-        match path.strip_prefix(self.old.as_str()) {
-            Some(rest) if rest.is_empty() || rest.starts_with('/') => {
-                let new = self.new.as_str();
-                format!(in alloc; "{new}{rest}")
-            }
-            _ => String::from_str(alloc, path),
-        }
-    }
-}
 
 /// Whether a page is that of its folder, by its name.
 fn is_index(name: &str) -> bool {
     name == "README.md" || name == "index.md"
 }
 
-/// A path of the form that another path had: the page that it names, as `.html`, without its ending, or as its folder. A page that
-/// isn't that of its folder any more is named itself.
+/// A path of the form that another path had: the page that it names, as `.html`, without its ending, or as its folder. A page
+/// that isn't that of its folder any more is named itself.
 fn in_form(alloc: Global, path: &str, form: Form) -> Result<String, AllocError> {
     let (folder, name) = folder_and_name(path);
     let stem = path.strip_suffix(".md");
@@ -90,89 +66,169 @@ fn spelled(alloc: Global, old: &str, folder: &str, target: &str) -> Result<Strin
     Ok(path)
 }
 
-/// The file or folder that a link of a page leads to, whatever its anchor, and how the link names it; `None` if there is none.
+/// What is after the path of a destination: its query and anchor.
+fn rest_of(destination: &str) -> &str
+    ensures { IsRest result.now }
+{
+    match destination.get(parts(destination).path.len()..) {
+        None => "",
+        Some(rest) => rest,
+    }
+}
+
+/// A destination with another path, and its own query and anchor.
+fn with_path(alloc: Global, destination: &str, path: &str) -> Result<String, AllocError>
+    ensures { IfOk result (λ new. IsFollowed path.now (string_bytes new)) }
+{
+    let mut new = String::from_str(alloc, path)?;
+    new.push_str(rest_of(destination))?;
+    Ok(new)
+}
+
+/// A destination that leads to a place from every page: the path from the root, with percent signs, and the query and anchor of
+/// another destination.
+fn from_root(alloc: Global, destination: &str, place: &str) -> Result<String, AllocError>
+    ensures { IfOk result (λ new. (kinds : List ℕ → Kind) (from : List ℕ)
+        → NamesItself kinds place.now → led_to kinds from (string_bytes new) ≡ Some place.now) }
+{
+    let text = encoded(alloc, place)?;
+    let path = format!(in alloc; "/{text}")?;
+    with_path(alloc, destination, path.as_str())
+}
+
+/// The file or folder that a destination leads to from a page, whatever its anchor, and how it names that; `None` if there is
+/// none. It is looked for in the tree, or in the tree after a move.
 fn target_of(
     alloc: Global,
     tree: &Tree,
+    moves: Option<&Moves>,
     from: &str,
-    path: &str,
-) -> Result<Option<(String, Form)>, AllocError> {
+    destination: &str,
+) -> Result<Option<(String, Form)>, AllocError>
+    ensures { IfOk result (λ found. option_map (λ f. string_bytes f.0) found
+        ≡ led_to (kind_in tree.now moves.entry) from.now destination.now) }
+{
+    if !is_local(destination) {
+        return Ok(None);
+    }
+    let path = parts(destination).path;
+    if path.is_empty() {
+        return Ok(Some((String::from_str(alloc, from)?, Form::Exact)));
+    }
     let written = decoded(alloc, path)?;
     match resolved(alloc, folder_and_name(from).0, written.as_str())? {
         None => Ok(None),
-        Some(place) => tree.named(place.as_str()),
+        Some(place) => tree.named(moves, place.as_str()),
     }
 }
 
-/// Whether a path leads from a folder to a place.
-fn leads_to(alloc: Global, folder: &str, path: &str, place: &str) -> Result<bool, AllocError>
-    ensures only { IfOk result (λ leads. IsTrue leads → LeadsTo folder.now path.now place.now) }
-    ensures always { IfOk result (λ leads. LeadsTo folder.now path.now place.now → IsTrue leads) }
-{
-    let written = decoded(alloc, path)?;
-    match resolved(alloc, folder, written.as_str())? {
-        None => Ok(false),
-        Some(found) => Ok(found.as_str() == place),
-    }
-}
-
-/// The path that a page in a folder needs to lead to a place, in place of its old path; `None` if that leads there.
-///
-/// It is spelled as the old one: relative or from the root, with `./` in front, a slash at the end, and percent signs, if the
-/// old one has them. If that doesn't lead there, it is the path from the root with percent signs, which does.
-pub fn path_to(
+/// A move of a page's link: the tree before the move, the page's new path, and the new place of what the link led to.
+#[derive(Clone, Copy)]
+struct Trip<'t> {
     alloc: Global,
-    old: &str,
-    folder: &str,
-    place: &str,
-) -> Result<Option<String>, AllocError>
-    ensures leads { IfOk result (λ path. IfSome path (λ path.
-        LeadsTo folder.now (string_bytes path) place.now)) }
-    ensures stays { IfOk result (λ path. IfNone path (IsPlace place.now
-        → LeadsTo folder.now old.now place.now)) }
-{
-    if leads_to(alloc, folder, old, place)? {
-        return Ok(None);
+    tree: &'t Tree,
+    moves: &'t Moves,
+    home: &'t str,
+    place: &'t str,
+}
+
+impl Trip<'_> {
+    /// Whether a destination leads to the place after the move.
+    fn leads(&self, destination: &str) -> Result<bool, AllocError>
+        ensures only { IfOk result (λ leads. IsTrue leads
+            → LeadsAfter self.now.tree.now self.now.moves.now
+            self.now.home.now destination.now self.now.place.now) }
+        ensures always { IfOk result (λ leads.
+            LeadsAfter self.now.tree.now self.now.moves.now
+            self.now.home.now destination.now self.now.place.now → IsTrue leads) }
+    {
+        match target_of(
+            self.alloc,
+            self.tree,
+            Some(self.moves),
+            self.home,
+            destination,
+        )? {
+            None => Ok(false),
+            Some((found, _form)) => Ok(found.as_str() == self.place),
+        }
     }
-    let path = spelled(alloc, old, folder, place)?;
-    if leads_to(alloc, folder, path.as_str(), place)? {
-        return Ok(Some(path));
+
+    /// The destination by a path to a target, spelled as the old one, if it leads to the place.
+    fn by(&self, old: &str, target: &str) -> Result<Option<String>, AllocError>
+        ensures { IfOk result (λ new. IfSome new (λ new.
+            LeadsAfter self.now.tree.now self.now.moves.now
+            self.now.home.now (string_bytes new) self.now.place.now)) }
+    {
+        let folder = folder_and_name(self.home).0;
+        let path = spelled(self.alloc, parts(old).path, folder, target)?;
+        let new = with_path(self.alloc, old, path.as_str())?;
+        if self.leads(new.as_str())? {
+            Ok(Some(new))
+        } else {
+            Ok(None)
+        }
     }
-    let path = encoded(alloc, format!(in alloc; "/{place}")?.as_str())?;
-    if leads_to(alloc, folder, path.as_str(), place)? {
-        return Ok(Some(path));
+
+    /// The destination by which the link leads to the place, in place of its old one; `None` if that leads there.
+    ///
+    /// It is spelled as the old one, and names the place in this form or by its path. If neither leads there, it is the path from
+    /// the root with percent signs; `None` if not even that does.
+    fn destination(&self, old: &str, form: Form) -> Result<Option<String>, AllocError>
+        ensures { IfOk result (λ new.
+            NamesItself (after self.now.tree.now self.now.moves.now) self.now.place.now
+            → LeadsAfter self.now.tree.now self.now.moves.now
+            self.now.home.now (new_or new old.now) self.now.place.now) }
+    {
+        if self.leads(old)? {
+            return Ok(None);
+        }
+        let target = in_form(self.alloc, self.place, form)?;
+        if let Some(new) = self.by(old, target.as_str())? {
+            return Ok(Some(new));
+        }
+        if let Some(new) = self.by(old, self.place)? {
+            return Ok(Some(new));
+        }
+        let new = from_root(self.alloc, old, self.place)?;
+        if self.leads(new.as_str())? {
+            Ok(Some(new))
+        } else {
+            Ok(None)
+        }
     }
-    Ok(None)
 }
 
 /// The destination that a link of a page needs after a move; `None` if it stays as it is.
 ///
 /// `tree` is the tree before the move, and `from` the page's path before it. A link that led to a file or folder leads to its
-/// new place. It stays as it is if it leads there from the page's new place, if it led nowhere or out of the root, or if it is
-/// not local. The new path is relative or begins at the root as the old one did, names the page in the same form, and keeps
-/// `./`, a slash at the end, percent signs, query and anchor.
+/// new place, if the path of that names it after the move. It stays as it is if it leads there from the page's new place, if it
+/// led nowhere or out of the root, or if it is not local.
+///
+/// The new path is relative or begins at the root as the old one did, names the page in the same form, and keeps `./`, a slash
+/// at the end, percent signs, query and anchor. If a path of that form leads elsewhere, it is the path of the file itself.
 pub fn relocated(
     alloc: Global,
     tree: &Tree,
     moves: &Moves,
     from: &str,
     destination: &str,
-) -> Result<Option<String>, AllocError> {
-    let old = parts(destination);
-    if old.path.is_empty() || !is_local(destination) {
-        return Ok(None);
-    }
-    let Some((path, form)) = target_of(alloc, tree, from, old.path)? else {
+) -> Result<Option<String>, AllocError>
+    ensures leads { IfOk result (λ new. Follows tree.now moves.now from.now destination.now new) }
+    ensures stays { IfOk result (λ new.
+        led_to (kind_at tree.now) from.now destination.now ≡ None → new ≡ None) }
+{
+    let Some((path, form)) = target_of(alloc, tree, None, from, destination)? else {
         return Ok(None);
     };
     let home = moves.place_of(alloc, from)?;
-    let there = moves.place_of(alloc, path.as_str())?;
-    let target = in_form(alloc, there.as_str(), form)?;
-    let folder = folder_and_name(home.as_str()).0;
-    let Some(path) = path_to(alloc, old.path, folder, target.as_str())? else {
-        return Ok(None);
+    let place = moves.place_of(alloc, path.as_str())?;
+    let trip = Trip {
+        alloc,
+        tree,
+        moves,
+        home: home.as_str(),
+        place: place.as_str(),
     };
-    let query = old.query;
-    let anchor = old.anchor;
-    Ok(Some(format!(in alloc; "{path}{query}{anchor}")?))
+    trip.destination(destination, form)
 }

@@ -3,7 +3,7 @@
 ghost use Rattle.std.specs.Prelude.{◌≡◌, if◌then◌else◌, ◌++◌, drop, map, IfOk, IfSome, IfNone, OnOk, string_bytes, Some, None};
 ghost use Rattle.std.specs.Option.{option_map};
 ghost use Rattle.std.specs.List.{fold};
-ghost use Rattle.tocmark_links.specs.Paths.{parts_of, followed, joined, is_up, is_here, gone, begins_at_root, climbed, common, is_next, resolved, place, or_here, between, relative, IsPlace};
+ghost use Rattle.tocmark_links.specs.Paths.{parts_of, followed, joined, is_up, is_here, gone, begins_at_root, climbed, common, is_next, resolved, place, or_here, between, relative, folder_of, IsPlace};
 
 use std::alloc::{AllocError, Global};
 
@@ -22,7 +22,7 @@ fn parts_of<'p>(alloc: Global, path: &'p str) -> Result<Vec<&'p str>, AllocError
 }
 
 /// Adds a part to a path, after a slash if the path isn't empty.
-fn push_part(path: &mut String, part: &str) -> Result<(), AllocError>
+pub(crate) fn push_part(path: &mut String, part: &str) -> Result<(), AllocError>
     ensures { OnOk result (string_bytes path.new ≡ followed (string_bytes path.old) part.now) }
 {
     if !path.is_empty() {
@@ -218,7 +218,9 @@ pub fn relative_leads_back(folder: &str, target: &str)
 {}
 
 /// The folder that a path is in, and its name.
-pub fn folder_and_name(path: &str) -> (&str, &str) {
+pub fn folder_and_name(path: &str) -> (&str, &str)
+    ensures { result.0.now ≡ folder_of path.now }
+{
     match path.rsplit_once('/') {
         None => ("", path),
         Some(parts) => parts,

@@ -1,8 +1,14 @@
 //! A tree of files: which paths exist, which anchors their pages have, and where a link leads.
 
-use crate::destination::{decoded, is_local, parts};
+ghost use Rattle.std.specs.Prelude.{◌≡◌, ◌++◌, codes, IfOk, string_bytes};
+ghost use Rattle.std.specs.Option.{option_copied, option_map};
+ghost use Rattle.tocmark_links.specs.Naming.{folder_page, index_page, kind_at, kind_beside, kind_in, kind_of, named, page_at, site_page};
+ghost use Rattle.tocmark_links.specs.Paths.{before, followed};
+
+use crate::destination::{decoded, encoded, is_local, parts};
+use crate::moves::{Moves, below};
 use crate::page::Page;
-use crate::paths::{folder_and_name, resolved};
+use crate::paths::{folder_and_name, push_part, relative, resolved};
 use indexmap::{IndexMap, IndexSet};
 use std::alloc::{AllocError, Global};
 use strsim::levenshtein;
@@ -60,6 +66,35 @@ enum Entry {
     File,
     /// A page with its anchors.
     Page(IndexSet<String>),
+}
+
+/// What is at a path.
+#[derive(Clone, Copy)]
+pub enum Kind {
+    Nothing,
+    Folder,
+    /// A file that isn't Markdown, or wasn't read.
+    File,
+    Page,
+}
+
+impl Entry {
+    fn kind(&self) -> Kind
+        ensures { result ≡ kind_of self.now }
+    {
+        match self {
+            Entry::Folder => Kind::Folder,
+            Entry::File => Kind::File,
+            Entry::Page(_) => Kind::Page,
+        }
+    }
+}
+
+/// What is in front of an ending of a path; `None` if the path doesn't end so.
+fn before<'p>(path: &'p str, ending: &str) -> Option<&'p str>
+    ensures { option_copied result ≡ before path.now ending.now }
+{
+    path.strip_suffix(ending)
 }
 
 /// The files and folders of a tree, with the anchors of its pages.
@@ -128,63 +163,164 @@ impl Tree {
         Ok(())
     }
 
+    /// What is at this path; the root is a folder.
+    fn kind_at(&self, path: &str) -> Kind
+        ensures { result ≡ kind_at self.now path.now }
+    {
+        if path.is_empty() {
+            return Kind::Folder;
+        }
+        match self.entries.get(path) {
+            None => Kind::Nothing,
+            Some(entry) => entry.kind(),
+        }
+    }
+
     /// Whether there is a file or folder at this path; the root is there.
     pub fn has(&self, path: &str) -> bool {
-        path.is_empty() || self.entries.contains_key(path)
+        !matches!(self.kind_at(path), Kind::Nothing)
     }
 
     /// Whether there is a folder at this path.
     pub fn has_folder(&self, path: &str) -> bool {
-        match self.entries.get(path) {
-            None => path.is_empty(),
-            Some(entry) => matches!(entry, Entry::Folder),
-        }
+        matches!(self.kind_at(path), Kind::Folder)
     }
 
-    fn has_page(&self, path: &str) -> bool {
-        match self.entries.get(path) {
-            Some(Entry::Page(_)) => true,
-            _ => false,
+    /// What is after a move at a path that isn't in the new one.
+    fn kind_beside(&self, moves: &Moves, path: &str) -> Kind
+        ensures { result ≡ kind_beside (kind_at self.now) moves.now path.now }
+    {
+        if below(path, moves.new.as_str()).is_some() {
+            return Kind::Folder;
         }
+        if below(moves.old.as_str(), path).is_some() {
+            return Kind::Nothing;
+        }
+        self.kind_at(path)
     }
 
-    /// The page at a path that is followed by one of these tails.
-    fn page_with(&self, stem: &str, tails: &[&str]) -> Result<Option<String>, AllocError> {
-        for tail in tails {
-            let path = format!(in self.alloc; "{stem}{tail}")?;
-            let path = String::from_str(self.alloc, path.as_str().trim_start_matches('/'))?;
-            if self.has_page(path.as_str()) {
-                return Ok(Some(path));
+    /// What is at a path, or what is there after a move.
+    fn kind_in(&self, moves: Option<&Moves>, path: &str) -> Result<Kind, AllocError>
+        ensures { IfOk result (λ kind. kind ≡ kind_in self.now moves.entry path.now) }
+    {
+        let Some(moves) = moves else {
+            return Ok(self.kind_at(path));
+        };
+        match below(moves.new.as_str(), path) {
+            None => Ok(self.kind_beside(moves, path)),
+            Some(rest) => {
+                let old = moves.old.as_str();
+                let before = format!(in self.alloc; "{old}{rest}")?;
+                Ok(self.kind_at(before.as_str()))
             }
+        }
+    }
+
+    /// The path, if a page is there.
+    fn page_at(&self, moves: Option<&Moves>, path: String) -> Result<Option<String>, AllocError>
+        ensures { IfOk result (λ page. option_map string_bytes page
+            ≡ page_at (kind_in self.now moves.entry) (string_bytes path)) }
+    {
+        match self.kind_in(moves, path.as_str())? {
+            Kind::Page => Ok(Some(path)),
+            _ => Ok(None),
+        }
+    }
+
+    /// The page with a name in a folder.
+    fn page_in(
+        &self,
+        moves: Option<&Moves>,
+        folder: &str,
+        name: &str,
+    ) -> Result<Option<String>, AllocError>
+        ensures { IfOk result (λ page. option_map string_bytes page
+            ≡ page_at (kind_in self.now moves.entry) (followed folder.now name.now)) }
+    {
+        let mut path = String::from_str(self.alloc, folder)?;
+        push_part(&mut path, name)?;
+        self.page_at(moves, path)
+    }
+
+    /// The page whose path without its ending this is.
+    fn page_of(&self, moves: Option<&Moves>, stem: &str) -> Result<Option<String>, AllocError>
+        ensures { IfOk result (λ page. option_map string_bytes page
+            ≡ page_at (kind_in self.now moves.entry) (stem.now ++ codes ".md")) }
+    {
+        self.page_at(moves, format!(in self.alloc; "{stem}.md")?)
+    }
+
+    /// The page of a folder.
+    fn folder_page(&self, moves: Option<&Moves>, folder: &str) -> Result<Option<String>, AllocError>
+        ensures { IfOk result (λ page. option_map string_bytes page
+            ≡ folder_page (kind_in self.now moves.entry) folder.now) }
+    {
+        if let Some(page) = self.page_in(moves, folder, "index.md")? {
+            return Ok(Some(page));
+        }
+        self.page_in(moves, folder, "README.md")
+    }
+
+    /// The page that a site makes `x/index.html` of, by `x`.
+    fn index_page(&self, moves: Option<&Moves>, stem: &str) -> Result<Option<String>, AllocError>
+        ensures { IfOk result (λ page. option_map string_bytes page
+            ≡ index_page (kind_in self.now moves.entry) stem.now) }
+    {
+        if let Some(page) = self.page_of(moves, stem)? {
+            return Ok(Some(page));
+        }
+        if let Some(page) = self.page_in(moves, stem, "README.md")? {
+            return Ok(Some(page));
+        }
+        self.page_in(moves, stem, "index.md")
+    }
+
+    /// The page that a site makes a path of, and how the path names it.
+    fn site_page(
+        &self,
+        moves: Option<&Moves>,
+        path: &str,
+    ) -> Result<Option<(String, Form)>, AllocError>
+        ensures { IfOk result (λ found. option_map (λ f. string_bytes f.0) found
+            ≡ site_page (kind_in self.now moves.entry) path.now) }
+    {
+        if let Some(stem) = before(path, "/index.html")
+            && let Some(page) = self.index_page(moves, stem)?
+        {
+            return Ok(Some((page, Form::Index)));
+        }
+        if let Some(stem) = before(path, ".html")
+            && let Some(page) = self.page_of(moves, stem)?
+        {
+            return Ok(Some((page, Form::Html)));
         }
         Ok(None)
     }
 
-    /// What a path from the root leads to, and how it names that: the file itself, the page that a site makes this path of, or
-    /// a folder. If a folder and a page have this name, the folder counts.
-    pub fn named(&self, path: &str) -> Result<Option<(String, Form)>, AllocError> {
-        if self.has(path) && !self.has_folder(path) {
+    /// What a path from the root names in the tree, or in the tree after a move, and how it does: the file itself, the page that
+    /// a site makes this path of, or a folder. If a folder and a page have this name, the folder counts.
+    pub fn named(
+        &self,
+        moves: Option<&Moves>,
+        path: &str,
+    ) -> Result<Option<(String, Form)>, AllocError>
+        ensures { IfOk result (λ found. option_map (λ f. string_bytes f.0) found
+            ≡ named (kind_in self.now moves.entry) path.now) }
+    {
+        let kind = self.kind_in(moves, path)?;
+        if matches!(kind, Kind::File | Kind::Page) {
             return Ok(Some((String::from_str(self.alloc, path)?, Form::Exact)));
         }
-        if let Some(stem) = path.strip_suffix("/index.html")
-            && let Some(page) = self.page_with(stem, &[".md", "/README.md", "/index.md"])?
-        {
-            return Ok(Some((page, Form::Index)));
+        if let Some(found) = self.site_page(moves, path)? {
+            return Ok(Some(found));
         }
-        if let Some(stem) = path.strip_suffix(".html")
-            && let Some(page) = self.page_with(stem, &[".md"])?
-        {
-            return Ok(Some((page, Form::Html)));
+        if matches!(kind, Kind::Nothing) {
+            let page = self.page_of(moves, path)?;
+            return Ok(page.map(|page| (page, Form::Bare)));
         }
-        if self.has_folder(path) {
-            return match self.page_with(path, &["/index.md", "/README.md"])? {
-                Some(page) => Ok(Some((page, Form::Folder))),
-                None => Ok(Some((String::from_str(self.alloc, path)?, Form::Exact))),
-            };
-        }
-        match self.page_with(path, &[".md"])? {
-            Some(page) => Ok(Some((page, Form::Bare))),
-            None => Ok(None),
+        match self.folder_page(moves, path)? {
+            Some(page) => Ok(Some((page, Form::Folder))),
+            None => Ok(Some((String::from_str(self.alloc, path)?, Form::Exact))),
         }
     }
 
@@ -206,8 +342,8 @@ impl Tree {
     /// Where a link of a page leads. It fails if memory runs out.
     ///
     /// A path names the file itself; or `a.html` the page `a.md`; `a/index.html` or `a/` the page `a/README.md` or `a/index.md`;
-    /// or a folder; or `a` the page `a.md`. A path with a slash in front begins at the root. Percent signs are decoded, and a query
-    /// doesn't count. An anchor counts in pages alone, also in lower case; `top` is in each page.
+    /// or a folder; or `a` the page `a.md`. A path with a slash in front begins at the root. Percent signs are decoded, and a
+    /// query doesn't count. An anchor counts in pages alone, also in lower case; `top` is in each page.
     pub fn led_to(&self, from: &str, destination: &str) -> Result<Led, AllocError> {
         if !is_local(destination) {
             return Ok(Led::External);
@@ -221,7 +357,7 @@ impl Tree {
             let Some(place) = resolved(self.alloc, folder, written.as_str())? else {
                 return Ok(Led::Outside);
             };
-            match self.named(place.as_str())? {
+            match self.named(None, place.as_str())? {
                 None => return Ok(Led::Nowhere { path: place }),
                 found => found,
             }
@@ -250,6 +386,29 @@ impl Tree {
             Led::NoAnchor { path, anchor } => self.nearest_anchor(path.as_str(), anchor.as_str()),
             _ => Ok(None),
         }
+    }
+
+    /// The destination by which a page leads to what `nearest` finds for a link of it; `None` if that finds nothing.
+    ///
+    /// `from` is the page's path. For a path it is the path from the page's folder, with percent signs; for an anchor the same of
+    /// the link's page and the anchor, or the anchor alone in the page itself. It fails if memory runs out.
+    pub fn nearest_destination(&self, from: &str, led: &Led) -> Result<Option<String>, AllocError> {
+        let Some(found) = self.nearest(led)? else {
+            return Ok(None);
+        };
+        let folder = folder_and_name(from).0;
+        let Led::NoAnchor { path, .. } = led else {
+            let path = relative(self.alloc, folder, found.as_str())?;
+            return Ok(Some(encoded(self.alloc, path.as_str())?));
+        };
+        let mut near = String::new(self.alloc);
+        if path.as_str() != from {
+            let path = relative(self.alloc, folder, path.as_str())?;
+            near.push_str(encoded(self.alloc, path.as_str())?.as_str())?;
+        }
+        near.push('#')?;
+        near.push_str(found.as_str())?;
+        Ok(Some(near))
     }
 
     fn nearest_anchor(&self, path: &str, anchor: &str) -> Result<Option<String>, AllocError> {

@@ -8,7 +8,8 @@ use std::alloc::{AllocError, Global};
 use std::collections::HashMap;
 use tocmark_links::changed::with_destinations;
 use tocmark_links::destination::{encoded, parts};
-use tocmark_links::moved::{Moves, relocated};
+use tocmark_links::moved::relocated;
+use tocmark_links::moves::Moves;
 use tocmark_links::page::Page;
 use tocmark_links::tree::{Led, Tree};
 

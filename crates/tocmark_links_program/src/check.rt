@@ -5,10 +5,9 @@ use crate::outcome::Outcome;
 use crate::report::{Kind, Note, Report};
 use crate::root::within;
 use crate::site::{LINKS, Site, SitePage};
-use std::alloc::{AllocError, Global};
-use tocmark_links::destination::{encoded, is_local};
+use std::alloc::Global;
+use tocmark_links::destination::is_local;
 use tocmark_links::page::Link;
-use tocmark_links::paths::{folder_and_name, relative};
 use tocmark_links::tree::Led;
 
 /// How many links were checked.
@@ -51,27 +50,6 @@ fn is_asked(path: &str, asked: &[String]) -> bool {
 }
 
 impl Site {
-    /// The destination by which a page leads to what is nearest to a broken one.
-    fn nearest(&self, alloc: Global, from: &str, led: &Led) -> Result<Option<String>, AllocError> {
-        let Some(found) = self.tree.nearest(led)? else {
-            return Ok(None);
-        };
-        let (folder, _name) = folder_and_name(from);
-        let Led::NoAnchor { path, .. } = led else {
-            let path = relative(alloc, folder, found.as_str())?;
-            return Ok(Some(encoded(alloc, path.as_str())?));
-        };
-        let mut near = if path.as_str() == from {
-            String::new(alloc)
-        } else {
-            let path = relative(alloc, folder, path.as_str())?;
-            encoded(alloc, path.as_str())?
-        };
-        near.push('#')?;
-        near.push_str(found.as_str())?;
-        Ok(Some(near))
-    }
-
     /// Reports a link if it leads nowhere, and says whether it does.
     fn check_link(
         &self,
@@ -85,7 +63,7 @@ impl Site {
         let Some(kind) = kind_of(&led) else {
             return Ok(false);
         };
-        let near = self.nearest(alloc, path, &led)?;
+        let near = self.tree.nearest_destination(path, &led)?;
         let shown = self.root.shown(alloc, path)?;
         let note = broken(kind, shown.as_str(), link, near.as_deref());
         report.add(alloc, note)?;

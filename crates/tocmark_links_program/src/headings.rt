@@ -5,11 +5,11 @@ use crate::fault::{Fault, fault_of};
 use crate::plan::{Edit, Plan};
 use crate::report::{Kind, Note, Report};
 use crate::site::Site;
-use std::alloc::{AllocError, Global};
 use std::collections::HashMap;
 use tocmark_links::anchors::{Anchor, AnchorKind};
 use tocmark_links::changed::{with_contents, with_heading};
 use tocmark_links::page::Page;
+use tocmark_links::renamed::renamed_anchors;
 
 /// What is said of a place that isn't written as one.
 const NO_PLACE: &str = "wanted: FILE#ANCHOR, by the anchor that the heading has now";
@@ -32,44 +32,6 @@ fn heading_of<'p>(page: &'p Page, name: &str) -> Option<&'p Anchor> {
         }
     }
     None
-}
-
-/// Whether an element of HTML, or a heading that names it itself, has an anchor.
-fn is_taken(page: &Page, name: &str) -> bool {
-    for anchor in &page.anchors {
-        if anchor.kind != AnchorKind::Heading && anchor.name.as_str() == name {
-            return true;
-        }
-    }
-    false
-}
-
-/// The anchors of the headings of two pages with as many headings that differ: each old one with the new one. `None`: the new
-/// one is empty, or is taken.
-fn new_names(
-    alloc: Global,
-    old: &Page,
-    new: &Page,
-) -> Result<Option<HashMap<String, String>>, AllocError> {
-    let mut names = HashMap::new(alloc);
-    let olds = old
-        .anchors
-        .iter()
-        .filter(|anchor| anchor.kind != AnchorKind::Html);
-    let news = new
-        .anchors
-        .iter()
-        .filter(|anchor| anchor.kind != AnchorKind::Html);
-    for (one, other) in olds.zip(news) {
-        if one.name.as_str() != other.name.as_str() {
-            if other.name.is_empty() || is_taken(new, other.name.as_str()) {
-                return Ok(None);
-            }
-            let key = String::from_str(alloc, one.name.as_str())?;
-            names.insert(key, String::from_str(alloc, other.name.as_str())?)?;
-        }
-    }
-    Ok(Some(names))
 }
 
 impl Site {
@@ -104,7 +66,7 @@ impl Site {
             Err(fault) => return Err(fault_of(shown, fault)),
         };
         let new_page = self.page_of(rt.alloc(), new.as_str())?;
-        match new_names(rt.alloc(), &page, &new_page)? {
+        match renamed_anchors(rt.alloc(), &page, &new_page)? {
             Some(names) => Ok((new, names)),
             None => Err(Fault::path(rt.alloc(), shown.as_str(), TWICE)),
         }

@@ -8,7 +8,7 @@ use crate::root::{joined, within};
 use crate::site::Site;
 use std::alloc::{AllocError, Global};
 use std::fs;
-use tocmark_links::moved::Moves;
+use tocmark_links::moves::Moves;
 use tocmark_links::paths::folder_and_name;
 
 /// What is said of a path that isn't in the tree.

@@ -6,12 +6,10 @@ use crate::lined::{Lined, Span};
 use crate::links::{Asking, front_of};
 use crate::message::JsonText;
 use crate::tree::Files;
-use std::alloc::{AllocError, Global};
+use std::alloc::AllocError;
 use std::fmt::Write;
 use tocmark_format::Left;
-use tocmark_links::destination::encoded;
 use tocmark_links::page::Link;
-use tocmark_links::paths::{folder_and_name, relative};
 use tocmark_links::tree::{Led, Tree};
 
 /// What a destination must not have where no angle brackets are round it.
@@ -53,32 +51,12 @@ fn span_of(lined: &Lined<'_>, link: &Link) -> Span {
     }
 }
 
-/// The destination by which a page leads to what is nearest to a broken one.
-fn nearest(
-    alloc: Global,
-    tree: &Tree,
-    from: &str,
-    led: &Led,
-) -> Result<Option<String>, AllocError> {
-    let Some(found) = tree.nearest(led)? else {
-        return Ok(None);
-    };
-    let (folder, _name) = folder_and_name(from);
-    let Led::NoAnchor { path, .. } = led else {
-        let path = relative(alloc, folder, found.as_str())?;
-        return Ok(Some(encoded(alloc, path.as_str())?));
-    };
-    let mut near = String::new(alloc);
-    if path.as_str() != from {
-        let path = relative(alloc, folder, path.as_str())?;
-        near.push_str(encoded(alloc, path.as_str())?.as_str())?;
+/// The destination by which a page leads to what is nearest to a broken one, if it needs no angle brackets.
+fn nearest(tree: &Tree, from: &str, led: &Led) -> Result<Option<String>, AllocError> {
+    match tree.nearest_destination(from, led)? {
+        Some(near) if !near.as_str().contains(&APART) => Ok(Some(near)),
+        _ => Ok(None),
     }
-    near.push('#')?;
-    near.push_str(found.as_str())?;
-    if near.as_str().contains(&APART) {
-        return Ok(None);
-    }
-    Ok(Some(near))
 }
 
 /// Adds the links that lead nowhere.
@@ -176,7 +154,7 @@ pub(crate) fn mendings<F: Files>(
             continue;
         }
         let led = tree.led_to(from, link.destination.as_str())?;
-        if let Some(near) = nearest(alloc, &tree, from, &led)? {
+        if let Some(near) = nearest(&tree, from, &led)? {
             if json.ends_with('}') {
                 json.push(',')?;
             }

@@ -5,7 +5,8 @@ use crate::tree::{Place, path_in};
 use serde_json::Value;
 use std::alloc::{AllocError, Global};
 use std::collections::HashMap;
-use tocmark_links::moved::{Moves, relocated};
+use tocmark_links::moved::relocated;
+use tocmark_links::moves::Moves;
 use tocmark_links::paths::folder_and_name;
 use tocmark_links::tree::{Led, Tree};
 

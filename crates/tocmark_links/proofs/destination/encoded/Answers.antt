@@ -1,11 +1,17 @@
-use Rattle.std.proofs.Common.{◌∙◌, ap, refl, arith}
-use Rattle.std.specs.Str.Lossy.{utf8_lossy}
+use Rattle.std.proofs.Common.{◌≡◌, true, refl, arith, List, ℕ, All}
 use Rattle.std.proofs.lemmas.List.Elements.{All-from_get_or}
-use Rattle.std.proofs.lemmas.Str.{utf8_lossy-IsUtf8}
 use Rattle.percent_encoding.proofs.PercentLemmas.{round_trip, IsByte}
+use Rattle.percent_encoding.specs.AsciiSet.{should_percent_encode}
+use Rattle.tocmark_links.specs.Destinations.{IsPlain}
+use Rattle.tocmark_links.proofs.Cutting.{plain-text}
 use Rattle.tocmark_links.proofs.destination.encoded.Goals as goal
 
-pub returns : goal.returns
-returns c =
+pub returns-clause-path : goal.returns-clause-path
+returns-clause-path c =
     let small = All-from_get_or IsByte c.args.path.now 0 (λ i within. omega (arith, c.type_inv.path i)) in
-    rw (c.in_ok-append_to.ensures.ok, c.new-text.ensures.bytes, c.utf8_percent_encode.ensures.text) (ap utf8_lossy (round_trip _ c.args.path.now refl small) ∙ utf8_lossy-IsUtf8 c.args.path.now c.utf8.path)
+    rw (c.in_ok-append_to.ensures.ok, c.new-text.ensures.bytes, c.utf8_percent_encode.ensures.text) (round_trip _ c.args.path.now refl small)
+
+pub returns-clause-plain : goal.returns-clause-plain
+unfolding should_percent_encode
+returns-clause-plain c =
+    rw (c.in_ok-append_to.ensures.ok, c.new-text.ensures.bytes, c.utf8_percent_encode.ensures.text) (plain-text _ c.args.path.now refl refl)
