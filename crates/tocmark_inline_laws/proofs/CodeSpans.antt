@@ -31,7 +31,7 @@ use Rattle.tocmark_inline_laws.proofs.TickRuns as ticks
 use Rattle.tocmark_inline_laws.proofs.Tokens.{added, leaf_goes}
 
 -- bytes are shown after others
-pushed : (out xs : List ℕ) → push_shown out xs ≡ out ++ push_shown [] xs
+pub pushed : (out xs : List ℕ) → push_shown out xs ≡ out ++ push_shown [] xs
 pushed out [] = sym (append-nil out)
 pushed out (x ∷ xs) =
     pushed (out ++ shown x ∷ []) xs

@@ -7,9 +7,12 @@ use Rattle.tocmark_read_scan.specs.Class.{run_end}
 use Rattle.tocmark_read_scan.specs.declared.class.Class.TheVariants.{Only}
 use Rattle.tocmark_read_scan.proofs.PlainTests.{eq_of}
 use Rattle.tocmark_read_tokens.specs.Autolink.{uri_end, mail_end}
-use Rattle.tocmark_read_inlines.specs.Scan.{State, Known, ahead_in, ends_of, ticks_of, is_mark, opened, imaged, looked, looked_all}
+use Rattle.tocmark_read_inlines.specs.Inlines.{scan_start}
+use Rattle.tocmark_read_inlines.specs.Scan.{State, Known, ahead_in, ends_of, ticks_of, is_mark, opened, imaged, looked, looked_all, scanned_in}
 use Rattle.tocmark_read_spans.specs.Run.{run_at}
 use Rattle.tocmark_read_spans.specs.declared.definitions.Entry.{Entry}
+use Rattle.tocmark_read_spans.specs.declared.role.Stretch.{Stretch}
+use Rattle.tocmark_read_spans.specs.declared.role.Target.{Target}
 use Rattle.tocmark_commonmark.specs.InlineTree.{Atom, SoftBreak, Delimiters, bracket_text}
 use Rattle.tocmark_commonmark.specs.Links.{Destination}
 use Rattle.tocmark_commonmark.specs.Tokens as kind
@@ -22,7 +25,7 @@ use Rattle.tocmark_inline_laws.proofs.CodeSpans.{code_goes}
 use Rattle.tocmark_inline_laws.proofs.Breaks.{feed_goes, spaces_goes}
 use Rattle.tocmark_inline_laws.proofs.ByKind.{Each, by_kind}
 use Rattle.tocmark_inline_laws.proofs.Delimiters.{star_goes, underscore_goes}
-use Rattle.tocmark_inline_laws.proofs.Run.{Next, next_by, GoesOn, read_as_declared}
+use Rattle.tocmark_inline_laws.proofs.Run.{Next, next_by, GoesOn, Reads, roles_read, reads_say}
 use Rattle.tocmark_inline_laws.proofs.Sim.{Sim, Goes}
 use Rattle.tocmark_inline_laws.proofs.OpenBrackets.{bracket_goes}
 use Rattle.tocmark_inline_laws.proofs.ClosedBrackets.{closing_next}
@@ -108,10 +111,17 @@ each_token bytes ahead defs labels texts wide ends ticks alike p s done a grown 
       other = λ b plain k e. next_by bytes ahead defs labels p s done b kind.Other (others (take_while (λ c. is_other (kind_of c)) (drop p bytes)) p) (other_goes bytes ahead defs p b s done a inner fits e k) (λ go. refl);
     }
 
+-- the roles of each content
+pub all_read : (bytes : List ℕ) → length bytes + 2 < 2 ^ 64 → (labels : List Destination) (definitions : List ℕ → Option Entry) (targets : List Target) (texts : List ℕ) (missed : List Stretch) → LeadAlike texts definitions labels
+    → Reads bytes labels texts (scanned_in commonmark bytes definitions (scan_start (length bytes) targets texts missed))
+all_read bytes fits labels definitions targets texts missed alike =
+    roles_read bytes definitions labels targets texts missed fits
+    (each_token bytes (ahead_in commonmark bytes) definitions labels texts fits refl refl alike)
+
 pub all_declared : ContentsAreReadAsDeclared
 all_declared bytes fits labels definitions targets texts missed alike =
-    read_as_declared bytes definitions labels targets texts missed fits
-    (each_token bytes (ahead_in commonmark bytes) definitions labels texts fits refl refl alike)
+    reads_say bytes labels texts (scanned_in commonmark bytes definitions (scan_start (length bytes) targets texts missed)) 0 fits (omega arith)
+    (all_read bytes fits labels definitions targets texts missed alike)
 
 pub all_local : InlinesAreLocal
 all_local bytes fits labels d e targets gs texts ts missed ms h k = all_declared bytes fits labels d targets texts missed h ∙ sym (all_declared bytes fits labels e gs ts ms k)

@@ -343,12 +343,12 @@ steps_alike e (r ∷ rs) s f a h d n =
     let q : (role_step s r).depth ≤ suc s.depth = subst (λ k. k ≤ suc s.depth) (sym b.depth) (subst (λ k. (flow_step e f r).depth ≤ suc k) (sym a.depth) (flow_depth e f r)) in
     steps_alike e rs (role_step s r) (flow_step e f r) b (omega arith) (omega arith) n
 
--- nothing is said yet
-abbrev pub flow_start : Flow
-flow_start = record { depth = 0; place = 0; skip = 0; out = [] }
-
--- the nodes of roles say what these say from left to right
-pub written_flows : (e : Beside) (rs : List Role) → length rs ≡ length e.bytes → length e.bytes + 1 < 2 ^ 64 → flat_map (node_said e.bytes e.texts e.targets) (written rs 0) ≡ (fold (flow_step e) flow_start rs).out
+-- the nodes of roles at a depth say what these say from left to right
+pub written_flows : (e : Beside) (rs : List Role) (depth : ℕ) → length rs ≡ length e.bytes → length e.bytes + 1 < 2 ^ 64 → depth + length e.bytes < 2 ^ 64
+    → flat_map (node_said e.bytes e.texts e.targets) (written rs depth) ≡ (fold (flow_step e) (record { depth = depth; place = 0; skip = 0; out = [] }) rs).out
 unfolding written
-written_flows e rs l n = flush_says e (fold role_step (write_start 0) rs) (fold (flow_step e) flow_start rs)
-    (steps_alike e rs (write_start 0) flow_start (record { depth = refl; place = refl; skip = refl; out = refl; began = tt; silent = tt }) (omega arith) (omega arith) n)
+written_flows e rs depth l n d = flush_says e (fold role_step (write_start depth) rs) (fold (flow_step e) start rs)
+    (steps_alike e rs (write_start depth) start (record { depth = refl; place = refl; skip = refl; out = refl; began = tt; silent = tt }) (omega arith) (omega (arith, l, d)) n)
+  where
+    start : Flow
+    start = record { depth = depth; place = 0; skip = 0; out = [] }

@@ -1,14 +1,13 @@
 -- The reader's content of lines is their declared text.
-use Rattle.std.proofs.Common.{◌≡◌, ℕ, zero, suc, ◌-◌, ◌<◌, ◌≤◌, Bool, true, false, not, ◌==◌, ◌&&◌, ◌||◌, cond, if◌then◌else◌, nat_lt, nat_le, List, [], ◌∷◌, ◌++◌, length, map, take, drop, reverse, fold, flat_map, slice_range, refl, ap, sym, ◌∙◌, subst, arith, append_assoc, append-nil, true≢false}
+use Rattle.std.proofs.Common.{◌≡◌, ℕ, zero, suc, ◌-◌, ◌≤◌, Bool, true, false, ◌==◌, ◌&&◌, ◌||◌, cond, if◌then◌else◌, nat_lt, nat_le, List, [], ◌∷◌, ◌++◌, length, map, take, drop, reverse, flat_map, slice_range, refl, ap, sym, ◌∙◌, subst, arith, append_assoc, append-nil, true≢false}
 use Rattle.std.specs.Prelude.{take_while, Some, None}
-use Rattle.std.specs.List.{AllByRecursion, list_any}
+use Rattle.std.specs.List.{AllByRecursion}
 use Rattle.std.proofs.lemmas.Bool.Decides.{nat_tests}
 use Rattle.std.proofs.lemmas.List.{reverse-append, reverse-reverse}
-use Rattle.std.proofs.lemmas.List.Folds.{flat_map-map}
 use Rattle.std.proofs.lemmas.List.Sums.{take_while-cons}
-use Rattle.tocmark_read_scan.specs.Basic.{byte_at, bytes_between}
+use Rattle.tocmark_read_scan.specs.Basic.{byte_at}
 use Rattle.tocmark_read_scan.specs.Class.{is_in}
-use Rattle.tocmark_read_scan.specs.Content.{State, joined, before_white, trimmed, content_of}
+use Rattle.tocmark_read_scan.specs.Content.{joined, before_white, content_of}
 use Rattle.tocmark_read_scan.specs.Repeat.{going_on, iterated}
 use Rattle.tocmark_read_scan.specs.declared.class.Class.TheVariants.{White}
 use Rattle.tocmark_read_scan.specs.declared.content.ContentLine.{ContentLine}
@@ -19,11 +18,11 @@ use Rattle.tocmark_reader.proofs.Zeros.{without_zeros, none_between}
 use Rattle.tocmark_commonmark.specs.Beginnings.{begins_with}
 use Rattle.tocmark_commonmark.specs.Leaves as leaves
 use Rattle.tocmark_commonmark.specs.Leaves.{text_of}
-use Rattle.tocmark_commonmark.specs.Lines.{is_blank_byte, without_first_blanks, without_last_blanks, with_feeds}
+use Rattle.tocmark_commonmark.specs.Lines.{is_blank_byte, without_last_blanks, with_feeds}
 use Rattle.tocmark_text_laws.specs.Kept.{line_bytes, IsKept}
 use Rattle.tocmark_text_laws.proofs.KeptLines.{lines_kept}
 use Rattle.tocmark_block_laws.specs.Quotes.{ends_with_feed}
-use Rattle.tocmark_block_laws.specs.Trees.{line_text, leaf_text}
+use Rattle.tocmark_block_laws.specs.Trees.{line_text}
 use Rattle.tocmark_standard_laws.specs.Contents.{content_bytes, HasNoZero, ContentsAreDeclared}
 
 -- a byte that isn't white is last, or none is
@@ -96,7 +95,7 @@ content_inked text lines = inked_take bytes (iterated (before_white bytes) (leng
 
 -- so does the declared text
 
-abbrev dropped : List ℕ → List ℕ
+abbrev pub dropped : List ℕ → List ℕ
 dropped bs = drop (length (take_while is_blank_byte bs)) bs
 
 abbrev HeadInk : List ℕ → Type 0
@@ -112,10 +111,10 @@ blank_white : (b : ℕ) → is_blank_byte b ≡ true → is_in White b ≡ true
 unfolding is_in
 blank_white b h = ap (λ k. k || (b == 10)) h
 
-dropped_blank : (b : ℕ) (bs : List ℕ) → is_blank_byte b ≡ true → dropped (b ∷ bs) ≡ dropped bs
+pub dropped_blank : (b : ℕ) (bs : List ℕ) → is_blank_byte b ≡ true → dropped (b ∷ bs) ≡ dropped bs
 dropped_blank b bs h = ap (λ xs. drop (length xs) (b ∷ bs)) (take_while-cons is_blank_byte b bs ∙ ap (λ k. cond k (b ∷ take_while is_blank_byte bs) []) h)
 
-dropped_ink : (b : ℕ) (bs : List ℕ) → is_blank_byte b ≡ false → dropped (b ∷ bs) ≡ b ∷ bs
+pub dropped_ink : (b : ℕ) (bs : List ℕ) → is_blank_byte b ≡ false → dropped (b ∷ bs) ≡ b ∷ bs
 dropped_ink b bs h = ap (λ xs. drop (length xs) (b ∷ bs)) (take_while-cons is_blank_byte b bs ∙ ap (λ k. cond k (b ∷ take_while is_blank_byte bs) []) h)
 
 cut_reverse : (bs : List ℕ) → HeadInk (dropped bs) → cut (reverse bs) ≡ reverse (dropped bs)
@@ -157,7 +156,7 @@ lines_same text [] h = refl
 lines_same text (p ∷ ps) h = ap (λ xs. xs ++ flat_map (line_bytes text) (map content_line ps)) (line_same text p h) ∙ ap (λ xs. (line_text text p ++ 10 ∷ []) ++ xs) (lines_same text ps h)
 
 -- lines with a line feed after each are those with one between each two, and one more
-joined_feed : (t : List ℕ) (ts : List (List ℕ)) → with_feeds (t ∷ ts) ≡ leaves.joined (t ∷ ts) ++ 10 ∷ []
+pub joined_feed : (t : List ℕ) (ts : List (List ℕ)) → with_feeds (t ∷ ts) ≡ leaves.joined (t ∷ ts) ++ 10 ∷ []
 joined_feed t [] = append-nil (t ++ 10 ∷ [])
 joined_feed t (u ∷ ts) = ap (λ xs. (t ++ 10 ∷ []) ++ xs) (joined_feed u ts) ∙ append_assoc t (10 ∷ []) (leaves.joined (u ∷ ts) ++ 10 ∷ []) ∙ sym (append_assoc t (10 ∷ leaves.joined (u ∷ ts)) (10 ∷ []))
 

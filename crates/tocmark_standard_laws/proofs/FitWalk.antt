@@ -1,5 +1,5 @@
 -- A line leaves a page whose blocks are nested.
-use Rattle.std.proofs.Common.{◌≡◌, ℕ, ◌-◌, ◌≤◌, ◌⊎◌, inl, inr, Bool, true, false, if◌then◌else◌, nat_le, nat_lt, List, [], ◌∷◌, ◌++◌, length, map, refl, ap, sym, ◌∙◌, subst, true≢false}
+use Rattle.std.proofs.Common.{◌≡◌, ℕ, ◌-◌, ◌≤◌, ◌⊎◌, inl, inr, Bool, true, false, if◌then◌else◌, nat_le, nat_lt, List, [], ◌∷◌, ◌++◌, length, refl, ap, sym, ◌∙◌, subst, true≢false}
 use Rattle.std.specs.Prelude.{slice_get, slice_set, Option, Some, None, unwrap_or}
 use Rattle.std.specs.Option.{option_map, option_map_or}
 use Rattle.std.specs.List.{fold, AllByRecursion}
@@ -25,7 +25,7 @@ use Rattle.tocmark_read_lines.specs.declared.container.Opened.{Opened}
 use Rattle.tocmark_read_lines.specs.declared.html.HtmlKind.{HtmlKind}
 use Rattle.tocmark_read_lines.specs.declared.line.Line.{Line}
 use Rattle.tocmark_read_page.specs.Leaves.{is_paragraph}
-use Rattle.tocmark_read_page.specs.Pages.{State, first_page, innermost, leaf_finished, settled, closed_to, list_left, begun, had_marked, quote_entered, opened_with, leaf_opened, piece_taken, has_text, start_of, is_quote}
+use Rattle.tocmark_read_page.specs.Pages.{State, first_page, leaf_finished, settled, closed_to, list_left, begun, had_marked, opened_with, leaf_opened, piece_taken, has_text, start_of, is_quote}
 use Rattle.tocmark_read_page.specs.Pieces.{code_piece, text_piece, heading_piece, keeps_line}
 use Rattle.tocmark_read_page.specs.declared.leaf.Leaf.{Leaf}
 use Rattle.tocmark_read_page.specs.declared.leaf.Leaf.TheVariants as leaf
@@ -46,10 +46,9 @@ use Rattle.tocmark_read_blocks.specs.declared.leaf.LeafStart.{LeafStart}
 use Rattle.tocmark_read_blocks.specs.declared.leaf.LeafStart.TheVariants as start
 use Rattle.tocmark_read_blocks.specs.declared.leaf.Turn.{Turn}
 use Rattle.tocmark_read_blocks.specs.declared.leaf.Turn.TheVariants as turn
-use Rattle.tocmark_block_laws.specs.Named.{named}
 use Rattle.tocmark_block_laws.proofs.NamedBlocks.{names-change-none}
 use Rattle.tocmark_text_laws.proofs.Alls.{all_set, all_got, all_weaker, got_last}
-use Rattle.tocmark_text_laws.proofs.Shut.{closed_shut, list_left_leaf, opened_with_leaf, leaf_opened_leaf, piece_taken_leaf}
+use Rattle.tocmark_text_laws.proofs.Shut.{closed_shut, list_left_leaf, opened_with_leaf}
 use Rattle.tocmark_text_laws.proofs.Leaves.{is_core}
 use Rattle.tocmark_text_laws.proofs.Core.{begins_core, leaf_core, repeated_keeps, settled_leaf, turns_core}
 use Rattle.tocmark_text_laws.proofs.Begun.{is_core_start, container_core}

@@ -1,5 +1,5 @@
 -- A page whose blocks are nested, and whose open containers are those that could go on.
-use Rattle.std.proofs.Common.{◌≡◌, ℕ, zero, suc, ◌+◌, ◌-◌, ◌<◌, ◌≤◌, ◌⊎◌, inl, inr, Bool, true, false, ◌||◌, if◌then◌else◌, nat_lt, nat_le, List, [], ◌∷◌, ◌++◌, length, map, take, refl, ap, sym, ◌∙◌, subst, arith, append_assoc, length-append, length-take, true≢false}
+use Rattle.std.proofs.Common.{◌≡◌, ℕ, zero, suc, ◌+◌, ◌-◌, ◌≤◌, ◌⊎◌, inl, inr, Bool, true, false, ◌||◌, if◌then◌else◌, nat_lt, nat_le, List, [], ◌∷◌, ◌++◌, length, map, take, refl, ap, sym, ◌∙◌, subst, arith, append_assoc, length-append, length-take, true≢false}
 use Rattle.std.specs.Prelude.{min, slice_get, slice_set, Option, Some, None, is_some}
 use Rattle.std.specs.Option.{option_and_then, option_map, option_map_or}
 use Rattle.std.specs.List.{fold, AllByRecursion}
@@ -11,7 +11,7 @@ use Rattle.tocmark_read_lines.specs.declared.container.Opened.{Opened}
 use Rattle.tocmark_read_lines.specs.declared.line.Line.{Line}
 use Rattle.tocmark_event.specs.declared.event.HeadingLevel.{HeadingLevel}
 use Rattle.tocmark_read_page.specs.Leaves.{is_paragraph}
-use Rattle.tocmark_read_page.specs.Pages.{State, innermost, ended, finished, raised_last, leaf_finished, table_finished, shortened, defined_as, settled_as, settled, leaf_closed_as, leaf_closed, is_quote, is_list, is_definitions, quote_left, one_closed, times, closed_to, list_at, list_of, is_loose, left_noted, list_left, is_apart, loosened, had_marked, begun, quote_entered, opened_with, leaf_opened, piece_pushed, piece_taken, of_kind}
+use Rattle.tocmark_read_page.specs.Pages.{State, innermost, ended, finished, leaf_finished, table_finished, shortened, defined_as, settled_as, settled, leaf_closed_as, leaf_closed, is_quote, is_list, is_definitions, quote_left, one_closed, times, closed_to, list_at, list_of, is_loose, left_noted, list_left, is_apart, loosened, had_marked, begun, quote_entered, opened_with, leaf_opened, piece_taken, of_kind}
 use Rattle.tocmark_read_page.specs.declared.leaf.Leaf.{Leaf}
 use Rattle.tocmark_read_page.specs.declared.leaf.Leaf.TheVariants as leaf
 use Rattle.tocmark_read_page.specs.declared.leaf.Table.{Table}
@@ -20,7 +20,6 @@ use Rattle.tocmark_read_page.specs.declared.page.BlockKind.{BlockKind}
 use Rattle.tocmark_read_page.specs.declared.page.BlockKind.TheVariants as kind
 use Rattle.tocmark_read_page.specs.declared.piece.Piece.{Piece}
 use Rattle.tocmark_text_laws.proofs.Alls.{all_set, all_got, all_changed, all_both, all_take, all_weaker, got_end, got_last, same_numbers, last_changed}
-use Rattle.tocmark_text_laws.proofs.Shut.{closed_leaf_shut, one_closed_leaf, list_left_leaf}
 use Rattle.tocmark_standard_laws.specs.Nesting.{Sort, OfQuote, OfList, OfItem, sort_of, is_common, Outer, list_in, is_list_sort, ends_in_list, Shape, shape, HasList, IsIn, after_as, after, Nested}
 use Rattle.tocmark_standard_laws.specs.Nesting as nesting
 

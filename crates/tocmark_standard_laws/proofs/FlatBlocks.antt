@@ -1,12 +1,11 @@
 -- Nested blocks say, one after the other, what their tree says.
-use Rattle.std.proofs.Common.{◌≡◌, ℕ, zero, suc, ◌+◌, ◌-◌, ◌<◌, ◌≤◌, Bool, true, false, not, cond, if◌then◌else◌, nat_lt, nat_le, List, [], ◌∷◌, ◌++◌, length, map, take, drop, flat_map, refl, ap, sym, ◌∙◌, subst, arith, append_assoc, append-nil, length-append, length-take, true≢false}
+use Rattle.std.proofs.Common.{◌≡◌, ℕ, zero, suc, ◌+◌, ◌<◌, ◌≤◌, Bool, true, false, not, cond, nat_lt, List, [], ◌∷◌, ◌++◌, length, take, drop, flat_map, refl, ap, sym, ◌∙◌, subst, arith, append_assoc, length-append, length-take}
 use Rattle.std.specs.Prelude.{min, slice_get, take_while, Option, Some, None}
 use Rattle.std.specs.Option.{option_map_or}
 use Rattle.std.specs.List.{fold, AllByRecursion}
 use Rattle.std.proofs.lemmas.Bool.Decides.{nat_tests}
 use Rattle.std.proofs.lemmas.Grind.{flat_map-append}
 use Rattle.std.proofs.lemmas.List.Sums.{take_while-cons}
-use Rattle.tocmark_event.specs.View.{EventView}
 use Rattle.tocmark_read_page.specs.declared.page.Block.{Block as ReadBlock}
 use Rattle.tocmark_read_page.specs.declared.page.BlockKind.{BlockKind}
 use Rattle.tocmark_read_page.specs.declared.page.BlockKind.TheVariants as kind
@@ -14,14 +13,14 @@ use Rattle.tocmark_read_page.specs.declared.piece.Piece.{Piece as Line}
 use Rattle.tocmark_reader.specs.Pages.{is_unwrapped}
 use Rattle.tocmark_commonmark.specs.Links.{Destination}
 use Rattle.tocmark_commonmark.specs.Tree as block
-use Rattle.tocmark_block_laws.specs.Trees.{block_as, list_in as list_tree, paragraph_in, Placed, more_if, tree_of, pieces_of, put_with, put, placed_in}
+use Rattle.tocmark_block_laws.specs.Trees.{block_as, Placed, more_if, tree_of, pieces_of, put, placed_in}
 use Rattle.tocmark_block_laws.proofs.Told.{leaf_as}
 use Rattle.tocmark_read_blocks.specs.Blocks.{blocks_in}
 use Rattle.tocmark_read_scan.specs.declared.syntax.Names.TheVariants.{All}
 use Rattle.tocmark_inline_laws.specs.Said.{commonmark, Piece}
-use Rattle.tocmark_standard_laws.specs.Nesting.{Sort, OfQuote, OfList, OfItem, sort_of, is_common, Outer, list_at, list_in, Shape, shape, HasList, IsIn, after_as, after, Nested}
+use Rattle.tocmark_standard_laws.specs.Nesting.{Sort, OfQuote, OfList, OfItem, sort_of, Outer, list_at, list_in, Shape, shape, IsIn, after_as, after, Nested}
 use Rattle.tocmark_standard_laws.proofs.Fitting.{shapes}
-use Rattle.tocmark_standard_laws.specs.SaidBlocks.{blocks_said, block_said, said_if, one_said, BlocksSayTheirTree}
+use Rattle.tocmark_standard_laws.specs.SaidBlocks.{blocks_said, said_if, one_said, BlocksSayTheirTree}
 use Rattle.tocmark_standard_laws.proofs.FitWalk.{blocks-nested}
 
 -- the blocks that lie directly in one are not deeper than those before them

@@ -1,22 +1,20 @@
 -- The inlines of leaves are those that are declared.
-use Rattle.std.proofs.Common.{◌≡◌, ◌+◌, ◌^◌, ◌<◌, ℕ, Bool, true, false, not, ◌==◌, ◌&&◌, ◌||◌, List, [], ◌∷◌, ◌++◌, length, refl, ap, sym, ◌∙◌, subst, append_assoc}
+use Rattle.std.proofs.Common.{◌≡◌, ℕ, Bool, true, false, not, ◌==◌, ◌&&◌, ◌||◌, List, [], ◌∷◌, ◌++◌, refl, ap, sym, ◌∙◌, subst, append_assoc}
 use Rattle.std.specs.Prelude.{Option, Some, None}
 use Rattle.std.specs.List.{list_any, list_all}
 use Rattle.tocmark_read_scan.proofs.PlainTests.{both_false}
-use Rattle.tocmark_read_page.specs.declared.piece.Piece.{Piece}
 use Rattle.tocmark_read_spans.specs.declared.definitions.Entry.{Entry}
 use Rattle.tocmark_commonmark.specs.Beginnings.{beginning}
-use Rattle.tocmark_commonmark.specs.Inlines.{inlines}
 use Rattle.tocmark_commonmark.specs.Lines.{lines_of}
 use Rattle.tocmark_commonmark.specs.Links.{Destination, first_of}
 use Rattle.tocmark_block_laws.specs.Quotes.{is_special, is_leaf, content_of, is_covered, ends_with_feed}
 use Rattle.tocmark_block_laws.specs.Trees.{leaf_text}
-use Rattle.tocmark_inline_laws.specs.Said.{words, said, declared}
+use Rattle.tocmark_inline_laws.specs.Said.{words, said}
 use Rattle.tocmark_inline_laws.specs.Statement.{SaysWhat, LeadAlike}
 use Rattle.tocmark_inline_laws.proofs.EachToken.{all_declared}
 use Rattle.tocmark_standard_laws.specs.Contents.{HasNoZero}
-use Rattle.tocmark_standard_laws.specs.Labels.{collected_of, entry_in, destinations_of, IsOfLeaves}
-use Rattle.tocmark_standard_laws.specs.Leaves.{IsLeafRead, LeavesAreReadAsDeclared}
+use Rattle.tocmark_standard_laws.specs.Labels.{collected_of, entry_in, destinations_of}
+use Rattle.tocmark_standard_laws.specs.Leaves.{LeavesAreReadAsDeclared}
 use Rattle.tocmark_standard_laws.proofs.Contents.{contents-declared}
 use Rattle.tocmark_standard_laws.proofs.Labels.{labels-declared}
 
@@ -31,7 +29,7 @@ pub lead_further : (texts more : List ℕ) (definitions : List ℕ → Option En
 lead_further texts more definitions labels h key = says_further texts more (definitions key) (first_of labels key) (h key)
 
 -- a covered text has no U+0000
-no_zero : (text : List ℕ) → list_any is_special text ≡ false → HasNoZero text
+pub no_zero : (text : List ℕ) → list_any is_special text ≡ false → HasNoZero text
 no_zero [] h = refl
 no_zero (b ∷ bs) h =
     let both = both_false (is_special b) (list_any is_special bs) h in

@@ -7,6 +7,17 @@ pub mod SaidBlocks
 pub mod FlatBlocks
 pub mod Ended
 pub mod Shown
+pub mod Cuts
+pub mod WellBlocks
+pub mod LowBlocks
 pub mod LineBlocks
 pub mod WholeLines
+pub mod NamedTexts
+pub mod FeedMarks
+pub mod MarkedBytes
+pub mod LeafPlaces
+pub mod LeafNodes
+pub mod LeafShown
+pub mod CoveredTexts
+pub mod CoveredExamples
 pub mod WordlessEvents

@@ -1,14 +1,14 @@
--- What the nodes of blocks without inlines show is what the blocks say.
-use Rattle.std.proofs.Common.{◌≡◌, ℕ, zero, suc, ◌+◌, ◌-◌, ◌^◌, ◌<◌, ◌≤◌, Bool, true, false, ◌==◌, ◌&&◌, if◌then◌else◌, nat_lt, nat_le, List, [], ◌∷◌, ◌++◌, length, map, take, drop, replicate, flat_map, refl, ap, sym, ◌∙◌, subst, arith, append_assoc, append-nil, length-append, length-take, length-drop, slice_range, true≢false}
+-- What the nodes of blocks show is what the blocks say: of paragraphs and headings, if the nodes of their inlines show what is declared.
+use Rattle.std.proofs.Common.{◌≡◌, ℕ, zero, suc, ◌+◌, ◌-◌, ◌^◌, ◌<◌, ◌≤◌, Bool, true, false, ◌==◌, ◌&&◌, if◌then◌else◌, nat_lt, nat_le, List, [], ◌∷◌, ◌++◌, length, map, take, drop, replicate, flat_map, refl, ap, sym, ◌∙◌, subst, arith, append_assoc, append-nil, length-take, length-drop, slice_range, true≢false}
 use Rattle.std.specs.Prelude.{min, Option, Some, None, is_some}
-use Rattle.std.specs.List.{fold, list_any, AllByRecursion}
+use Rattle.std.specs.List.{fold, AllByRecursion}
 use Rattle.std.specs.Str.{IsUtf8}
 use Rattle.std.specs.Str.Lossy.{utf8_lossy}
 use Rattle.std.proofs.lemmas.Bool.Decides.{nat_tests}
 use Rattle.std.proofs.lemmas.Grind.{flat_map-append}
 use Rattle.std.proofs.lemmas.List.{map-append}
 use Rattle.std.proofs.lemmas.Str.{utf8_lossy-IsUtf8}
-use Rattle.tocmark_event.specs.View.{TagView, Paragraph, Heading, BlockQuote, CodeBlock, Indented, Fenced, HtmlBlock, ListOf, Item, EventView, Start, Leaf, Text, Html, Rule}
+use Rattle.tocmark_event.specs.View.{TagView, Paragraph, Heading, BlockQuote, CodeBlock, Indented, Fenced, HtmlBlock, ListOf, Item, Start, Leaf, Text, Html, Rule}
 use Rattle.tocmark_read_scan.specs.Basic.{plus, bytes_between}
 use Rattle.tocmark_read_scan.specs.declared.syntax.Names.TheVariants.{All}
 use Rattle.tocmark_read_tokens.specs.Reference.{unescaped_in}
@@ -19,7 +19,7 @@ use Rattle.tocmark_read_page.specs.declared.page.BlockKind.TheVariants as kind
 use Rattle.tocmark_read_page.specs.declared.page.Task.{Task}
 use Rattle.tocmark_read_page.specs.declared.piece.Piece.{Piece as Line}
 use Rattle.tocmark_read_spans.specs.declared.definitions.Entry.{Entry}
-use Rattle.tocmark_reader.specs.Emitted.{ItemView, NodeView, Container, Given}
+use Rattle.tocmark_reader.specs.Emitted.{NodeView, Container, Given}
 use Rattle.tocmark_reader.specs.Pages.{State, node, leaf_inlines_in, with_task, space_nodes, line_item, line_nodes, lines_nodes, block_tag, block_node, task_nodes, with_block, with_lines, fence_node_in, with_fence_in, with_rule, bare_in, wrapped_in, paragraph_taken_in, taken_as_in, block_taken_in, block_step_in, is_unwrapped}
 use Rattle.tocmark_reader.specs.Pages as pages
 use Rattle.tocmark_reader.specs.Words.{cleaned, feed_if, info_text_in, spaces_text}
@@ -39,7 +39,8 @@ use Rattle.tocmark_standard_laws.specs.Lettered.{tag_as_text}
 use Rattle.tocmark_standard_laws.specs.Nesting.{sort_of, is_common}
 use Rattle.tocmark_standard_laws.specs.Wordless.{is_fed}
 use Rattle.tocmark_standard_laws.proofs.Ended.{piece_as_text}
-use Rattle.tocmark_standard_laws.specs.SaidBlocks.{html_at, line_said, html_said, words_said, block_said, said_if, one_said}
+use Rattle.tocmark_standard_laws.proofs.WellBlocks.{is_html_text}
+use Rattle.tocmark_standard_laws.specs.SaidBlocks.{html_at, line_said, html_said, words_said, said_if, one_said}
 use Rattle.tocmark_standard_laws.specs.Ended.{node_shows, nodes_show, IsSome}
 
 -- lines of code and HTML
@@ -87,7 +88,7 @@ some_shown true d (b ∷ bs) l = tt
 some_shown false d (b ∷ bs) l = tt
 
 -- what nodes show, and that each shows something
-abbrev Shows : List ℕ → List NodeView → List Piece → Type 0
+abbrev pub Shows : List ℕ → List NodeView → List Piece → Type 0
 Shows text ns ps = (nodes_show text ns ≡ ps) × AllByRecursion (λ (n : NodeView). IsSome (node_shows text n)) ns
 
 all_more : (Q : NodeView → Type 0) (xs ys : List NodeView) → AllByRecursion Q xs → AllByRecursion Q ys → AllByRecursion Q (xs ++ ys)
@@ -142,6 +143,10 @@ html_whole d line (b ∷ c ∷ bs) h = by (b == 10) (html_whole d [] (c ∷ bs) 
     by true e f = ap (λ ps. html_at d (line ++ b ∷ []) ++ ps) e ∙ sym (html_append d (line ++ b ∷ []) (c ∷ bs)) ∙ ap (html_at d) (append_assoc line (b ∷ []) (c ∷ bs))
     by false e f = f ∙ ap (html_at d) (append_assoc line (b ∷ []) (c ∷ bs))
 
+html_all : (d : ℕ) (t : List ℕ) → is_html_text t ≡ true → html_said d [] t ≡ html_at d t
+html_all d [] h = refl
+html_all d (b ∷ bs) h = html_whole d [] (b ∷ bs) h
+
 -- the pieces of a block
 
 take_nothing : {A : Type 0} (k : ℕ) (xs : List A) → xs ≡ [] → take k xs ≡ []
@@ -185,6 +190,7 @@ pub record Adds (text : List ℕ) (s u : State) (said : List Piece) : Type 0 whe
   pub more : List ℕ
   pub is : u.nodes ≡ s.nodes ++ nodes
   pub texts : u.inlines.texts ≡ s.inlines.texts ++ more
+  pub bare : s.inlines.nodes ≡ [] → u.inlines.nodes ≡ []
   pub shown : Shows text nodes (map piece_as_text said)
 
 -- what the inlines of a document look up: what labels are declared to lead to, the entries, and the texts of the definitions
@@ -193,9 +199,9 @@ pub record Looks : Type 0 where
   pub find : List ℕ → Option Entry
   pub base : List ℕ
 
--- the texts are those of the definitions, and more
+-- the texts are those of the definitions, and more; all inlines so far have nodes
 abbrev pub IsBeside : Looks → State → Type 0
-IsBeside k s = (further : List ℕ) × (s.inlines.texts ≡ k.base ++ further)
+IsBeside k s = (further : List ℕ) × (s.inlines.texts ≡ k.base ++ further) × (s.inlines.nodes ≡ [])
 
 -- the inlines of these lines at a depth are those that are declared
 abbrev pub LeafShows : Looks → List ℕ → List Line → ℕ → Type 0
@@ -207,9 +213,9 @@ has_words (Some (block.Paragraph t)) = true
 has_words (Some (block.Heading l t)) = true
 has_words o = false
 
--- HTML ends with a line feed
+-- HTML ends with a line feed, or is none
 abbrev pub is_html_fed : Option block.Block → Bool
-is_html_fed (Some (block.Html t)) = is_fed t
+is_html_fed (Some (block.Html t)) = is_html_text t
 is_html_fed o = true
 
 -- what is known of a block
@@ -219,7 +225,7 @@ pub record IsPlainBlock (k : Looks) (text : List ℕ) (pieces : List Line) (b : 
   pub depth : b.depth + 1 < 2 ^ 64
   pub last : sort_of b.kind ≡ None → b.last ≤ length pieces
   pub fed : is_html_fed (leaf_as text pieces b) ≡ true
-  pub words : has_words (leaf_as text pieces b) ≡ true → (d : ℕ) → LeafShows k text (pieces_of pieces b) d
+  pub words : has_words (leaf_as text pieces b) ≡ true → (d : ℕ) → d ≤ suc b.depth → LeafShows k text (pieces_of pieces b) d
 
 no_task : (o : Option Task) (d : ℕ) → is_some o ≡ false → task_nodes o d ≡ []
 unfolding task_nodes
@@ -245,6 +251,7 @@ container_adds text s b t said unboxed tag same = record {
   more = [];
   is = ap (λ (x : State). x.nodes) (block_put text s b unboxed);
   texts = ap (λ (x : State). x.inlines.texts) (block_put text s b unboxed) ∙ sym (append-nil s.inlines.texts);
+  bare = λ e. ap (λ (x : State). x.inlines.nodes) (block_put text s b unboxed) ∙ e;
   shown = subst (λ ps. Shows text (block_node text b ∷ []) ps) (sym same) (ap (λ x. (b.depth, Start x) ∷ []) tag, (tt, tt));
 }
 
@@ -257,6 +264,7 @@ lines_add text ps html s b n t said deep kept first same = record {
   more = [];
   is = append_assoc s.nodes (n ∷ []) (lines_nodes text html (plus b.depth 1) ps);
   texts = sym (append-nil s.inlines.texts);
+  bare = λ e. e;
   shown = subst (λ qs. Shows text (n ∷ lines_nodes text html (plus b.depth 1) ps) qs) (sym same)
       (shows_more text (n ∷ []) (lines_nodes text html (plus b.depth 1) ps) ((b.depth, Start t) ∷ []) (shows_as html (suc b.depth) (code_text text ps)) (append-nil (node_shows text n) ∙ first, (subst IsSome (sym first) tt, tt))
       (subst (λ k. Shows text (lines_nodes text html k ps) (shows_as html (suc b.depth) (code_text text ps))) (sym next) (lines_shown text html (suc b.depth) ps kept)));
@@ -275,6 +283,7 @@ words_add k text ps s b t unboxed deep beside shows tag same =
       more = leaf.more;
       is = leaf.is ∙ append_assoc s.nodes (block_node text b ∷ []) leaf.nodes;
       texts = leaf.texts;
+      bare = leaf.bare;
       shown = shows_more text (block_node text b ∷ []) leaf.nodes ((b.depth, Start (tag_as_text t)) ∷ []) (map piece_as_text inner) (ap (λ x. (b.depth, Start x) ∷ []) (tag ∙ sym same), (tt, tt)) leaf.shown;
     }))
   where
@@ -293,7 +302,7 @@ words_add k text ps s b t unboxed deep beside shows tag same =
     leaf : Adds text v (leaf_inlines_in commonmark text k.find ps (suc b.depth) v) inner
     leaf = shows v beside
 
-letters_as_text : (d : ℕ) (t : List ℕ) → map piece_as_text (letters d t) ≡ letters d t
+pub letters_as_text : (d : ℕ) (t : List ℕ) → map piece_as_text (letters d t) ≡ letters d t
 letters_as_text d [] = refl
 letters_as_text d (b ∷ bs) = ap (λ ps. (d, Leaf (Text (b ∷ []))) ∷ ps) (letters_as_text d bs)
 
@@ -351,7 +360,7 @@ kind_adds k all text pieces s b zeros small kept plain beside x e = by x e
 
     paragraph : b.kind ≡ kind.Paragraph → (xs : List Line) → ps ≡ xs → (q : Bool) → nat_le b.last b.first ≡ q → (t : Bool) → tight ≡ t
         → Adds text s (if q then s else (if t then leaf_inlines_in commonmark text k.find ps b.depth (with_task b s) else leaf_inlines_in commonmark text k.find ps (plus b.depth 1) (with_block text b s))) own
-    paragraph e xs h true z t y = record { nodes = []; more = []; is = sym (append-nil s.nodes); texts = sym (append-nil s.inlines.texts); shown = (none, tt) }
+    paragraph e xs h true z t y = record { nodes = []; more = []; is = sym (append-nil s.nodes); texts = sym (append-nil s.inlines.texts); bare = λ e. e; shown = (none, tt) }
       where
         empty : ps ≡ []
         empty = past (take b.last pieces) b.first (let w : length (take b.last pieces) ≡ min b.last (length pieces) = length-take b.last pieces in let l : b.last ≤ b.first = grind (arith, nat_tests, z) in omega (arith, l, w))
@@ -367,12 +376,12 @@ kind_adds k all text pieces s b zeros small kept plain beside x e = by x e
         absurd (omega (arith, l, last, a, c, d))
     paragraph e (x ∷ xs) h false z t y = subst (Adds text s (if t then leaf_inlines_in commonmark text k.find ps b.depth (with_task b s) else leaf_inlines_in commonmark text k.find ps (plus b.depth 1) (with_block text b s))) (sym (own_is kind.Paragraph e ∙ ap (λ (zs : List Line). said_if k.labels b.depth tight (paragraph_in text zs)) h ∙ ap (λ (zs : List Line). words_said tight k.labels b.depth (leaf_text text zs)) (sym h) ∙ ap (λ j. words_said j k.labels b.depth (leaf_text text ps)) y)) (words t)
       where
-        shows : (d : ℕ) → LeafShows k text ps d
+        shows : (d : ℕ) → d ≤ suc b.depth → LeafShows k text ps d
         shows = plain.words (ap (λ y. has_words (block_as text y b.loose ps block.none)) e ∙ ap (λ (zs : List Line). has_words (paragraph_in text zs)) h)
 
         words : (t : Bool) → Adds text s (if t then leaf_inlines_in commonmark text k.find ps b.depth (with_task b s) else leaf_inlines_in commonmark text k.find ps (plus b.depth 1) (with_block text b s)) (words_said t k.labels b.depth (leaf_text text ps))
-        words true = subst (λ (v : State). Adds text s (leaf_inlines_in commonmark text k.find ps b.depth v) (declared b.depth (inlines k.labels (leaf_text text ps)))) (sym (task_put s b plain.unboxed)) (shows b.depth s beside)
-        words false = words_add k text ps s b Paragraph plain.unboxed plain.depth beside (shows (suc b.depth)) (tagged kind.Paragraph e) refl
+        words true = subst (λ (v : State). Adds text s (leaf_inlines_in commonmark text k.find ps b.depth v) (declared b.depth (inlines k.labels (leaf_text text ps)))) (sym (task_put s b plain.unboxed)) (shows b.depth (omega arith) s beside)
+        words false = words_add k text ps s b Paragraph plain.unboxed plain.depth beside (shows (suc b.depth) (omega arith)) (tagged kind.Paragraph e) refl
 
     by : (x : BlockKind) → b.kind ≡ x → Adds text s (taken_as_in commonmark x text k.find (pages.pieces_of pieces b.first b.last) tight b s) own
     by (kind.Quote None) e = container_adds text s b (BlockQuote None) own plain.unboxed (tagged (kind.Quote None) e) (says (kind.Quote None) e)
@@ -385,7 +394,7 @@ kind_adds k all text pieces s b zeros small kept plain beside x e = by x e
     by (kind.Heading level None) e =
         subst (λ (xs : List Line). Adds text s (leaf_inlines_in commonmark text k.find xs (plus b.depth 1) (with_block text b s)) own) (sym (same (kind.Heading level None) e refl))
         (subst (Adds text s (leaf_inlines_in commonmark text k.find ps (plus b.depth 1) (with_block text b s))) (sym (own_is (kind.Heading level None) e))
-        (words_add k text ps s b (Heading level None [] []) plain.unboxed plain.depth beside (plain.words (ap (λ y. has_words (block_as text y b.loose ps block.none)) e) (suc b.depth)) (tagged (kind.Heading level None) e) refl))
+        (words_add k text ps s b (Heading level None [] []) plain.unboxed plain.depth beside (plain.words (ap (λ y. has_words (block_as text y b.loose ps block.none)) e) (suc b.depth) (omega arith)) (tagged (kind.Heading level None) e) refl))
     by (kind.Heading level (Some x)) e = absurd (true≢false (sym plain.common ∙ ap is_common e))
     by kind.Indented e =
         subst (λ (xs : List Line). Adds text s (record s { nodes = (s.nodes ++ block_node text b ∷ []) ++ lines_nodes text false (plus b.depth 1) xs }) own) (sym (same kind.Indented e refl))
@@ -397,8 +406,8 @@ kind_adds k all text pieces s b zeros small kept plain beside x e = by x e
     by kind.Html e =
         subst (λ (xs : List Line). Adds text s (record s { nodes = (s.nodes ++ block_node text b ∷ []) ++ lines_nodes text true (plus b.depth 1) xs }) own) (sym (same kind.Html e refl))
         (lines_add text ps true s b (block_node text b) HtmlBlock own plain.depth kept (ap (λ x. (b.depth, Start x) ∷ []) (tagged kind.Html e))
-        (says kind.Html e ∙ ap (λ qs. (b.depth, Start HtmlBlock) ∷ map piece_as_text qs) (html_whole (suc b.depth) [] (code_text text ps) (ap (λ y. is_html_fed (block_as text y b.loose ps block.none)) (sym e) ∙ plain.fed)) ∙ ap (λ qs. (b.depth, Start HtmlBlock) ∷ qs) (html_as_text (suc b.depth) (code_text text ps))))
-    by kind.Rule e = record { nodes = node b.depth (Given Rule) b.start b.end ∷ []; more = []; is = refl; texts = sym (append-nil s.inlines.texts); shown = (sym (says kind.Rule e), (tt, tt)) }
+        (says kind.Html e ∙ ap (λ qs. (b.depth, Start HtmlBlock) ∷ map piece_as_text qs) (html_all (suc b.depth) (code_text text ps) (ap (λ y. is_html_fed (block_as text y b.loose ps block.none)) (sym e) ∙ plain.fed)) ∙ ap (λ qs. (b.depth, Start HtmlBlock) ∷ qs) (html_as_text (suc b.depth) (code_text text ps))))
+    by kind.Rule e = record { nodes = node b.depth (Given Rule) b.start b.end ∷ []; more = []; is = refl; texts = sym (append-nil s.inlines.texts); bare = λ e. e; shown = (sym (says kind.Rule e), (tt, tt)) }
     by (kind.Metadata x) e = absurd (true≢false (sym plain.common ∙ ap is_common e))
     by (kind.Footnote x y) e = absurd (true≢false (sym plain.common ∙ ap is_common e))
     by (kind.Table x y) e = absurd (true≢false (sym plain.common ∙ ap is_common e))
@@ -416,16 +425,16 @@ block_adds k all text pieces s b zeros small kept plain beside = kind_adds k all
 
 -- blocks one after the other
 
-all_part : (text : List ℕ) (pieces : List Line) (first last : ℕ) → AllByRecursion (IsKept text) pieces → AllByRecursion (IsKept text) (drop first (take last pieces))
-all_part text pieces first last h = dropped first (take last pieces) (taken last pieces h)
+pub all_part : (Q : Line → Type 0) (pieces : List Line) (first last : ℕ) → AllByRecursion Q pieces → AllByRecursion Q (drop first (take last pieces))
+all_part Q pieces first last h = dropped first (take last pieces) (taken last pieces h)
   where
-    taken : (n : ℕ) (xs : List Line) → AllByRecursion (IsKept text) xs → AllByRecursion (IsKept text) (take n xs)
+    taken : (n : ℕ) (xs : List Line) → AllByRecursion Q xs → AllByRecursion Q (take n xs)
     taken zero [] k = tt
     taken zero (x ∷ xs) k = tt
     taken (suc n) [] k = tt
     taken (suc n) (x ∷ xs) k = (k.0, taken n xs (k.1))
 
-    dropped : (n : ℕ) (xs : List Line) → AllByRecursion (IsKept text) xs → AllByRecursion (IsKept text) (drop n xs)
+    dropped : (n : ℕ) (xs : List Line) → AllByRecursion Q xs → AllByRecursion Q (drop n xs)
     dropped zero [] k = tt
     dropped zero (x ∷ xs) k = k
     dropped (suc n) [] k = tt
@@ -437,17 +446,18 @@ add_more text s u v ps qs a r = record {
   more = a.more ++ r.more;
   is = r.is ∙ ap (λ (ns : List NodeView). ns ++ r.nodes) a.is ∙ append_assoc s.nodes a.nodes r.nodes;
   texts = r.texts ∙ ap (λ ts. ts ++ r.more) a.texts ∙ append_assoc s.inlines.texts a.more r.more;
+  bare = λ e. r.bare (a.bare e);
   shown = subst (Shows text (a.nodes ++ r.nodes)) (sym (map-append piece_as_text ps qs)) (shows_more text a.nodes r.nodes (map piece_as_text ps) (map piece_as_text qs) a.shown r.shown);
 }
 
 beside_more : (k : Looks) (text : List ℕ) (s u : State) (ps : List Piece) → Adds text s u ps → IsBeside k s → IsBeside k u
-beside_more k text s u ps a h = (h.0 ++ a.more, a.texts ∙ ap (λ ts. ts ++ a.more) (h.1) ∙ append_assoc k.base (h.0) a.more)
+beside_more k text s u ps a h = (h.0 ++ a.more, a.texts ∙ ap (λ ts. ts ++ a.more) (h.1) ∙ append_assoc k.base (h.0) a.more, a.bare (h.2))
 
 pub blocks_add : (k : Looks) (all : List ReadBlock) (text : List ℕ) (pieces : List Line) (s : State) (bs : List ReadBlock) → HasNoZero text → length text + 3 < 2 ^ 64 → AllByRecursion (IsKept text) pieces → AllByRecursion (IsPlainBlock k text pieces) bs → IsBeside k s
     → Adds text s (fold (block_step_in commonmark text k.find all pieces) s bs) (flat_map (one_said k.labels all text pieces) bs)
-blocks_add k all text pieces s [] zeros small kept plain beside = record { nodes = []; more = []; is = sym (append-nil s.nodes); texts = sym (append-nil s.inlines.texts); shown = (refl, tt) }
+blocks_add k all text pieces s [] zeros small kept plain beside = record { nodes = []; more = []; is = sym (append-nil s.nodes); texts = sym (append-nil s.inlines.texts); bare = λ e. e; shown = (refl, tt) }
 blocks_add k all text pieces s (b ∷ bs) zeros small kept plain beside =
-    let first : Adds text s (block_step_in commonmark text k.find all pieces s b) (one_said k.labels all text pieces b) = block_adds k all text pieces s b zeros small (all_part text pieces b.first b.last kept) (plain.0) beside in
+    let first : Adds text s (block_step_in commonmark text k.find all pieces s b) (one_said k.labels all text pieces b) = block_adds k all text pieces s b zeros small (all_part (IsKept text) pieces b.first b.last kept) (plain.0) beside in
     add_more text s (block_step_in commonmark text k.find all pieces s b) (fold (block_step_in commonmark text k.find all pieces) (block_step_in commonmark text k.find all pieces s b) bs) (one_said k.labels all text pieces b) (flat_map (one_said k.labels all text pieces) bs)
     first
     (blocks_add k all text pieces (block_step_in commonmark text k.find all pieces s b) bs zeros small kept (plain.1) (beside_more k text s (block_step_in commonmark text k.find all pieces s b) (one_said k.labels all text pieces b) first beside))

@@ -1,13 +1,10 @@
 -- What declared blocks say that the reader doesn't keep.
-use Rattle.std.proofs.Common.{◌≡◌, ℕ, suc, Bool, true, false, ◌==◌, List, [], ◌∷◌, ◌++◌, refl, ap, sym, ◌∙◌, append_assoc, append-nil}
-use Rattle.std.specs.Prelude.{Option, Some, None}
-use Rattle.tocmark_event.specs.View.{TagView, Paragraph, Heading, BlockQuote, CodeBlock, Indented, Fenced, HtmlBlock, ListOf, Item, EventView, Start, Leaf, Html, Rule}
-use Rattle.tocmark_commonmark.specs.Inlines.{inlines}
+use Rattle.std.proofs.Common.{◌≡◌, ℕ, suc, Bool, false, List, ◌∷◌, ◌++◌, refl, ap, ◌∙◌}
+use Rattle.std.specs.Prelude.{Some, None}
+use Rattle.tocmark_event.specs.View.{BlockQuote, ListOf, Item, Start}
 use Rattle.tocmark_commonmark.specs.Links.{Destination}
-use Rattle.tocmark_commonmark.specs.Tokens.{resolved}
 use Rattle.tocmark_commonmark.specs.Tree as block
 use Rattle.tocmark_block_laws.specs.Trees.{told, told_before}
-use Rattle.tocmark_inline_laws.specs.Said.{Piece, letters, declared}
 use Rattle.tocmark_standard_laws.specs.SaidBlocks.{blocks_said, block_said}
 
 -- what the reader doesn't keep of declared blocks says nothing

@@ -1,16 +1,16 @@
 -- The events of nodes are those of what the nodes show, each at its depth.
-use Rattle.std.proofs.Common.{◌≡◌, ℕ, zero, suc, ◌+◌, ◌-◌, ◌<◌, ◌≤◌, Bool, true, false, List, [], ◌∷◌, ◌++◌, length, map, take, drop, reverse, flat_map, refl, ap, sym, ◌∙◌, subst, arith, append_assoc, append-nil}
+use Rattle.std.proofs.Common.{◌≡◌, ℕ, zero, suc, List, [], ◌∷◌, ◌++◌, map, take, drop, reverse, refl, ap, sym, ◌∙◌, append_assoc, append-nil}
 use Rattle.std.specs.List.{fold, AllByRecursion}
 use Rattle.std.proofs.lemmas.List.{map-append, reverse-append}
 use Rattle.tocmark_event.specs.declared.event.TagEnd.{TagEnd}
-use Rattle.tocmark_event.specs.View.{TagView, EventView, Start, End, Leaf, LeafView, Text, Code, InlineMath, DisplayMath, Html, InlineHtml, FootnoteReference, SoftBreak, HardBreak, Rule, TaskListMarker, end_of}
-use Rattle.tocmark_reader.specs.Emitted.{ItemView, NodeView, Container, Source, Given, Writing, end_event, closings, closed, source_text, put, step, emitted}
+use Rattle.tocmark_event.specs.View.{EventView, Start, End, Leaf, LeafView, Text, Code, InlineMath, DisplayMath, Html, InlineHtml, FootnoteReference, SoftBreak, HardBreak, Rule, TaskListMarker, end_of}
+use Rattle.tocmark_reader.specs.Emitted.{ItemView, NodeView, Container, Source, Given, Writing, end_event, closings, closed, source_text, put, step}
 use Rattle.tocmark_reader.specs.Range.{snapped}
 use Rattle.tocmark_reader.specs.declared.emit.Open.{Open}
 use Rattle.tocmark_inline_laws.specs.Said.{Piece, letters}
 use Rattle.tocmark_standard_laws.specs.Lettered.{letter_events, html_letters, lettered}
 use Rattle.tocmark_standard_laws.specs.SaidBlocks.{html_at}
-use Rattle.tocmark_standard_laws.specs.Ended.{end_events, ends_from, opened, ended, leaf_shows, item_shows, node_shows, nodes_show, IsSome, NodesAreEmitted}
+use Rattle.tocmark_standard_laws.specs.Ended.{end_events, ends_from, ended, leaf_shows, item_shows, node_shows, nodes_show, IsSome, NodesAreEmitted}
 use Rattle.tocmark_standard_laws.proofs.Ended.{lettered_append}
 
 -- the events so far, without ranges

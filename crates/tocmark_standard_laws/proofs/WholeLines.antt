@@ -1,6 +1,5 @@
 -- The lines of a text are kept whole: what leaves take of a line is a range of the text.
-use Rattle.std.proofs.Common.{◌≡◌, ℕ, zero, suc, ◌+◌, ◌-◌, ◌^◌, ◌<◌, ◌≤◌, ◌*◌, Bool, true, false, ◌==◌, ◌&&◌, if◌then◌else◌, nat_lt, nat_le, List, [], ◌∷◌, ◌++◌, length, map, take, drop, flat_map, refl, ap, sym, ◌∙◌, subst, arith, append_assoc, append-nil, length-append, length-take, length-drop, slice_range, true≢false}
-use Rattle.std.specs.Prelude.{min, Option, Some, None}
+use Rattle.std.proofs.Common.{◌≡◌, ℕ, zero, suc, ◌+◌, ◌-◌, ◌^◌, ◌<◌, ◌≤◌, ◌*◌, Bool, true, false, ◌==◌, ◌&&◌, if◌then◌else◌, nat_lt, nat_le, List, [], ◌∷◌, ◌++◌, length, take, drop, flat_map, refl, ap, sym, ◌∙◌, subst, arith, append-nil, slice_range, true≢false, inl, inr}
 use Rattle.std.specs.List.{list_any, AllByRecursion}
 use Rattle.std.specs.Str.{IsUtf8}
 use Rattle.std.proofs.lemmas.Bool.Decides.{nat_tests}
@@ -18,23 +17,26 @@ use Rattle.tocmark_read_page.specs.Pieces.{same_place, is_split, piece_of, code_
 use Rattle.tocmark_read_page.specs.declared.piece.Piece.{Piece}
 use Rattle.tocmark_reader.specs.Words.{feed_if}
 use Rattle.tocmark_reader.proofs.Zeros.{without_zeros, none_between}
+use Rattle.tocmark_text_laws.specs.Lines.{IsEnded, IsLine}
+use Rattle.tocmark_text_laws.proofs.Endings.{lines-end}
 use Rattle.tocmark_text_laws.proofs.Grounds.{past_place}
 use Rattle.tocmark_text_laws.proofs.InPlace.{At, page_shut}
 use Rattle.tocmark_text_laws.proofs.Placed.{Held, Shut}
 use Rattle.tocmark_read_blocks.specs.Blocks.{page_in, blocks_in}
 use Rattle.tocmark_read_scan.specs.declared.syntax.TheConstants.{CORE}
-use Rattle.tocmark_block_laws.specs.Quotes.{IsPlain, ends_with_feed}
-use Rattle.tocmark_block_laws.proofs.Codes.{Fed, lines_fed}
-use Rattle.tocmark_block_laws.proofs.Fronts.{between_further}
+use Rattle.tocmark_block_laws.specs.Quotes.{is_special, IsPlain}
+use Rattle.tocmark_block_laws.proofs.Fronts.{between_further, byte_first}
 use Rattle.tocmark_block_laws.proofs.Columns.{plus_low}
 use Rattle.tocmark_block_laws.proofs.TextLines.{Sound, lines_sound, between_plain, no_tab}
 use Rattle.tocmark_block_laws.proofs.Texts.{between_is, between_length, place_there}
+use Rattle.tocmark_inline_laws.proofs.Stretches.{between_more}
 use Rattle.tocmark_standard_laws.specs.Contents.{HasNoZero}
+use Rattle.tocmark_standard_laws.proofs.Cuts.{has_bytes, drop_front}
 use Rattle.tocmark_standard_laws.proofs.FitWalk.{Gives, cells_in}
-use Rattle.tocmark_standard_laws.proofs.LineBlocks.{IsWhole, IsText, IsKept}
+use Rattle.tocmark_standard_laws.proofs.LineBlocks.{IsWhole, IsText}
 
 -- no byte of these is U+0000
-zero_free : (text : List ℕ) (from to : ℕ) → HasNoZero text → flat_map replaced (bytes_between text from to) ≡ bytes_between text from to
+pub zero_free : (text : List ℕ) (from to : ℕ) → HasNoZero text → flat_map replaced (bytes_between text from to) ≡ bytes_between text from to
 zero_free text from to h = by (nat_le from to && nat_le to (length text))
   where
     by : (k : Bool) → flat_map replaced (if k then slice_range text from to else []) ≡ (if k then slice_range text from to else [])
@@ -78,10 +80,53 @@ record IsPast (text : List ℕ) (l : Line) (place : ℕ) : Type 0 where
   low : count ≤ length (bytes_between text l.start l.end)
   is : place ≡ l.start + count
 
+-- a line ends with a line feed, or with the text
+record Ends (text : List ℕ) (l : Line) : Type 0 where
+  further : l.end ≤ l.next
+  within : l.next ≤ length text
+  bytes : bytes_between text l.start l.next ≡ bytes_between text l.start l.end ++ feed_if (nat_lt l.end l.next)
+
 -- a line that is kept whole
-pub record Clean (text : List ℕ) (l : Line) : Type 0 where
-  pub sound : Sound text l
-  pub fed : Fed text l
+record Clean (text : List ℕ) (l : Line) : Type 0 where
+  sound : Sound text l
+  ends : Ends text l
+
+-- in a text without a carriage return
+line_ends : (text : List ℕ) (l : Line) → IsPlain text → Sound text l → IsEnded text l → Ends text l
+line_ends text l plain s (inl e) = record {
+  further = omega (arith, one);
+  within = within;
+  bytes =
+      ap (λ n. bytes_between text l.start n) one
+      ∙ between_more text l.start l.end s.order (omega (arith, one, within))
+      ∙ ap (λ b. bytes_between text l.start l.end ++ b ∷ []) (byte_first text l.end l.next 10 [] e)
+      ∙ ap (λ k. bytes_between text l.start l.end ++ feed_if k) (let q : true ≡ nat_lt l.end l.next = grind (arith, nat_tests, one) in q);
+}
+  where
+    both : (l.end ≤ l.next) × (l.next ≤ length text)
+    both = has_bytes text l.end l.next (let q : length (bytes_between text l.end l.next) ≡ 1 = ap length e in omega (arith, q))
+
+    within : l.next ≤ length text
+    within = both.1
+
+    one : l.next ≡ suc l.end
+    one = let q : length (bytes_between text l.end l.next) ≡ 1 = ap length e in let r : length (bytes_between text l.end l.next) ≡ l.next - l.end = between_length text l.end l.next (both.0) within in let o : l.end ≤ l.next = both.0 in omega (arith, q, r, o)
+line_ends text l plain s (inr (inl e)) = absurd (true≢false (ap (list_any is_special) (sym e) ∙ between_plain text l.end l.next plain))
+line_ends text l plain s (inr (inr (inl e))) = absurd (true≢false (ap (list_any is_special) (sym (e.0)) ∙ between_plain text l.end l.next plain))
+line_ends text l plain s (inr (inr (inr e))) = record {
+  further = omega (arith, same);
+  within = omega (arith, at);
+  bytes =
+      ap (λ n. bytes_between text l.start n) same
+      ∙ sym (append-nil (bytes_between text l.start l.end))
+      ∙ ap (λ k. bytes_between text l.start l.end ++ feed_if k) (let q : false ≡ nat_lt l.end l.next = grind (arith, nat_tests, same) in q);
+}
+  where
+    at : l.next ≡ length text
+    at = e.1
+
+    same : l.next ≡ l.end
+    same = let w : l.end ≤ length text = s.within in let q : length (bytes_between text l.end l.next) ≡ 0 = ap length (e.0) in let r : length (bytes_between text l.end l.next) ≡ l.next - l.end = between_length text l.end l.next (omega (arith, at, w)) (omega (arith, at)) in omega (arith, q, r, at, w)
 
 line_long : (text : List ℕ) (l : Line) → Sound text l → l.start + length (bytes_between text l.start l.end) ≡ l.end
 line_long text l s = let o : l.start ≤ l.end = s.order in let w : l.end ≤ length text = s.within in let q : length (bytes_between text l.start l.end) ≡ l.end - l.start = between_length text l.start l.end o w in omega (arith, q, o)
@@ -105,33 +150,14 @@ column_past text l c fits s = by (nat_le c (length xs)) refl
         let size : length (cells_at l.start [] xs) ≡ length xs = length_kept l.start [] xs in
         record { count = length xs; low = omega arith; is = sym (past_place (cells_at l.start [] xs) c l.end (omega (arith, size, high))) ∙ sym long }
 
-drop_more : (n : ℕ) (xs ys : List ℕ) → n ≤ length xs → drop n (xs ++ ys) ≡ drop n xs ++ ys
-drop_more zero [] ys l = nothing ys
-  where
-    nothing : (zs : List ℕ) → drop 0 zs ≡ zs
-    nothing [] = refl
-    nothing (z ∷ zs) = refl
-drop_more zero (x ∷ xs) ys l = refl
-drop_more (suc n) [] ys l = absurd (omega arith)
-drop_more (suc n) (x ∷ xs) ys l = drop_more n xs ys (omega arith)
-
-next_within : (text : List ℕ) (a b : ℕ) → 0 < length (bytes_between text a b) → b ≤ length text
-next_within text a b h = by (nat_le a b) (nat_le b (length text)) refl h
-  where
-    by : (x y : Bool) → nat_le b (length text) ≡ y → 0 < length (if x && y then slice_range text a b else []) → b ≤ length text
-    by x true e k = grind (arith, nat_tests, e)
-    by true false e k = absurd (omega arith)
-    by false false e k = absurd (omega arith)
-
--- what is left of a line from a byte on, with its line feed
+-- what is left of a line from a byte on, with its line feed if it has one
 rest_fed : (text : List ℕ) (l : Line) (place : ℕ) → HasNoZero text → Clean text l → IsPast text l place → flat_map replaced (bytes_between text place l.end) ++ feed_if (nat_lt l.end l.next) ≡ bytes_between text place l.next
 rest_fed text l place zeros c p =
     ap (λ n. flat_map replaced (bytes_between text n l.end) ++ feed_if (nat_lt l.end l.next)) p.is
     ∙ ap (λ bytes. bytes ++ feed_if (nat_lt l.end l.next)) (zero_free text (l.start + p.count) l.end zeros ∙ between_further text l.start p.count l.end (omega (arith, low, long)) within)
-    ∙ ap (λ k. drop p.count xs ++ feed_if k) (let e : l.end < l.next = c.fed.further in let q : nat_lt l.end l.next ≡ true = grind (arith, nat_tests) in q)
-    ∙ sym (drop_more p.count xs (10 ∷ []) low)
-    ∙ ap (drop p.count) (sym c.fed.bytes)
-    ∙ sym (between_further text l.start p.count l.next (let e : l.end < l.next = c.fed.further in omega (arith, low, long, e)) (next_within text l.start l.next (let q : length (bytes_between text l.start l.next) ≡ length (xs ++ 10 ∷ []) = ap length c.fed.bytes in let r : length (xs ++ 10 ∷ []) ≡ length xs + 1 = length-append xs (10 ∷ []) in omega (arith, q, r))))
+    ∙ sym (drop_front p.count xs (feed_if (nat_lt l.end l.next)) low)
+    ∙ ap (drop p.count) (sym c.ends.bytes)
+    ∙ sym (between_further text l.start p.count l.next (let e : l.end ≤ l.next = c.ends.further in omega (arith, low, long, e)) c.ends.within)
     ∙ ap (λ n. bytes_between text n l.next) (sym p.is)
   where
     xs : List ℕ
@@ -185,13 +211,13 @@ line_gives text l fits zeros plain c = subst (λ (cs : List Cell). Gives (IsWhol
   heading = λ h. heading_whole text (cells_at l.start [] (bytes_between text l.start l.end)) l h zeros;
 })
 
-all_give : (text : List ℕ) (ls : List Line) → length text + 3 < 2 ^ 64 → HasNoZero text → IsPlain text → AllByRecursion (Sound text) ls → AllByRecursion (Fed text) ls → AllByRecursion (λ (l : Line). Gives (IsWhole text) (cells_in text l) l) ls
-all_give text [] fits zeros plain s f = tt
-all_give text (l ∷ ls) fits zeros plain s f = (line_gives text l fits zeros plain (record { sound = s.0; fed = f.0 }), all_give text ls fits zeros plain (s.1) (f.1))
+all_give : (text : List ℕ) (ls : List Line) → length text + 3 < 2 ^ 64 → HasNoZero text → IsPlain text → AllByRecursion (Sound text) ls → AllByRecursion (IsLine text) ls → AllByRecursion (λ (l : Line). Gives (IsWhole text) (cells_in text l) l) ls
+all_give text [] fits zeros plain s e = tt
+all_give text (l ∷ ls) fits zeros plain s e = (line_gives text l fits zeros plain (record { sound = s.0; ends = line_ends text l plain (s.0) (e.0.ending) }), all_give text ls fits zeros plain (s.1) (e.1))
 
--- the lines of a text that ends with a line feed give whole pieces
-pub lines_give : (text : List ℕ) → length text + 3 < 2 ^ 64 → HasNoZero text → IsPlain text → ends_with_feed text ≡ true → AllByRecursion (λ (l : Line). Gives (IsWhole text) (cells_in text l) l) (lines_of text)
-lines_give text fits zeros plain fed = all_give text (lines_of text) fits zeros plain (lines_sound text plain) (lines_fed text plain fed)
+-- the lines of a text give whole pieces
+pub lines_give : (text : List ℕ) → length text + 3 < 2 ^ 64 → HasNoZero text → IsPlain text → AllByRecursion (λ (l : Line). Gives (IsWhole text) (cells_in text l) l) (lines_of text)
+lines_give text fits zeros plain = all_give text (lines_of text) fits zeros plain (lines_sound text plain) (lines-end text (omega arith))
 
 -- the pieces are ranges of characters
 

@@ -1,5 +1,5 @@
 -- The content of a leaf is the text that its lines are declared to have.
-use Rattle.std.specs.Prelude.{ℕ, ◌≡◌, Bool, false, ◌==◌, List, map}
+use Rattle.std.specs.Prelude.{ℕ, ◌≡◌, false, ◌==◌, List, map}
 use Rattle.std.specs.List.{list_any}
 use Rattle.tocmark_read_scan.specs.Content.{content_of}
 use Rattle.tocmark_read_page.specs.declared.piece.Piece.{Piece}

@@ -1,6 +1,6 @@
 -- What blocks say: each container and each inline with the number of containers that it is in, in order.
 use Rattle.std.specs.Prelude.{ℕ, suc, Bool, true, false, ◌==◌, List, [], ◌∷◌, ◌++◌, flat_map, Option, Some, None, ◌≡◌}
-use Rattle.tocmark_event.specs.View.{TagView, Paragraph, Heading, BlockQuote, CodeBlock, Indented, Fenced, HtmlBlock, ListOf, Item, EventView, Start, Leaf, Html, Rule}
+use Rattle.tocmark_event.specs.View.{Paragraph, Heading, BlockQuote, CodeBlock, Indented, Fenced, HtmlBlock, ListOf, Item, Start, Leaf, Html, Rule}
 use Rattle.tocmark_read_blocks.specs.Blocks.{BlocksView, blocks_in}
 use Rattle.tocmark_read_page.specs.declared.page.Block.{Block as ReadBlock}
 use Rattle.tocmark_read_page.specs.declared.piece.Piece.{Piece as Line}
