@@ -3,7 +3,7 @@ use Rattle.std.proofs.Common.{◌≡◌, ℕ, zero, suc, ◌+◌, ◌-◌, ◌^�
 use Rattle.std.specs.Prelude.{min, Option, Some, None}
 use Rattle.std.specs.List.{AllByRecursion, fold, list_any}
 use Rattle.std.proofs.lemmas.Bool.Decides.{nat_tests}
-use Rattle.std.proofs.lemmas.List.{length-map, map-append, reverse-append}
+use Rattle.std.proofs.lemmas.List.{map-append, reverse-append}
 use Rattle.tocmark_event.specs.View as view
 use Rattle.tocmark_event.specs.View.{TagView}
 use Rattle.tocmark_read_scan.specs.Basic.{plus}
@@ -22,7 +22,6 @@ use Rattle.tocmark_read_inlines.specs.declared.write.InlineKind.{InlineKind}
 use Rattle.tocmark_read_inlines.specs.declared.write.InlineKind.TheVariants as item
 use Rattle.tocmark_read_inlines.specs.declared.write.Node.{Node}
 use Rattle.tocmark_read_spans.specs.declared.definitions.Entry.{Entry}
-use Rattle.tocmark_read_spans.specs.declared.role.Role.{Role}
 use Rattle.tocmark_read_spans.specs.declared.role.Role.TheVariants.{Plain}
 use Rattle.tocmark_read_spans.specs.declared.role.Span.{Span}
 use Rattle.tocmark_read_spans.specs.declared.role.Span.TheVariants as span
@@ -37,7 +36,7 @@ use Rattle.tocmark_text_laws.specs.Housed.{is_list, is_item, is_container, is_kn
 use Rattle.tocmark_text_laws.specs.Proper.{is_heading_tag, is_list_tag, directly_in, is_refused_in, IsCounted, ReadingsAreProper}
 use Rattle.tocmark_text_laws.proofs.Alls.{all_both}
 use Rattle.tocmark_text_laws.proofs.RoleCounts.{copies, roles_count}
-use Rattle.tocmark_text_laws.proofs.Walks.{Safe, is_neutral}
+use Rattle.tocmark_text_laws.proofs.Walks.{Safe}
 use Rattle.tocmark_text_laws.proofs.Steps.{scanned_safe}
 use Rattle.tocmark_text_laws.proofs.Inner.{Deep, written_deep, moved_deep, copies_plain}
 use Rattle.tocmark_text_laws.proofs.HouseWalk.{blocks_housed}

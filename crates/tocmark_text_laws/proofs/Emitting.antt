@@ -1,9 +1,9 @@
 -- The events of nodes that are where they may be.
-use Rattle.std.proofs.Common.{◌≡◌, ℕ, zero, suc, ◌+◌, ◌-◌, ◌<◌, ◌≤◌, Bool, true, false, List, [], ◌∷◌, ◌++◌, length, map, take, drop, reverse, refl, ap, sym, ◌∙◌, subst, arith, append_assoc, length-append, length-take}
+use Rattle.std.proofs.Common.{◌≡◌, ℕ, zero, suc, ◌+◌, false, List, [], ◌∷◌, ◌++◌, length, map, take, drop, reverse, refl, ap, sym, ◌∙◌, subst, arith, append_assoc, length-append, length-take}
 use Rattle.std.specs.Prelude.{min}
-use Rattle.std.specs.List.{AllByRecursion, fold}
+use Rattle.std.specs.List.{fold}
 use Rattle.std.proofs.lemmas.List.{take-append-drop, reverse-append, map-append}
-use Rattle.tocmark_event.specs.View.{EventView, TagView, Start, End, Leaf, end_of}
+use Rattle.tocmark_event.specs.View.{EventView, TagView, Start}
 use Rattle.tocmark_reader.specs.Emitted.{ItemView, Container, Source, Given, NodeView, Writing, end_event, closings, closed, put, step, emitted}
 use Rattle.tocmark_reader.specs.declared.emit.Open.{Open}
 use Rattle.tocmark_text_laws.specs.Proper.{is_refused_in, NoneIsMisplaced}

@@ -1,5 +1,5 @@
 -- Each line leaves a page whose blocks are in containers alone.
-use Rattle.std.proofs.Common.{◌≡◌, ℕ, zero, suc, ◌-◌, Bool, true, false, ◌&&◌, ◌||◌, ◌==◌, if◌then◌else◌, nat_lt, nat_le, List, [], ◌∷◌, ◌++◌, length, refl, ap, sym, ◌∙◌, subst, true≢false}
+use Rattle.std.proofs.Common.{◌≡◌, ℕ, zero, suc, ◌-◌, Bool, true, false, ◌||◌, if◌then◌else◌, nat_lt, nat_le, List, [], ◌∷◌, ◌++◌, length, refl, ap, sym, ◌∙◌, subst}
 use Rattle.std.specs.Prelude.{slice_get, slice_set, unwrap_or, Option, Some, None}
 use Rattle.std.specs.Option.{option_map, option_map_or}
 use Rattle.std.specs.List.{fold}
@@ -25,13 +25,12 @@ use Rattle.tocmark_read_lines.specs.declared.container.Opened.{Opened}
 use Rattle.tocmark_read_lines.specs.declared.html.HtmlKind.{HtmlKind}
 use Rattle.tocmark_read_lines.specs.declared.line.Line.{Line}
 use Rattle.tocmark_read_page.specs.Leaves.{is_paragraph}
-use Rattle.tocmark_read_page.specs.Pages.{State, first_page, innermost, leaf_finished, settled, closed_to, list_left, leaf_opened, piece_taken, opened_with, has_text, start_of, of_kind}
+use Rattle.tocmark_read_page.specs.Pages.{State, first_page, leaf_finished, settled, closed_to, list_left, leaf_opened, piece_taken, opened_with, has_text, start_of, of_kind}
 use Rattle.tocmark_read_page.specs.Pieces.{code_piece, text_piece, heading_piece, keeps_line}
 use Rattle.tocmark_read_page.specs.declared.leaf.Leaf.{Leaf}
 use Rattle.tocmark_read_page.specs.declared.leaf.Leaf.TheVariants as leaf
 use Rattle.tocmark_read_page.specs.declared.line_start.LineStart.{LineStart}
 use Rattle.tocmark_read_page.specs.declared.page.Block.{Block}
-use Rattle.tocmark_read_page.specs.declared.page.BlockKind.{BlockKind}
 use Rattle.tocmark_read_page.specs.declared.page.BlockKind.TheVariants as kind
 use Rattle.tocmark_read_page.specs.declared.piece.Piece.{Piece}
 use Rattle.tocmark_read_constructs.specs.Headings.{heading_put, heading_started_in, underlined, underlined_in}
@@ -46,17 +45,17 @@ use Rattle.tocmark_read_blocks.specs.declared.leaf.LeafStart.{LeafStart}
 use Rattle.tocmark_read_blocks.specs.declared.leaf.LeafStart.TheVariants as start
 use Rattle.tocmark_read_blocks.specs.declared.leaf.Turn.{Turn}
 use Rattle.tocmark_read_blocks.specs.declared.leaf.Turn.TheVariants as turn
-use Rattle.tocmark_text_laws.specs.Housed.{AreHoused, BlocksAreHoused}
-use Rattle.tocmark_text_laws.proofs.Shut.{closed_shut, finished_shut, piece_taken_leaf, leaf_opened_leaf}
+use Rattle.tocmark_text_laws.specs.Housed.{BlocksAreHoused}
+use Rattle.tocmark_text_laws.proofs.Shut.{closed_shut, finished_shut}
 use Rattle.tocmark_text_laws.proofs.Leaves.{is_core}
 use Rattle.tocmark_text_laws.proofs.Core.{repeated_keeps, settled_leaf, turns_core}
 use Rattle.tocmark_text_laws.proofs.Begun.{is_core_start, container_core, item_shut, quote_shut}
 use Rattle.tocmark_text_laws.proofs.Machine.{core_at, core_begun}
 use Rattle.tocmark_text_laws.proofs.Turns.{turn_of_core}
 use Rattle.tocmark_text_laws.proofs.Kept.{line_core}
-use Rattle.tocmark_text_laws.proofs.Walked.{text_started_leaf, direct_words}
+use Rattle.tocmark_text_laws.proofs.Walked.{direct_words}
 use Rattle.tocmark_text_laws.proofs.Sorted.{containers, touched_containers}
-use Rattle.tocmark_text_laws.proofs.Houses.{Shape, shape, shapes, House, Last, Housed, Home, in_list, lists, home_shut, same_house, same_home, houses_plain, finish_house, settled_same, closed_to_house, innermost_in, list_left_house, opened_house, leaf_opened_home, kind_house}
+use Rattle.tocmark_text_laws.proofs.Houses.{shape, shapes, Housed, Home, in_list, lists, home_shut, same_house, same_home, houses_plain, finish_house, settled_same, closed_to_house, innermost_in, list_left_house, opened_house, leaf_opened_home, kind_house}
 
 finish_home : (s : State) → Housed s → Home (leaf_finished s)
 finish_home s h = home_shut (leaf_finished s) (finished_shut s) (finish_house s h)

@@ -1,5 +1,5 @@
 -- Blocks that are in containers alone, and the containers that are open.
-use Rattle.std.proofs.Common.{◌≡◌, ℕ, zero, suc, ◌+◌, ◌-◌, ◌<◌, ◌≤◌, Bool, true, false, if◌then◌else◌, nat_le, List, [], ◌∷◌, ◌++◌, length, map, take, drop, refl, ap, sym, ◌∙◌, subst, arith, true≢false, length-append}
+use Rattle.std.proofs.Common.{◌≡◌, ℕ, zero, suc, ◌-◌, ◌<◌, ◌≤◌, Bool, true, false, if◌then◌else◌, List, [], ◌∷◌, ◌++◌, length, map, take, drop, refl, ap, sym, ◌∙◌, subst, arith, true≢false}
 use Rattle.std.specs.Prelude.{slice_get, slice_set, Option, Some, None, is_some}
 use Rattle.std.specs.Option.{option_map, option_map_or}
 use Rattle.std.specs.List.{AllByRecursion}
@@ -11,17 +11,15 @@ use Rattle.tocmark_read_lines.specs.declared.container.Opened.{Opened}
 use Rattle.tocmark_read_lines.specs.declared.line.Line.{Line}
 use Rattle.tocmark_read_page.specs.Definitions.{definitions_from}
 use Rattle.tocmark_read_page.specs.Leaves.{is_paragraph}
-use Rattle.tocmark_read_page.specs.Pages.{State, is_list as page_list, innermost, ended, finished, raised_last, leaf_finished, table_finished, shortened, defined_as, settled_as, settled, leaf_closed_as, leaf_closed, is_quote, is_definitions, quote_left, one_closed, times, closed_to, list_of, is_loose, left_noted, list_left, is_apart, loosened, had_marked, begun, opened_with, leaf_opened, piece_taken, of_kind}
+use Rattle.tocmark_read_page.specs.Pages.{State, is_list as page_list, ended, finished, raised_last, leaf_finished, table_finished, shortened, defined_as, settled_as, settled, leaf_closed_as, leaf_closed, is_quote, is_definitions, quote_left, one_closed, times, closed_to, list_of, is_loose, left_noted, list_left, is_apart, loosened, had_marked, begun, opened_with, leaf_opened, of_kind}
 use Rattle.tocmark_read_page.specs.declared.leaf.Leaf.{Leaf}
 use Rattle.tocmark_read_page.specs.declared.leaf.Leaf.TheVariants as leaf
 use Rattle.tocmark_read_page.specs.declared.page.Block.{Block}
 use Rattle.tocmark_read_page.specs.declared.page.BlockKind.{BlockKind}
 use Rattle.tocmark_read_page.specs.declared.page.BlockKind.TheVariants as kind
-use Rattle.tocmark_read_page.specs.declared.piece.Piece.{Piece}
 use Rattle.tocmark_text_laws.specs.Housed.{is_list, is_item, is_container, is_known, is_in_list, IsHoused, AreHoused}
-use Rattle.tocmark_text_laws.proofs.Alls.{got_last, set_last, last_changed, same_numbers}
+use Rattle.tocmark_text_laws.proofs.Alls.{got_last, set_last, same_numbers}
 use Rattle.tocmark_text_laws.proofs.Nesting.{had_length}
-use Rattle.tocmark_text_laws.proofs.Shut.{closed_leaf_shut, one_closed_leaf}
 use Rattle.tocmark_text_laws.proofs.Sorted.{containers, raised_containers, had_containers}
 
 -- what matters of a block

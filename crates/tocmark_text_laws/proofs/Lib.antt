@@ -50,3 +50,15 @@ pub mod Houses
 pub mod HouseWalk
 pub mod Emitting
 pub mod Assembling
+pub mod Pairs
+pub mod QuotedCells
+pub mod QuotedMarks
+pub mod QuotedContainers
+pub mod QuotedPieces
+pub mod QuotedPages
+pub mod QuotedLeaves
+pub mod QuotedBegun
+pub mod QuotedTurns
+pub mod QuotedLines
+pub mod QuotedTrees
+pub mod QuotedRun

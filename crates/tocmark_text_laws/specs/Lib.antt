@@ -9,3 +9,4 @@ pub mod Inside
 pub mod Housed
 pub mod Proper
 pub mod Kept
+pub mod Quoted

@@ -1,0 +1,184 @@
+-- How containers begin after a block quote marker.
+use Rattle.std.proofs.Common.{◌≡◌, ℕ, zero, suc, ◌+◌, ◌-◌, ◌*◌, ◌<◌, ◌≤◌, Bool, true, false, ◌==◌, if◌then◌else◌, nat_le, List, [], ◌∷◌, ◌++◌, length, refl, ap, sym, subst, ◌∙◌, arith}
+use Rattle.std.specs.Prelude.{slice_get, Option, Some, None}
+use Rattle.std.specs.Option.{option_map, option_map_or}
+use Rattle.tocmark_read_scan.specs.Repeat.{going, repeated}
+use Rattle.tocmark_read_scan.specs.declared.syntax.TheConstants.{CORE}
+use Rattle.tocmark_read_lines.specs.Cells.{cell_byte, moved, is_blank_at}
+use Rattle.tocmark_read_lines.specs.Containers.{after_quote, container_at, container_in}
+use Rattle.tocmark_read_lines.specs.DefinitionLists.{definition_start}
+use Rattle.tocmark_read_lines.specs.Footnotes.{note_start}
+use Rattle.tocmark_read_lines.specs.Marks.{tail_of}
+use Rattle.tocmark_read_lines.specs.declared.beginnings.Tail.{Tail}
+use Rattle.tocmark_read_lines.specs.declared.cell.Cell.{Cell}
+use Rattle.tocmark_read_lines.specs.declared.cell.Cursor.{Cursor}
+use Rattle.tocmark_read_lines.specs.declared.container.Container.{Container}
+use Rattle.tocmark_read_lines.specs.declared.container.Container.TheVariants as container
+use Rattle.tocmark_read_lines.specs.declared.container.ContainerStart.{ContainerStart}
+use Rattle.tocmark_read_lines.specs.declared.container.ContainerStart.TheVariants as begins
+use Rattle.tocmark_read_lines.specs.declared.container.ItemStart.{ItemStart}
+use Rattle.tocmark_read_lines.specs.declared.container.Opened.{Opened}
+use Rattle.tocmark_read_lines.specs.declared.line.Line.{Line}
+use Rattle.tocmark_read_page.specs.Pages.{State, innermost, closed_to, is_quote, list_left, begun, opened_with, some_place, start_of, with_place}
+use Rattle.tocmark_read_page.specs.declared.line_start.LineStart.{LineStart}
+use Rattle.tocmark_read_page.specs.declared.page.BlockKind.{BlockKind}
+use Rattle.tocmark_read_page.specs.declared.page.BlockKind.TheVariants as kind
+use Rattle.tocmark_read_constructs.specs.Quotes.{quote_opened}
+use Rattle.tocmark_read_blocks.specs.Containers.{goes_directly, is_list_of, is_in_list, list_started, item_opened, begun_at, container_once_in}
+use Rattle.tocmark_text_laws.proofs.Pairs.{got_some, end_some, LastOf, after_length, after_last_got}
+use Rattle.tocmark_text_laws.proofs.QuotedCells.{le_yes, le_suc, cursor_on, length_on}
+use Rattle.tocmark_text_laws.proofs.QuotedContainers.{OpenedOn, IsOuter, is_inner, InLine, CursorOn, moved_on, after_on, after_further, start_on, item_on, Fine, StartOn, container_in_two}
+use Rattle.tocmark_text_laws.proofs.QuotedPieces.{Beside}
+use Rattle.tocmark_text_laws.proofs.QuotedPages.{Inside, inside_more, closed_two, list_left_two, opened_with_two}
+use Rattle.tocmark_text_laws.proofs.QuotedLeaves.{place_on}
+
+-- a place in a line, and the same after the marker
+abbrev pub PlaceOn : ℕ → List Cell → LineStart → LineStart → Type 0
+PlaceOn shift r there here = (there ≡ place_on shift here) × InLine r here.cursor
+
+in_list_two : (t q : List ℕ) (n sort : ℕ) (there here : State) → Inside t q n there here → is_in_list sort there ≡ is_in_list sort here
+unfolding is_in_list
+in_list_two t q n sort there here h = by (innermost there.opened) (innermost here.opened) (after_last_got IsOuter OpenedOn there.opened here.opened h.opened.after)
+  where
+    by : (o p : Option Opened) → LastOf IsOuter OpenedOn o p → option_map_or (λ (o : Opened). is_list_of sort o.container) o false ≡ option_map_or (λ (o : Opened). is_list_of sort o.container) p false
+    by None None u = refl
+    by None (Some y) u = absurd u
+    by (Some x) None u = ap (is_list_of sort) u.quote
+    by (Some x) (Some y) u = ap (is_list_of sort) u.container
+
+opened_some : (c : Container) (k : BlockKind) (start : ℕ) (line : Line) (s : State) → 0 < length (opened_with c k start line s).opened
+unfolding opened_with
+opened_some c k start line s = by (is_quote c)
+  where
+    t : State
+    t = begun k start line.number s
+
+    v : State
+    v = record t { opened = t.opened ++ record { container = c; block = length t.blocks - 1; end = line.end; line = line.number; had = false } ∷ [] }
+
+    by : (b : Bool) → 0 < length (if b then record v { quotes = v.quotes ++ (length v.opened - 1) ∷ [] } else v).opened
+    by true = end_some t.opened _
+    by false = end_some t.opened _
+
+list_some : (i : ItemStart) (start : ℕ) (line : Line) (s : State) → 0 < length (list_started i start line s).opened
+unfolding list_started is_in_list
+list_some i start line s = by (slice_get s.opened (length s.opened - 1)) refl
+  where
+    new : State
+    new = opened_with (container.List i.sort) (kind.List i.number) start line (list_left s)
+
+    some : 0 < length new.opened
+    some = opened_some (container.List i.sort) (kind.List i.number) start line (list_left s)
+
+    each : (k : Bool) → 0 < length s.opened → 0 < length (if k then s else new).opened
+    each true e = e
+    each false e = some
+
+    by : (o : Option Opened) → slice_get s.opened (length s.opened - 1) ≡ o → 0 < length (if option_map_or (λ (o : Opened). is_list_of i.sort o.container) o false then s else new).opened
+    by None e = some
+    by (Some o) e = each (is_list_of i.sort o.container) (got_some s.opened (length s.opened - 1) o e)
+
+list_started_two : (t q : List ℕ) (n shift : ℕ) (i : ItemStart) (start far : ℕ) (l' l : Line) (there here : State) → l'.number ≡ l.number → Inside t q n there here → Inside t q (suc n) (list_started (item_on shift i) start l' there) (list_started i far l here)
+unfolding list_started is_inner
+list_started_two t q n shift i start far l' l there here number h = rw (in_list_two t q n i.sort there here h) (by (is_in_list i.sort here))
+  where
+    by : (b : Bool) → Inside t q (suc n) (if b then there else opened_with (container.List i.sort) (kind.List i.number) start l' (list_left there)) (if b then here else opened_with (container.List i.sort) (kind.List i.number) far l (list_left here))
+    by true = inside_more t q n (suc n) there here (omega arith) h
+    by false = opened_with_two t q n (container.List i.sort) (kind.List i.number) (kind.List i.number) start far l' l (list_left there) (list_left here) refl number (λ e. absurd cc) (list_left_two t q n there here h)
+
+placed : (shift : ℕ) (c' c : Cursor) (d' d : ℕ) → c' ≡ cursor_on shift c → d' ≡ suc d → record { cursor = c'; depth = d' } ≡ place_on shift (record { cursor = c; depth = d })
+placed shift c' c d' d e f = ap (λ (x : Cursor). at x d') e ∙ ap (at (cursor_on shift c)) f
+  where
+    at : Cursor → ℕ → LineStart
+    at x k = record { cursor = x; depth = k }
+
+-- both states after a step, and that it takes a column
+abbrev pub Goes : List ℕ → List ℕ → ℕ → ℕ → List Cell → LineStart → State × Option LineStart → State × Option LineStart → Type 0
+Goes t q n shift r p (u', None) (u, None) = Inside t q n u' u
+Goes t q n shift r p (u', None) (u, Some d) = ⊥
+Goes t q n shift r p (u', Some d') (u, None) = ⊥
+Goes t q n shift r p (u', Some d') (u, Some d) = Inside t q (suc (suc n)) u' u × PlaceOn shift r d' d × (p.cursor.column < d.cursor.column)
+
+went : (t q : List ℕ) (n shift : ℕ) (r : List Cell) (p : LineStart) (c' c : Cursor) (u' u : State) → CursorOn shift r c' c → p.cursor.column < c.column → Inside t q (suc (suc n)) u' u → Goes t q n shift r p (some_place (with_place c' u')) (some_place (with_place c u))
+went t q n shift r p c' c u' u k more h = (h, (placed shift c' c (length u'.opened) (length u.opened) (k.0) (after_length IsOuter OpenedOn u'.opened u.opened h.opened.after), k.1), more)
+
+quote_two : (t q : List ℕ) (n : ℕ) (l' l : Line) (shift : ℕ) (w r : List Cell) (p : LineStart) (there here : State) → Beside t q l' l shift w r → InLine r p.cursor → (cell_byte r p.cursor.ink == 62) ≡ true → Inside t q n there here
+    → Goes t q n shift r p (some_place (quote_opened q w l' (place_on shift p) there)) (some_place (quote_opened t r l p here))
+unfolding quote_opened is_inner
+quote_two t q n l' l shift w r p there here h i e k =
+    went t q n shift r p (after_quote w (cursor_on shift p.cursor)) (after_quote r p.cursor) _ _ (after_on shift w r p.cursor h.quoted e i)
+    (let z : p.cursor.ink < (after_quote r p.cursor).column = after_further r p.cursor e (omega (arith, h.quoted.fits)) in omega (arith, z, i.column))
+    (inside_more t q (suc n) (suc (suc n)) _ _ (omega arith)
+    (opened_with_two t q n container.Quote (kind.Quote None) (kind.Quote None) (start_of w (place_on shift p) l') (start_of r p l) l' l (list_left (closed_to q (suc p.depth) there)) (list_left (closed_to t p.depth here)) refl h.line.number (λ x. absurd cc)
+    (list_left_two t q n (closed_to q (suc p.depth) there) (closed_to t p.depth here) (closed_two t q n p.depth there here k))))
+
+item_two : (t q : List ℕ) (n : ℕ) (l' l : Line) (shift : ℕ) (w r : List Cell) (p : LineStart) (x : ItemStart) (there here : State) → Beside t q l' l shift w r → InLine r p.cursor → p.cursor.ink < x.next → x.next ≤ length r → Inside t q n there here
+    → Goes t q n shift r p (some_place (item_opened q w l' (place_on shift p) (item_on shift x) there)) (some_place (item_opened t r l p x here))
+unfolding item_opened moved
+item_two t q n l' l shift w r p x there here h i more low k =
+    went t q n shift r p (moved w (cursor_on shift p.cursor) (shift + x.next)) (moved r p.cursor x.next) _ _ (moved_on shift w r p.cursor x.next h.quoted low i) (omega (arith, more, i.column))
+    (opened_with_two t q (suc n) (container.Item x.width) kind.Item kind.Item (start_of w (place_on shift p) l') (start_of r p l) l' l
+    (list_started (item_on shift x) (start_of w (place_on shift p) l') l' (closed_to q (suc p.depth) there)) (list_started x (start_of r p l) l (closed_to t p.depth here)) refl h.line.number
+    (λ e. list_some x (start_of r p l) l (closed_to t p.depth here))
+    (list_started_two t q n shift x (start_of w (place_on shift p) l') (start_of r p l) l' l (closed_to q (suc p.depth) there) (closed_to t p.depth here) h.line.number (closed_two t q n p.depth there here k)))
+
+begun_two : (t q : List ℕ) (n : ℕ) (l' l : Line) (shift : ℕ) (w r : List Cell) (p : LineStart) (o : Option ContainerStart) (there here : State) → Beside t q l' l shift w r → InLine r p.cursor → Fine r p.cursor o → Inside t q n there here
+    → Goes t q n shift r p (begun_at q w l' (place_on shift p) there (option_map (start_on shift) o)) (begun_at t r l p here o)
+begun_two t q n l' l shift w r p None there here h i e k = k
+begun_two t q n l' l shift w r p (Some begins.Quote) there here h i e k = quote_two t q n l' l shift w r p there here h i e k
+begun_two t q n l' l shift w r p (Some (begins.Item x)) there here h i e k = item_two t q n l' l shift w r p x there here h i (e.0) (e.1) k
+begun_two t q n l' l shift w r p (Some (begins.Footnote x)) there here h i e k = absurd e
+begun_two t q n l' l shift w r p (Some (begins.Definition x)) there here h i e k = absurd e
+
+pub directly_two : (t q : List ℕ) (n depth : ℕ) (there here : State) → Inside t q n there here → goes_directly (suc depth) there ≡ goes_directly depth here
+unfolding goes_directly
+directly_two t q n depth there here h = rw (h.leaf, after_length IsOuter OpenedOn there.opened here.opened h.opened.after, less) refl
+  where
+    less : nat_le (suc (length here.opened)) (suc depth) ≡ nat_le (length here.opened) depth
+    less = le_suc (length here.opened) depth
+
+once_two : (t q : List ℕ) (n : ℕ) (l' l : Line) (shift : ℕ) (w r : List Cell) (p : LineStart) (there here : State) → Beside t q l' l shift w r → InLine r p.cursor → Inside t q n there here
+    → Goes t q n shift r p (container_once_in CORE q w l' (tail_of w) (place_on shift p) there) (container_once_in CORE t r l (tail_of r) p here)
+unfolding container_once_in
+once_two t q n l' l shift w r p there here h i k =
+    rw (directly_two t q n p.depth there here k, found.0) (begun_two t q n l' l shift w r p (container_in CORE r (tail_of r) p.cursor (goes_directly p.depth here)) there here h i (found.1) k)
+  where
+    found : StartOn shift r p.cursor (container_in CORE w (tail_of w) (cursor_on shift p.cursor) (goes_directly p.depth here)) (container_in CORE r (tail_of r) p.cursor (goes_directly p.depth here))
+    found = container_in_two shift w r p.cursor (goes_directly p.depth here) h.quoted i
+
+-- nothing begins where nothing is left of a line
+blank_stays : (t : List ℕ) (cs : List Cell) (line : Line) (tail : Tail) (p : LineStart) (s : State) (n : ℕ) → is_blank_at cs p.cursor ≡ true → repeated (container_once_in CORE t cs line tail) n p s ≡ (s, p)
+unfolding repeated container_once_in container_in container_at definition_start note_start
+blank_stays t cs line tail p s zero e = refl
+blank_stays t cs line tail p s (suc n) e = rw e refl
+
+-- both states after all steps
+abbrev pub Went : List ℕ → List ℕ → ℕ → ℕ → List Cell → State × LineStart → State × LineStart → Type 0
+Went t q n shift r (u', p') (u, p) = Inside t q n u' u × PlaceOn shift r p' p
+
+-- as many steps as columns are left are enough
+pub repeated_two : (t q : List ℕ) (n : ℕ) (l' l : Line) (shift : ℕ) (w r : List Cell) (k' k : ℕ) (p : LineStart) (there here : State) → Beside t q l' l shift w r → k ≤ k' → length r ≤ p.cursor.column + k → InLine r p.cursor → Inside t q (n + 2 * p.cursor.column) there here
+    → Went t q (n + 2 * length r) shift r (repeated (container_once_in CORE q w l' (tail_of w)) k' (place_on shift p) there) (repeated (container_once_in CORE t r l (tail_of r)) k p here)
+unfolding repeated
+repeated_two t q n l' l shift w r k' zero p there here h low enough i g = subst (λ x. Went t q (n + 2 * length r) shift r x (here, p)) (sym (blank_stays q w l' (tail_of w) (place_on shift p) there k' blank)) (inside_more t q (n + 2 * p.cursor.column) (n + 2 * length r) there here (omega (arith, i.column, i.ink)) g, (refl, i))
+  where
+    blank : nat_le (length w) (shift + p.cursor.ink) ≡ true
+    blank = let z : length w ≤ shift + p.cursor.ink = omega (arith, length_on shift w r h.quoted, enough, i.column) in le_yes (length w) (shift + p.cursor.ink) z
+repeated_two t q n l' l shift w r zero (suc k) p there here h low enough i g = absurd (omega (arith, low))
+repeated_two t q n l' l shift w r (suc k') (suc k) p there here h low enough i g =
+    by (container_once_in CORE q w l' (tail_of w) (place_on shift p) there) (container_once_in CORE t r l (tail_of r) p here) (once_two t q (n + 2 * p.cursor.column) l' l shift w r p there here h i g)
+    (λ d u' u more j m. repeated_two t q n l' l shift w r k' k d u' u h (omega (arith, low)) (omega (arith, enough, more)) j (inside_more t q (suc (suc (n + 2 * p.cursor.column))) (n + 2 * d.cursor.column) u' u (omega (arith, more)) m))
+  where
+    rest' : LineStart → State → State × LineStart
+    rest' = λ d u. repeated (container_once_in CORE q w l' (tail_of w)) k' d u
+
+    rest : LineStart → State → State × LineStart
+    rest = λ d u. repeated (container_once_in CORE t r l (tail_of r)) k d u
+
+    by : (a b : State × Option LineStart) → Goes t q (n + 2 * p.cursor.column) shift r p a b
+        → ((d : LineStart) (u' u : State) → p.cursor.column < d.cursor.column → InLine r d.cursor → Inside t q (suc (suc (n + 2 * p.cursor.column))) u' u → Went t q (n + 2 * length r) shift r (rest' (place_on shift d) u') (rest d u))
+        → Went t q (n + 2 * length r) shift r (going rest' (place_on shift p) a) (going rest p b)
+    by (u', None) (u, None) m again = (inside_more t q (n + 2 * p.cursor.column) (n + 2 * length r) u' u (omega (arith, i.column, i.ink)) m, (refl, i))
+    by (u', None) (u, Some d) m again = absurd m
+    by (u', Some d') (u, None) m again = absurd m
+    by (u', Some d') (u, Some d) (m, place, more) again = subst (λ x. Went t q (n + 2 * length r) shift r (rest' x u') (rest d u)) (sym (place.0)) (again d u' u more (place.1) m)
