@@ -36,8 +36,7 @@ use Rattle.tocmark_standard_laws.specs.Contents.{HasNoZero}
 use Rattle.tocmark_standard_laws.specs.Labels.{collected_of, entry_in, destinations_of}
 use Rattle.tocmark_standard_laws.specs.Lettered.{lettered, as_text}
 use Rattle.tocmark_standard_laws.specs.Nesting.{Sort, sort_of, Outer, shape, IsIn, after_as, after, Nested}
-use Rattle.tocmark_standard_laws.specs.CoveredTexts.{CoveredTextsAreReadAsDeclared, AgreedTextsAreReadAsDeclared}
-use Rattle.tocmark_standard_laws.specs.Wordless.{events_read}
+use Rattle.tocmark_standard_laws.specs.CoveredTexts.{CoveredTextsAreReadAsDeclared, AgreedTextsAreReadAsDeclared, events_read}
 use Rattle.tocmark_standard_laws.proofs.Ended.{events-said, ended_as_text}
 use Rattle.tocmark_standard_laws.proofs.Fitting.{shapes}
 use Rattle.tocmark_standard_laws.proofs.FitWalk.{Found, found_fits}

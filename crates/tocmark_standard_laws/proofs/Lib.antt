@@ -5,6 +5,7 @@ pub mod Fitting
 pub mod FitWalk
 pub mod SaidBlocks
 pub mod FlatBlocks
+pub mod Fed
 pub mod Ended
 pub mod Shown
 pub mod Cuts
@@ -20,4 +21,3 @@ pub mod LeafNodes
 pub mod LeafShown
 pub mod CoveredTexts
 pub mod CoveredExamples
-pub mod WordlessEvents

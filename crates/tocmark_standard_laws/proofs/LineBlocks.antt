@@ -37,7 +37,7 @@ use Rattle.tocmark_inline_laws.proofs.Stretches.{letters_append}
 use Rattle.tocmark_standard_laws.specs.Contents.{HasNoZero}
 use Rattle.tocmark_standard_laws.specs.Lettered.{tag_as_text}
 use Rattle.tocmark_standard_laws.specs.Nesting.{sort_of, is_common}
-use Rattle.tocmark_standard_laws.specs.Wordless.{is_fed}
+use Rattle.tocmark_standard_laws.proofs.Fed.{is_fed}
 use Rattle.tocmark_standard_laws.proofs.Ended.{piece_as_text}
 use Rattle.tocmark_standard_laws.proofs.WellBlocks.{is_html_text}
 use Rattle.tocmark_standard_laws.specs.SaidBlocks.{html_at, line_said, html_said, words_said, said_if, one_said}

@@ -28,7 +28,7 @@ use Rattle.tocmark_block_laws.specs.Quotes.{ends_with_feed}
 use Rattle.tocmark_block_laws.proofs.Fronts.{ink_first}
 use Rattle.tocmark_text_laws.proofs.Alls.{all_both, all_take}
 use Rattle.tocmark_standard_laws.specs.Contents.{HasNoZero}
-use Rattle.tocmark_standard_laws.specs.Wordless.{is_fed}
+use Rattle.tocmark_standard_laws.proofs.Fed.{is_fed}
 use Rattle.tocmark_standard_laws.proofs.Contents.{dropped, dropped_blank, dropped_ink, joined_feed}
 use Rattle.tocmark_standard_laws.proofs.Cuts.{all_drop}
 

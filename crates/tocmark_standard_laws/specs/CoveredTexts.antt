@@ -1,11 +1,17 @@
 -- Texts whose blocks are those that are declared: their events are the declared ones, with paragraphs and headings.
 use Rattle.std.specs.Prelude.{ℕ, ◌+◌, ◌*◌, ◌^◌, ◌<◌, ◌≡◌, true, ◌||◌, List, length, map}
 use Rattle.std.specs.Str.{IsUtf8}
+use Rattle.tocmark_event.specs.View.{EventView}
+use Rattle.tocmark_reader.specs.Reading.{reading_of}
 use Rattle.tocmark_commonmark.specs.Events.{events_of}
 use Rattle.tocmark_block_laws.specs.Lists.{has_one_line_blocks}
 use Rattle.tocmark_block_laws.specs.Quotes.{Agrees, IsPlain, is_covered}
+use Rattle.tocmark_inline_laws.specs.Said.{commonmark}
 use Rattle.tocmark_standard_laws.specs.Lettered.{lettered, as_text}
-use Rattle.tocmark_standard_laws.specs.Wordless.{events_read}
+
+-- the events that are read of a text, without their ranges
+abbrev pub events_read : List ℕ → List EventView
+events_read text = map (λ e. e.0) (reading_of commonmark text).events
 
 -- A text of which the law speaks, in fewer than 2 ^ 62 bytes. It has leaf blocks and block quotes, or its blocks have one line each, in
 -- lists or not.

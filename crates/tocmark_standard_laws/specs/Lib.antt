@@ -5,6 +5,5 @@ pub mod Nesting
 pub mod Lettered
 pub mod SaidBlocks
 pub mod Ended
-pub mod Wordless
 pub mod CoveredTexts
 pub mod CoveredExamples

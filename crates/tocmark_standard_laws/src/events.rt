@@ -4,7 +4,6 @@ ghost use Rattle.tocmark_standard_laws.specs.CoveredExamples.{ExamplesAreCovered
 ghost use Rattle.tocmark_standard_laws.specs.CoveredTexts.{AgreedTextsAreReadAsDeclared, CoveredTextsAreReadAsDeclared};
 ghost use Rattle.tocmark_standard_laws.specs.Ended.{DeclaredEventsAreSaid, NodesAreEmitted};
 ghost use Rattle.tocmark_standard_laws.specs.SaidBlocks.{BlocksSayTheirTree};
-ghost use Rattle.tocmark_standard_laws.specs.Wordless.{WordlessTextsAreReadAsDeclared};
 
 /// The reader's blocks say, one after the other, what their tree says, in every text.
 ///
@@ -21,21 +20,6 @@ pub fn declared_events_are_said()
 /// The events that the reader makes of nodes are those of what the nodes show.
 pub fn nodes_are_emitted()
     ensures { NodesAreEmitted }
-{}
-
-/// The events of a text of thematic breaks, code, HTML and definitions of links, also in block quotes, are those that CommonMark
-/// declares.
-///
-/// It doesn't matter how texts and HTML are cut into events. This is such a text:
-///
-/// ```text
-/// > ---
-/// > <p>
-/// >
-/// >     a
-/// ```
-pub fn wordless_texts_are_read_as_declared()
-    ensures { WordlessTextsAreReadAsDeclared }
 {}
 
 /// If the reader finds the blocks and the definitions of links of a text that CommonMark declares, it reads the declared events.
