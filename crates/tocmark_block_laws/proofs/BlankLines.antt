@@ -54,7 +54,7 @@ blank_columns text b = cells_at b.line.start [] (blank_bytes text b)
 abbrev blank_place : (text : List ℕ) → BlankRow text → Cursor
 blank_place text b = place_at 0 (blank_bytes text b)
 
-short : (text : List ℕ) (b : BlankRow text) → length (blank_bytes text b) + 3 < 2 ^ 64
+pub short : (text : List ℕ) (b : BlankRow text) → length (blank_bytes text b) + 3 < 2 ^ 64
 short text b =
     let s : Sound text b.line = b.sound in
     let order : b.line.start ≤ b.line.end = s.order in
@@ -85,7 +85,7 @@ blank_opens : (columns : List Cell) (tail : Tail) (cursor : Cursor) (p : Bool) �
 unfolding container_in container_at definition_start note_start
 blank_opens columns tail cursor p long = rw long refl
 
-blank_begins : (text : List ℕ) (columns : List Cell) (l : Line) (d : ℕ) (cursor : Cursor) (s : State) → nat_le (length columns) cursor.ink ≡ true → begin text columns l d cursor s ≡ closed_to text d s
+pub blank_begins : (text : List ℕ) (columns : List Cell) (l : Line) (d : ℕ) (cursor : Cursor) (s : State) → nat_le (length columns) cursor.ink ≡ true → begin text columns l d cursor s ≡ closed_to text d s
 unfolding leaf_started_in started_in metadata_in metadata_or task_in task_or quote_kind_in quote_kind_or tag_in tag_or
 blank_begins text columns l d cursor s long =
     ap (started_at text columns l (tail_of columns)) (opens_none text columns l d cursor (length columns) s (λ p. blank_opens columns (tail_of columns) cursor p long))
@@ -227,7 +227,7 @@ is_resting leaf.Nothing = true
 is_resting leaf.Paragraph = true
 is_resting lf = false
 
-rests : (text : List ℕ) (columns : List Cell) (l : Line) (cursor : Cursor) (lf : Leaf) → is_resting lf ≡ true → leaf_turn text columns l cursor lf ≡ turn.Passes
+pub rests : (text : List ℕ) (columns : List Cell) (l : Line) (cursor : Cursor) (lf : Leaf) → is_resting lf ≡ true → leaf_turn text columns l cursor lf ≡ turn.Passes
 unfolding leaf_turn
 rests text columns l cursor leaf.Nothing e = refl
 rests text columns l cursor leaf.Paragraph e = refl

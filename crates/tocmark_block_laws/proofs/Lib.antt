@@ -20,7 +20,12 @@ pub mod Pages
 pub mod Paragraphs
 pub mod ListPages
 pub mod BlankLines
+pub mod Nests
+pub mod Within
+pub mod NestedLines
 pub mod Told
+pub mod Loosened
+pub mod NestedStarts
 pub mod Ends
 pub mod ReadCodes
 pub mod ReadHtml
@@ -28,6 +33,10 @@ pub mod ReadParagraphs
 pub mod ReadQuotes
 pub mod DeclaredLists
 pub mod Read
+pub mod NestedEnds
+pub mod NestedLeaves
+pub mod ReadNested
 pub mod ReadLists
 pub mod ListTexts
+pub mod NestedTexts
 pub mod Coverage

@@ -1,27 +1,19 @@
 -- The lines of a text that is a list, and what is read of it.
 use Rattle.std.proofs.Common.{◌≡◌, ℕ, suc, ◌+◌, ◌-◌, ◌^◌, ◌<◌, ◌≤◌, Bool, true, false, not, ◌&&◌, ◌||◌, if◌then◌else◌, nat_lt, nat_le, List, [], ◌∷◌, ◌++◌, length, map, drop, refl, ap, sym, subst, ◌∙◌, arith, append-nil, length-append, true≢false}
-use Rattle.std.specs.Prelude.{Option, Some, None}
 use Rattle.std.specs.List.{AllByRecursion, fold, list_any}
 use Rattle.std.proofs.lemmas.Bool.Decides.{nat_tests}
 use Rattle.std.proofs.lemmas.List.{length-map}
 use Rattle.tocmark_read_scan.specs.Basic.{plus, bytes_between}
-use Rattle.tocmark_read_lines.specs.Cells.{first_cursor}
 use Rattle.tocmark_read_lines.specs.Lines.{ends_here, line_stop, line, lines_from, lines_of}
-use Rattle.tocmark_read_lines.specs.Marks.{heading_at, fence_at, tail_of, is_rule, marker_at}
-use Rattle.tocmark_read_lines.specs.declared.beginnings.Fence.{Fence}
-use Rattle.tocmark_read_lines.specs.declared.beginnings.Heading.{Heading}
-use Rattle.tocmark_read_lines.specs.declared.beginnings.Marker.{Marker}
-use Rattle.tocmark_read_lines.specs.declared.cell.Cell.{Cell}
-use Rattle.tocmark_read_lines.specs.declared.html.HtmlKind.{HtmlKind}
 use Rattle.tocmark_read_lines.specs.declared.line.Line.{Line}
 use Rattle.tocmark_read_page.specs.Definitions.{DefinitionView}
 use Rattle.tocmark_read_page.specs.Pages.{State, closed_to}
 use Rattle.tocmark_read_page.specs.declared.leaf.Leaf.TheVariants as leaf
 use Rattle.tocmark_read_constructs.specs.Metadata.{known_of}
 use Rattle.tocmark_read_blocks.specs.Blocks.{line_taken, page_in, blocks_in}
-use Rattle.tocmark_commonmark.specs.Lines.{Line as DeclaredLine, Part, Written, is_blank, is_blank_line, indent, ink, line_bytes, line_ink, cells, lines_of as declared_lines}
+use Rattle.tocmark_commonmark.specs.Lines.{Line as DeclaredLine, Part, Written, is_blank, is_blank_line, indent, line_bytes, line_ink, lines_of as declared_lines}
 use Rattle.tocmark_commonmark.specs.Tree.{Blocks, none}
-use Rattle.tocmark_commonmark.specs.Beginnings.{ItemMark, Beginning, BlankLine, CodeLine, QuoteLine, HeadingLine, FenceLine, HtmlLine, RuleLine, ItemLine, TextLine, LazyLine, first_of_these, html_if, begins_with, beginning_of, beginning}
+use Rattle.tocmark_commonmark.specs.Beginnings.{ItemMark, Beginning, BlankLine, CodeLine, QuoteLine, HeadingLine, FenceLine, HtmlLine, RuleLine, ItemLine, TextLine, LazyLine, beginning_of, beginning}
 use Rattle.tocmark_commonmark.specs.Blocks.{blocks_from, size, blocks, blocks_of}
 use Rattle.tocmark_block_laws.specs.Trees.{tree_of, placed_in}
 use Rattle.tocmark_block_laws.specs.Quotes.{is_special, IsPlain, ends_with_feed}
@@ -37,6 +29,8 @@ use Rattle.tocmark_block_laws.proofs.Markers.{ItemFacts, item_of}
 use Rattle.tocmark_block_laws.proofs.Apart.{after_these}
 use Rattle.tocmark_block_laws.proofs.ListPages.{stack_page, top_stays}
 use Rattle.tocmark_block_laws.proofs.BlankLines.{BlankRow, blank_bytes, blank_at_top}
+use Rattle.tocmark_block_laws.proofs.NestedLines.{blank_part}
+use Rattle.tocmark_block_laws.proofs.Within.{Known}
 use Rattle.tocmark_block_laws.proofs.Told.{holds_read}
 use Rattle.tocmark_block_laws.proofs.ReadCodes.{Pass}
 use Rattle.tocmark_block_laws.proofs.Read.{both_true}
@@ -45,11 +39,11 @@ use Rattle.tocmark_block_laws.proofs.ReadLists.{Row, LeafRow, RowEntry, ItemRow,
 
 -- lines are numbered
 
-abbrev Numbered : ℕ → List Line → Type 0
+abbrev pub Numbered : ℕ → List Line → Type 0
 Numbered n [] = Unit {0}
 Numbered n (l ∷ ls) = (l.number ≡ suc n) × Numbered (suc n) ls
 
-numbered_from : (text bs : List ℕ) (before start at : ℕ) → before + length bs + 2 < 2 ^ 64 → Numbered before (lines_from text before start at bs)
+pub numbered_from : (text bs : List ℕ) (before start at : ℕ) → before + length bs + 2 < 2 ^ 64 → Numbered before (lines_from text before start at bs)
 numbered_from text [] before start at fits = by (nat_lt start at)
   where
     by : (k : Bool) → Numbered before (if k then line before start at at ∷ [] else [])
@@ -72,28 +66,6 @@ all_three false b c e = absurd (true≢false (sym e))
 all_three true false c e = absurd (true≢false (sym e))
 all_three true true false e = absurd (true≢false (sym e))
 all_three true true true e = (refl, refl, refl)
-
--- only a blank line begins nothing
-
-near_ink : (part : Part) (q : Bool) (h : Option Heading) (f : Option Fence) (k : Option HtmlKind) (r : Bool) (m : Option Marker) → first_of_these part q h f k r m ≡ BlankLine → ⊥
-near_ink part true h f k r m e = absurd cc
-near_ink part false (Some x) f k r m e = absurd cc
-near_ink part false None (Some f) k r m e = absurd cc
-near_ink part false None None (Some k) r m e = absurd cc
-near_ink part false None None None true m e = absurd cc
-near_ink part false None None None false (Some m) e = absurd cc
-near_ink part false None None None false None e = absurd cc
-
-is_blank_part : (p : Part) (blank far : Bool) → beginning_of p blank far ≡ BlankLine → blank ≡ true
-is_blank_part p true far e = refl
-is_blank_part p false true e = absurd cc
-is_blank_part p false false e =
-    let c : List Cell = cells (ink p) in
-    absurd (near_ink p (begins_with 62 (ink p)) (heading_at c 0) (fence_at c (first_cursor c)) (html_if (begins_with 60 (ink p)) (ink p)) (is_rule c (tail_of c) 0) (marker_at c 0) e)
-
-blank_part : (p : Part) → beginning (Written p) ≡ BlankLine → is_blank p.bytes ≡ true
-unfolding beginning
-blank_part p e = is_blank_part p (is_blank p.bytes) (nat_le 4 (indent p)) e
 
 -- a line that begins something isn't blank
 part_ink : (p : Part) → is_blank_kind (beginning (Written p)) ≡ false → is_blank p.bytes ≡ false
@@ -134,15 +106,7 @@ record Rows (text : List ℕ) (width : ℕ) (quiet : Bool) (number : ℕ) (ls : 
   runs : Runs text width (quiet || nat_lt 0 (length lead)) (number + length lead) rows
   follow : Follow width (quiet || nat_lt 0 (length lead)) (row_entries text rows)
 
--- what is known of a line
-record LineFacts (text : List ℕ) (l : Line) : Type 0 where
-  plain : IsPlain text
-  fits : length text + 3 < 2 ^ 64
-  sound : Sound text l
-  feedless : has_feed (bytes_between text l.start l.end) ≡ false
-  fed : ends_with_feed text ≡ true → Fed text l
-
-row_of : (text : List ℕ) (l : Line) → LineFacts text l → (m : ItemMark) → beginning (declared text l) ≡ ItemLine m → is_one_line (beginning (Written m.first)) ≡ true → List (BlankRow text) → Row text
+row_of : (text : List ℕ) (l : Line) → Known text l → (m : ItemMark) → beginning (declared text l) ≡ ItemLine m → is_one_line (beginning (Written m.first)) ≡ true → List (BlankRow text) → Row text
 row_of text l k m begins one pauses = record {
   line = l;
   item = record { part = part_at 0 xs; mark = m; blanks = blank_shown text pauses; begins = begins; one = one; short = count_low (line_ink (Written m.first) ∷ []) (no_feed, tt); blank = blank_pass text pauses };
@@ -165,7 +129,7 @@ row_of text l k m begins one pauses = record {
     no_feed : has_feed (line_ink (Written m.first)) ≡ false
     no_feed = ap (λ p. has_feed (line_ink (Written p))) f.first ∙ feed_drop (spaces_of (drop f.to xs)) (drop f.to xs) (feed_drop f.to xs k.feedless)
 
-leaf_of : (text : List ℕ) (l : Line) → LineFacts text l → (k : Beginning) → beginning (declared text l) ≡ k → is_one_line k ≡ true → is_blank_kind k ≡ false → List (BlankRow text) → LeafRow text
+leaf_of : (text : List ℕ) (l : Line) → Known text l → (k : Beginning) → beginning (declared text l) ≡ k → is_one_line k ≡ true → is_blank_kind k ≡ false → List (BlankRow text) → LeafRow text
 leaf_of text l f k begins one some pauses = record {
   line = l;
   single = record { part = part_at 0 xs; kind = k; blanks = blank_shown text pauses; begins = begins; one = one; some = some; ink = part_ink (part_at 0 xs) (ap is_blank_kind begins ∙ some); short = count_low (line_ink (Written (part_at 0 xs)) ∷ []) (feed_drop (spaces_of xs) xs f.feedless, tt); blank = blank_pass text pauses };
@@ -203,7 +167,7 @@ closes_of text width number quiet u ls r blanks e = by r.rows r.lead ls blanks r
         let blank : is_blank_line (declared text m) ≡ true = sym (ap (λ z. not z || is_blank_line (declared text m)) q) ∙ p in
         absurd (true≢false (sym blank ∙ ap is_blank_line (sym first) ∙ entry_ink (row_entry text x)))
 
-rows_of : (text : List ℕ) (ls : List Line) (width : ℕ) (quiet : Bool) (number : ℕ) → are_short_lines width quiet (map (declared text) ls) ≡ true → AllByRecursion (LineFacts text) ls → Numbered number ls → Rows text width quiet number ls
+rows_of : (text : List ℕ) (ls : List Line) (width : ℕ) (quiet : Bool) (number : ℕ) → are_short_lines width quiet (map (declared text) ls) ≡ true → AllByRecursion (Known text) ls → Numbered number ls → Rows text width quiet number ls
 unfolding row_of leaf_of
 rows_of text [] width quiet number short facts numbered = record { lead = []; rows = []; lines = refl; shows = refl; runs = tt; follow = tt }
 rows_of text (l ∷ ls) width quiet number short facts numbered =
@@ -212,7 +176,7 @@ rows_of text (l ∷ ls) width quiet number short facts numbered =
     xs : List ℕ
     xs = bytes_between text l.start l.end
 
-    f : LineFacts text l
+    f : Known text l
     f = facts.0
 
     next : l.number ≡ suc number
@@ -387,7 +351,7 @@ both_of text lead es runs follow small = record {
 }
 
 -- what is known of all lines
-facts_of : (text : List ℕ) (ls : List Line) → IsPlain text → length text + 3 < 2 ^ 64 → AllByRecursion (Sound text) ls → AllByRecursion IsFeedless (map (declared text) ls) → (ends_with_feed text ≡ true → AllByRecursion (Fed text) ls) → AllByRecursion (LineFacts text) ls
+pub facts_of : (text : List ℕ) (ls : List Line) → IsPlain text → length text + 3 < 2 ^ 64 → AllByRecursion (Sound text) ls → AllByRecursion IsFeedless (map (declared text) ls) → (ends_with_feed text ≡ true → AllByRecursion (Fed text) ls) → AllByRecursion (Known text) ls
 facts_of text [] plain fits sound feedless fed = tt
 facts_of text (l ∷ ls) plain fits sound feedless fed = (record { plain = plain; fits = fits; sound = sound.0; feedless = feedless.0; fed = λ q. (fed q).0 }, facts_of text ls plain fits (sound.1) (feedless.1) (λ q. (fed q).1))
 

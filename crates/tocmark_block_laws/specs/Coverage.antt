@@ -30,12 +30,12 @@ use Rattle.tocmark_commonmark.specs.StandardSetextFirst.{standard_setext_first}
 use Rattle.tocmark_commonmark.specs.StandardSetextSecond.{standard_setext_second}
 use Rattle.tocmark_commonmark.specs.StandardTabsFirst.{standard_tabs_first}
 use Rattle.tocmark_commonmark.specs.StandardTabsSecond.{standard_tabs_second}
-use Rattle.tocmark_block_laws.specs.Lists.{has_one_line_blocks}
+use Rattle.tocmark_block_laws.specs.Lists.{has_one_line_blocks, has_plain_lists}
 use Rattle.tocmark_block_laws.specs.Quotes.{is_covered}
 
 -- so many of a table are
 unfoldable pub covered_in : List EventRow → ℕ
-covered_in rows = length (filter (λ r. is_covered r.text || has_one_line_blocks r.text) rows)
+covered_in rows = length (filter (λ r. is_covered r.text || has_one_line_blocks r.text || has_plain_lists r.text) rows)
 
 -- so many of tables
 abbrev pub covered_by : List (List EventRow) → ℕ
@@ -46,4 +46,4 @@ abbrev pub standard_tables : List (List EventRow)
 standard_tables = standard_breaks ∷ standard_code_first ∷ standard_code_second ∷ standard_definitions_first ∷ standard_definitions_second ∷ standard_emphasis_fifth ∷ standard_emphasis_first ∷ standard_emphasis_fourth ∷ standard_emphasis_second ∷ standard_emphasis_third ∷ standard_fences ∷ standard_html_blocks_first ∷ standard_html_blocks_second ∷ standard_images_first ∷ standard_images_second ∷ standard_items_first ∷ standard_items_second ∷ standard_links_first ∷ standard_links_second ∷ standard_links_third ∷ standard_lists ∷ standard_precedence_first ∷ standard_precedence_second ∷ standard_quotes ∷ standard_setext_first ∷ standard_setext_second ∷ standard_tabs_first ∷ standard_tabs_second ∷ []
 
 abbrev pub StandardIsCovered : Type 0
-StandardIsCovered = covered_by standard_tables ≡ 586
+StandardIsCovered = covered_by standard_tables ≡ 603

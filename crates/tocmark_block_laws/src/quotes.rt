@@ -20,7 +20,8 @@ pub fn quotes_are_declared()
     ensures { QuotesAreDeclared }
 {}
 
-/// 586 of the 652 examples of CommonMark 0.31.2 are texts of which `quotes_are_declared` or `lists_are_declared` speaks.
+/// 603 of the 652 examples of CommonMark 0.31.2 are texts of which `quotes_are_declared`, `lists_are_declared` or
+/// `nested_lists_are_declared` speaks.
 pub fn standard_is_covered()
     ensures { StandardIsCovered }
 {}

@@ -1,5 +1,5 @@
 -- Texts whose blocks are those that are declared are read as the events that are declared.
-use Rattle.std.proofs.Common.{◌≡◌, ℕ, suc, ◌+◌, ◌*◌, ◌^◌, ◌<◌, ◌≤◌, ◌⊎◌, inl, inr, Bool, true, false, not, ◌&&◌, nat_lt, List, [], ◌∷◌, ◌++◌, length, map, take, append-nil, refl, ap, sym, ◌∙◌, subst, arith, true≢false}
+use Rattle.std.proofs.Common.{◌≡◌, ℕ, suc, ◌+◌, ◌*◌, ◌^◌, ◌<◌, ◌≤◌, ◌⊎◌, inl, inr, Bool, true, false, not, ◌&&◌, ◌||◌, nat_lt, List, [], ◌∷◌, ◌++◌, length, map, take, append-nil, refl, ap, sym, ◌∙◌, subst, arith, true≢false}
 use Rattle.std.specs.Prelude.{Option, Some, None}
 use Rattle.std.specs.List.{fold, flat_map, list_any, list_all, AllByRecursion}
 use Rattle.std.specs.Str.{IsUtf8}
@@ -17,17 +17,18 @@ use Rattle.tocmark_reader.specs.Emitted.{NodeView, emitted}
 use Rattle.tocmark_reader.specs.Pages.{content_line, block_step_in, start_state, assembled_in}
 use Rattle.tocmark_reader.specs.Reading.{found_under, reading_of}
 use Rattle.tocmark_commonmark.specs.Beginnings.{beginning}
-use Rattle.tocmark_commonmark.specs.Blocks.{blocks_of}
+use Rattle.tocmark_commonmark.specs.Blocks.{blocks_of, size}
 use Rattle.tocmark_commonmark.specs.Events.{events_of}
 use Rattle.tocmark_commonmark.specs.Lines.{lines_of}
 use Rattle.tocmark_commonmark.specs.Links.{Destination}
 use Rattle.tocmark_commonmark.specs.Tree as block
 use Rattle.tocmark_commonmark.specs.Tree.{defined}
-use Rattle.tocmark_block_laws.specs.Lists.{are_short_lines, has_one_line_blocks}
+use Rattle.tocmark_block_laws.specs.Lists.{are_nested, are_short_lines, has_one_line_blocks, has_plain_lists}
 use Rattle.tocmark_block_laws.specs.Quotes.{Agrees, is_special, IsPlain, ends_with_feed, is_leaf, content_of, is_covered}
 use Rattle.tocmark_block_laws.specs.Trees.{leaf_text, told, told_before, block_as, Placed, more_if, tree_of, pieces_of, put, placed_in, read_tree}
 use Rattle.tocmark_block_laws.proofs.ListTexts.{lists-declared}
 use Rattle.tocmark_block_laws.proofs.NamedBlocks.{names-change-none}
+use Rattle.tocmark_block_laws.proofs.NestedTexts.{nested-lists-declared}
 use Rattle.tocmark_block_laws.proofs.Read.{quotes-declared}
 use Rattle.tocmark_block_laws.proofs.Told.{leaf_as}
 use Rattle.tocmark_inline_laws.specs.Said.{commonmark}
@@ -288,6 +289,10 @@ one_line_agrees : (text : List ℕ) → length text + 3 < 2 ^ 64 → has_one_lin
 unfolding has_one_line_blocks
 one_line_agrees text fits h = record { plain = is_not (list_any is_special text) ((both_true (not (list_any is_special text)) (are_short_lines 4 true (lines_of text)) h).0); agrees = lists-declared text fits h }
 
+nested_agrees : (text : List ℕ) → length text + 3 < 2 ^ 64 → has_plain_lists text ≡ true → IsAgreed text
+unfolding has_plain_lists
+nested_agrees text fits h = record { plain = is_not (list_any is_special text) ((both_true (not (list_any is_special text)) (are_nested (suc (size (lines_of text))) (lines_of text)) h).0); agrees = nested-lists-declared text fits h }
+
 -- the nodes of a text
 found_nodes : (text : List ℕ) → (found_under commonmark text).nodes ≡ (assembled_in commonmark text (entry_in text) (blocks_in commonmark text).blocks (blocks_in commonmark text).pieces (collected_of text).texts).nodes
 unfolding found_under
@@ -358,14 +363,18 @@ declared_with text utf8 small a =
         ([], sym (append-nil (collected_of text).texts), refl)
 
 pub covered-declared : CoveredTextsAreReadAsDeclared
-covered-declared text h = by (one_of_two (is_covered text) (has_one_line_blocks text) h.covered)
+covered-declared text h = by (one_of_two (is_covered text) (has_one_line_blocks text || has_plain_lists text) h.covered)
   where
     fits : length text + 3 < 2 ^ 64
     fits = let small : 4 * length text + 1 < 2 ^ 64 = h.small in omega (arith, small)
 
-    by : (is_covered text ≡ true) ⊎ (has_one_line_blocks text ≡ true) → lettered (events_read text) ≡ map as_text (lettered (events_of text))
+    listed : (has_one_line_blocks text ≡ true) ⊎ (has_plain_lists text ≡ true) → IsAgreed text
+    listed (inl c) = one_line_agrees text fits c
+    listed (inr c) = nested_agrees text fits c
+
+    by : (is_covered text ≡ true) ⊎ ((has_one_line_blocks text || has_plain_lists text) ≡ true) → lettered (events_read text) ≡ map as_text (lettered (events_of text))
     by (inl c) = declared_with text h.utf8 h.small (covered_agrees text fits c)
-    by (inr c) = declared_with text h.utf8 h.small (one_line_agrees text fits c)
+    by (inr c) = declared_with text h.utf8 h.small (listed (one_of_two (has_one_line_blocks text) (has_plain_lists text) c))
 
 pub agreed-declared : AgreedTextsAreReadAsDeclared
 agreed-declared text h = declared_with text h.utf8 h.small (record { plain = h.plain; agrees = h.agrees })

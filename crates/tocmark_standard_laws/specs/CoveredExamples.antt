@@ -1,4 +1,4 @@
--- Two texts of which `covered_texts_are_read_as_declared` speaks.
+-- Three texts of which `covered_texts_are_read_as_declared` speaks.
 use Rattle.std.specs.Prelude.{ℕ, List, codes}
 use Rattle.tocmark_standard_laws.specs.CoveredTexts.{IsCoveredText}
 
@@ -10,5 +10,9 @@ quoted_text = codes "# A *title*\n\n> Some `code` and [a link][a]\nwith a lazy l
 abbrev pub listed_text : List ℕ
 listed_text = codes "1. *One*\n2. Two and [a link](/b)\n\n---\n"
 
+-- a list in an item that has two paragraphs, one of two lines
+abbrev pub nested_text : List ℕ
+nested_text = codes "1. One\n\n   *two*\n   and a half\n   - three\n2. four\n"
+
 abbrev pub ExamplesAreCovered : Type 0
-ExamplesAreCovered = IsCoveredText quoted_text × IsCoveredText listed_text
+ExamplesAreCovered = IsCoveredText quoted_text × IsCoveredText listed_text × IsCoveredText nested_text

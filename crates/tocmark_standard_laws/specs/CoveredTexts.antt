@@ -4,7 +4,7 @@ use Rattle.std.specs.Str.{IsUtf8}
 use Rattle.tocmark_event.specs.View.{EventView}
 use Rattle.tocmark_reader.specs.Reading.{reading_of}
 use Rattle.tocmark_commonmark.specs.Events.{events_of}
-use Rattle.tocmark_block_laws.specs.Lists.{has_one_line_blocks}
+use Rattle.tocmark_block_laws.specs.Lists.{has_one_line_blocks, has_plain_lists}
 use Rattle.tocmark_block_laws.specs.Quotes.{Agrees, IsPlain, is_covered}
 use Rattle.tocmark_inline_laws.specs.Said.{commonmark}
 use Rattle.tocmark_standard_laws.specs.Lettered.{lettered, as_text}
@@ -14,9 +14,9 @@ abbrev pub events_read : List ℕ → List EventView
 events_read text = map (λ e. e.0) (reading_of commonmark text).events
 
 -- A text of which the law speaks, in fewer than 2 ^ 62 bytes. It has leaf blocks and block quotes, or its blocks have one line each, in
--- lists or not.
+-- lists or not, or it has paragraphs, headings, thematic breaks and lists of any depth.
 pub record IsCoveredText (text : List ℕ) : Type 0 where
-  pub covered : (is_covered text || has_one_line_blocks text) ≡ true
+  pub covered : (is_covered text || (has_one_line_blocks text || has_plain_lists text)) ≡ true
   pub utf8 : IsUtf8 text
   pub small : 4 * length text + 1 < 2 ^ 64
 

@@ -33,7 +33,7 @@ pub fn agreed_texts_are_read_as_declared()
 /// The events of a text are those that CommonMark declares: paragraphs and headings with their inlines, code, HTML, thematic
 /// breaks, quotes and lists.
 ///
-/// It is a text of `quotes_are_declared` or `lists_are_declared`, UTF-8, in fewer than 2^62 bytes. It doesn't matter how texts
+/// It is a text of `quotes_are_declared`, `lists_are_declared` or `nested_lists_are_declared`, UTF-8, in fewer than 2^62 bytes. It doesn't matter how texts
 /// and HTML are cut into events. This is such a text (`examples_are_covered`):
 ///
 /// ```text
@@ -48,7 +48,8 @@ pub fn covered_texts_are_read_as_declared()
     ensures { CoveredTextsAreReadAsDeclared }
 {}
 
-/// Two texts are such: one with a heading, a paragraph in a block quote, and a definition of a link, and one with a list.
+/// Three texts are such: one with a heading, a paragraph in a block quote, and a definition of a link, one with a list of items of
+/// one line, and one with a list in a list.
 pub fn examples_are_covered()
     ensures { ExamplesAreCovered }
 {}
