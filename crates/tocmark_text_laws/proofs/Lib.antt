@@ -62,3 +62,13 @@ pub mod QuotedTurns
 pub mod QuotedLines
 pub mod QuotedTrees
 pub mod QuotedRun
+pub mod Fronts
+pub mod SequencePieces
+pub mod SequencePages
+pub mod SequenceLeaves
+pub mod SequenceTurns
+pub mod SequenceLines
+pub mod SequenceTrees
+pub mod SequenceRun
+pub mod SequenceBlank
+pub mod SequenceRows

@@ -58,7 +58,7 @@ between_short t a b h k = by (nat_le a b && nat_le b (length t)) refl
 pub low_cells : (t : List ℕ) (l : Line) → LowLine l → Low (cells_of [] l.start (bytes_between t l.start l.end)) l.end
 low_cells t l h = place_low (cells_of [] l.start (bytes_between t l.start l.end)) l.end (cells_low [] l.start (bytes_between t l.start l.end) tt (between_short t l.start l.end h.begins h.ends)) h.ends
 
-stop_low : (t : List ℕ) (start b at : ℕ) → line_stop t start b at ≤ at
+pub stop_low : (t : List ℕ) (start b at : ℕ) → line_stop t start b at ≤ at
 unfolding line_stop
 stop_low t start b at = by ((b == 10) && nat_lt start at && (byte_at t (at - 1) == 13))
   where

@@ -38,7 +38,7 @@ line_rests c n t l s small few h r = cells_rest c n t cells l s k few (let a : n
     low x = let a : n ≤ l.start = h.after in let b : l.start ≤ cell_place cells 0 l.end = first in let c : cell_place cells 0 l.end ≤ cell_place cells x l.end = k.rising 0 x (omega arith) in omega arith
 
 -- a page after some lines
-abbrev After : State → Type 0
+abbrev pub After : State → Type 0
 After s = (c : ℕ) × (n : ℕ) × Rests 0 n c n s
 
 run_rests : (c n : ℕ) (t : List ℕ) (ls : List Line) (s : State) → 4 * length t < 2 ^ 64 - 1 → c + length ls ≤ 2 ^ 64 - 1 → Ascend Any t n ls → Rests 0 n c n s → After (fold (line_taken_in core_known t) s ls)
@@ -46,7 +46,7 @@ run_rests c n t [] s small few h r = (c, n, r)
 run_rests c n t (l ∷ ls) s small few h r = run_rests (suc c) l.end t ls (line_taken_in core_known t s l) small (omega arith) (h.1) (line_rests c n t l s small (omega arith) (h.0) r)
 
 -- a text has hardly more lines than bytes
-lines_few : (t : List ℕ) (before start at : ℕ) (rest : List ℕ) → length (lines_from t before start at rest) ≤ length rest + 1
+pub lines_few : (t : List ℕ) (before start at : ℕ) (rest : List ℕ) → length (lines_from t before start at rest) ≤ length rest + 1
 lines_few t before start at [] = by (nat_lt start at)
   where
     by : (x : Bool) → length (if x then line before start at at ∷ [] else []) ≤ 0 + 1
@@ -63,7 +63,7 @@ first_sorted : Sorted 0 0 0 [] [] []
 first_sorted = record { past = tt; order = tt; reach = λ i o g c. absurd cc; under = tt; room = omega arith; quotes = refl }
 
 -- the page after all lines
-all_lines : (t : List ℕ) → 4 * length t + 1 < 2 ^ 64 → After (fold (line_taken_in core_known t) first_page (lines_of t))
+pub all_lines : (t : List ℕ) → 4 * length t + 1 < 2 ^ 64 → After (fold (line_taken_in core_known t) first_page (lines_of t))
 all_lines t small = run_rests 0 0 t (lines_of t) first_page (omega arith) (let w : length (lines_of t) ≤ length t + 1 = lines_few t 0 0 0 t in omega arith) (lines_ascend Any t (any t)) (calm refl (tt, omega arith, first_sorted))
 
 pub blocks_nested : BlocksNest

@@ -44,14 +44,14 @@ pairs_length R [] (y ∷ ys) h = absurd h
 pairs_length R (x ∷ xs) [] h = absurd h
 pairs_length R (x ∷ xs) (y ∷ ys) h = ap suc (pairs_length R xs ys (h.1))
 
-pairs_got : {A B : Type 0} (R : A → B → Type 0) (i : ℕ) (xs : List A) (ys : List B) → Pairs R xs ys → PairOf R (slice_get xs i) (slice_get ys i)
+pub pairs_got : {A B : Type 0} (R : A → B → Type 0) (i : ℕ) (xs : List A) (ys : List B) → Pairs R xs ys → PairOf R (slice_get xs i) (slice_get ys i)
 pairs_got R i [] [] h = tt
 pairs_got R i [] (y ∷ ys) h = absurd h
 pairs_got R i (x ∷ xs) [] h = absurd h
 pairs_got R zero (x ∷ xs) (y ∷ ys) h = h.0
 pairs_got R (suc i) (x ∷ xs) (y ∷ ys) h = pairs_got R i xs ys (h.1)
 
-pairs_set : {A B : Type 0} (R : A → B → Type 0) (i : ℕ) (a : A) (b : B) → R a b → (xs : List A) (ys : List B) → Pairs R xs ys → Pairs R (slice_set xs i a) (slice_set ys i b)
+pub pairs_set : {A B : Type 0} (R : A → B → Type 0) (i : ℕ) (a : A) (b : B) → R a b → (xs : List A) (ys : List B) → Pairs R xs ys → Pairs R (slice_set xs i a) (slice_set ys i b)
 pairs_set R i a b k [] [] h = tt
 pairs_set R i a b k [] (y ∷ ys) h = absurd h
 pairs_set R i a b k (x ∷ xs) [] h = absurd h

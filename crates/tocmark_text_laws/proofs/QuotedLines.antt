@@ -24,7 +24,7 @@ part_front zero k xs ys h = take_front k xs ys (omega (arith, h))
 part_front (suc a) k [] ys h = absurd (omega (arith, h))
 part_front (suc a) k (x ∷ xs) ys h = part_front a k xs ys (omega (arith, h))
 
-between_front : (xs ys : List ℕ) (from to : ℕ) → to ≤ length xs → bytes_between (xs ++ ys) from to ≡ bytes_between xs from to
+pub between_front : (xs ys : List ℕ) (from to : ℕ) → to ≤ length xs → bytes_between (xs ++ ys) from to ≡ bytes_between xs from to
 between_front xs ys from to h = rw (one, two) (by (nat_le from to) refl)
   where
     one : nat_le to (length (xs ++ ys)) ≡ true
@@ -295,7 +295,7 @@ byte_mid : (us post : List ℕ) (c : ℕ) → byte_at ((us ++ c ∷ []) ++ post)
 byte_mid [] post c = refl
 byte_mid (u ∷ us) post c = byte_mid us post c
 
-in_front : (xs ys : List ℕ) (i : ℕ) → i < length xs → byte_at (xs ++ ys) i ≡ byte_at xs i
+pub in_front : (xs ys : List ℕ) (i : ℕ) → i < length xs → byte_at (xs ++ ys) i ≡ byte_at xs i
 in_front [] ys i h = absurd (omega (arith, h))
 in_front (x ∷ xs) ys zero h = refl
 in_front (x ∷ xs) ys (suc i) h = in_front xs ys i (omega (arith, h))

@@ -60,7 +60,7 @@ times_fewer (suc k) s low =
     let one : length (one_closed s).opened ≡ length s.opened - 1 = one_fewer s (omega (arith, low)) in
     omega (arith, one, times_fewer k (one_closed s) (omega (arith, one, low)))
 
-none_open : (t : List ℕ) (s : State) → length (closed_to t 0 s).opened ≡ 0
+pub none_open : (t : List ℕ) (s : State) → length (closed_to t 0 s).opened ≡ 0
 unfolding closed_to
 none_open t s = omega (arith, times_fewer (length (leaf_closed t s).opened - 0) (leaf_closed t s) (omega arith))
 

@@ -168,7 +168,7 @@ got_take (suc k) [] i b e = e
 got_take (suc k) (x ∷ xs) zero b e = e
 got_take (suc k) (x ∷ xs) (suc i) b e = got_take k xs i b e
 
-between_range : (t : List ℕ) (s e : ℕ) → s ≤ e → e ≤ length t → bytes_between t s e ≡ take (e - s) (drop s t)
+pub between_range : (t : List ℕ) (s e : ℕ) → s ≤ e → e ≤ length t → bytes_between t s e ≡ take (e - s) (drop s t)
 between_range t s e h k = by (nat_le s e) (nat_le e (length t)) (grind (arith, nat_tests)) (grind (arith, nat_tests))
   where
     by : (x y : Bool) → x ≡ true → y ≡ true → (if x && y then slice_range t s e else []) ≡ take (e - s) (drop s t)
@@ -237,7 +237,7 @@ ends_ascii t b at h = by (b == 10) (b == 13) refl refl h
     by false false e k q = absurd (true≢false (sym q))
 
 -- the bytes from a place on
-abbrev Rest : List ℕ → ℕ → List ℕ → Type 0
+abbrev pub Rest : List ℕ → ℕ → List ℕ → Type 0
 Rest t at rest = (at + length rest ≡ length t) × ((j : ℕ) → slice_get rest j ≡ slice_get t (at + j))
 
 rest_later : (t : List ℕ) (at b : ℕ) (bs : List ℕ) → Rest t at (b ∷ bs) → Rest t (at + 1) bs
@@ -282,7 +282,7 @@ left_ascends P t n before start at h e p q = by (nat_lt start at) refl
     by true k = let w : start < at = grind (arith, nat_tests) in (record { after = h; ordered = omega arith; within = omega arith; begins = p; stops = q; next = q; onto = omega arith }, tt)
     by false k = tt
 
-from_ascends : (P : ℕ → Type 0) (t : List ℕ) (n before start at : ℕ) (rest : List ℕ) → Bounds P t → Rest t at rest → n ≤ start → start ≤ at → P start → Ascend P t n (lines_from t before start at rest)
+pub from_ascends : (P : ℕ → Type 0) (t : List ℕ) (n before start at : ℕ) (rest : List ℕ) → Bounds P t → Rest t at rest → n ≤ start → start ≤ at → P start → Ascend P t n (lines_from t before start at rest)
 from_ascends P t n before start at [] g r h l p = let e : at ≡ length t = (let w : at + 0 ≡ length t = r.0 in omega arith) in left_ascends P t n before start at h e p (subst P (sym e) g.end)
 from_ascends P t n before start at (b ∷ bs) g r h l p =
     by (ends_here t b at) refl

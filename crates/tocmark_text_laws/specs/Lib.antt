@@ -10,3 +10,4 @@ pub mod Housed
 pub mod Proper
 pub mod Kept
 pub mod Quoted
+pub mod Sequence
