@@ -28,7 +28,7 @@ once_more n ((v, (a, b)) ∷ es) =
     ∙ ap (λ p. (v, (pred a - n, p)) ∷ map (moved_back (suc n)) es) (sooner n b)
     ∙ ap (λ xs. (v, (pred a - n, pred b - n)) ∷ xs) (once_more n es)
 
-copies_length : (n b : ℕ) → length (replicate n b) ≡ n
+pub copies_length : (n b : ℕ) → length (replicate n b) ≡ n
 copies_length zero b = refl
 copies_length (suc n) b = ap suc (copies_length n b)
 

@@ -119,11 +119,11 @@ unfolding finished
 finished_two t q end far last there here some h =
     after_last (IsFirst q) (BlockOn t q) (λ (b : Block). record b { end = end; last = last }) (λ (b : Block). record b { end = far; last = last }) (λ x y k. ap (λ (s : Shape). record s { last = last }) k) there here h some
 
-ended_some : (bs : List Block) (i end : ℕ) → length (ended bs i end) ≡ length bs
+pub ended_some : (bs : List Block) (i end : ℕ) → length (ended bs i end) ≡ length bs
 unfolding ended
 ended_some bs i end = changed_length i (λ (b : Block). record b { end = end }) bs
 
-finished_some : (bs : List Block) (i end last : ℕ) → length (finished bs i end last) ≡ length bs
+pub finished_some : (bs : List Block) (i end last : ℕ) → length (finished bs i end last) ≡ length bs
 unfolding finished
 finished_some bs i end last = changed_length i (λ (b : Block). record b { end = end; last = last }) bs
 
@@ -139,7 +139,7 @@ raised_opens : (n end far line : ℕ) (there here : List Opened) → Opens n the
 unfolding raised_at
 raised_opens n end far line there here h = opens_last n (λ (o : Opened). raised o end line) (λ (o : Opened). raised o far line) (raised_outer end line) (raised_on end far line) (raised_same far line) there here h
 
-nothing_core : is_core leaf.Nothing ≡ true
+pub nothing_core : is_core leaf.Nothing ≡ true
 unfolding is_core
 nothing_core = refl
 

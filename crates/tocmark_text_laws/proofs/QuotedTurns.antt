@@ -73,7 +73,7 @@ started_two t q n l' l shift w r p d (start.Metadata k) there here h i e o g = a
 started_two t q n l' l shift w r p d (start.Task b) there here h i e o g = absurd e
 started_two t q n l' l shift w r p d (start.QuoteKind k) there here h i e o g = absurd e
 
-directly_open : (depth : ℕ) (s : State) → goes_directly depth s ≡ true → is_shut s.leaf ≡ false
+pub directly_open : (depth : ℕ) (s : State) → goes_directly depth s ≡ true → is_shut s.leaf ≡ false
 unfolding goes_directly
 directly_open depth s e = by (is_paragraph s.leaf) refl e
   where

@@ -20,10 +20,10 @@ use Rattle.tocmark_read_page.specs.declared.page.BlockKind.{BlockKind}
 use Rattle.tocmark_read_page.specs.declared.piece.Piece.{Piece}
 use Rattle.tocmark_text_laws.specs.Quoted.{Sort, sort_of}
 use Rattle.tocmark_text_laws.proofs.Alls.{all_set, all_got, all_changed, all_both, all_weaker}
-use Rattle.tocmark_text_laws.proofs.Pairs.{Pairs, PairOf, set_length, changed_length, end_some, pairs_length, pairs_got, pairs_take, pairs_end}
+use Rattle.tocmark_text_laws.proofs.Pairs.{Pairs, PairOf, set_length, end_some, pairs_length, pairs_got, pairs_take, pairs_end}
 use Rattle.tocmark_text_laws.proofs.Fronts.{Past, past, past_is, past_length, past_got, past_set, past_end, past_drop, past_take, past_changed, past_place, past_last, same_last, last_got}
 use Rattle.tocmark_text_laws.proofs.SequencePieces.{PieceOn, definitions_on, definitions_few}
-use Rattle.tocmark_text_laws.proofs.QuotedPages.{Shape, shape_of}
+use Rattle.tocmark_text_laws.proofs.QuotedPages.{Shape, shape_of, ended_some, finished_some, nothing_core}
 use Rattle.tocmark_text_laws.proofs.Pages.{is_shut}
 use Rattle.tocmark_text_laws.proofs.Leaves.{is_core}
 
@@ -135,14 +135,6 @@ finished_on t q f n end far last there here some h =
     past_last f.blocks (BlockOn t q f n) (λ (b : Block). record b { end = end; last = past f.pieces last }) (λ (b : Block). record b { end = far; last = last })
     (λ x y k. record { shape = ap (λ (s : Shape). record s { last = past f.pieces last }) k.shape; low = k.low }) there here h some
 
-ended_some : (bs : List Block) (i end : ℕ) → length (ended bs i end) ≡ length bs
-unfolding ended
-ended_some bs i end = changed_length i (λ (b : Block). record b { end = end }) bs
-
-finished_some : (bs : List Block) (i end last : ℕ) → length (finished bs i end last) ≡ length bs
-unfolding finished
-finished_some bs i end last = changed_length i (λ (b : Block). record b { end = end; last = last }) bs
-
 max_on : (a b d c e : ℕ) → a + d ≡ c → b + d ≡ e → max a b + d ≡ max c e
 max_on a b d c e h k = omega (arith, h, k)
 
@@ -164,10 +156,6 @@ touched_on f count end far line late (q ∷ qs) e there here h =
         → Pairs (OpenedOn f) (if k then there else touched_from count end line qs (raised_at there q end line)) (if k then here else touched_from count far late qs (raised_at here q far late))
     by true rest = h
     by false rest = rest
-
-nothing_core : is_core leaf.Nothing ≡ true
-unfolding is_core
-nothing_core = refl
 
 -- the open leaf ends
 pub finished_firm : (t q : List ℕ) (f : Earlier) (n : ℕ) (there here : State) → Firm t q f n there here → Firm t q f n (leaf_finished there) (leaf_finished here)

@@ -24,6 +24,7 @@ use Rattle.tocmark_text_laws.specs.Quoted.{sort_of, LineTold, line_told, Told, t
 use Rattle.tocmark_text_laws.specs.Housed.{AreHoused}
 use Rattle.tocmark_text_laws.specs.Sequence.{after_lines, IsClosed, later, TextsInARow}
 use Rattle.tocmark_text_laws.proofs.LinesFurther.{between_on}
+use Rattle.tocmark_text_laws.proofs.Moved.{copies_length}
 use Rattle.tocmark_text_laws.proofs.Front.{front}
 use Rattle.tocmark_text_laws.proofs.Endings.{lines-end}
 use Rattle.tocmark_text_laws.proofs.Low.{LowLine, lines_low}
@@ -223,10 +224,6 @@ blocks_front t c ps (b ∷ bs) = ap (λ z. z ∷ map (told (c ∷ t) (map piece_
 record Same (t u : List ℕ) : Type 0 where
   blocks : blocks_told t (blocks_in CORE t) ≡ blocks_told u (blocks_in CORE u)
   definitions : (blocks_in CORE t).definitions ≡ (blocks_in CORE u).definitions
-
-copies_length : (n b : ℕ) → length (replicate n b) ≡ n
-copies_length zero b = refl
-copies_length (suc n) b = ap suc (copies_length n b)
 
 same_after : (n : ℕ) (u : List ℕ) → n + length u + 3 < 2 ^ 64 → Same (replicate n 10 ++ u) u
 same_after zero u small = record { blocks = refl; definitions = refl }

@@ -1,5 +1,5 @@
 -- How a line comes into the pages of two texts, where one has some blocks in front.
-use Rattle.std.proofs.Common.{◌≡◌, ℕ, zero, suc, ◌+◌, ◌-◌, Bool, true, false, ◌&&◌, if◌then◌else◌, nat_le, List, [], ◌∷◌, length, refl, ap, sym, subst, ◌∙◌, arith}
+use Rattle.std.proofs.Common.{◌≡◌, ℕ, zero, suc, ◌+◌, ◌-◌, Bool, true, false, if◌then◌else◌, nat_le, List, [], ◌∷◌, length, refl, ap, sym, subst, ◌∙◌, arith}
 use Rattle.std.specs.Prelude.{slice_get, Option, Some, None}
 use Rattle.std.specs.Option.{option_map_or}
 use Rattle.tocmark_event.specs.declared.event.HeadingLevel.{HeadingLevel}
@@ -35,7 +35,7 @@ use Rattle.tocmark_text_laws.proofs.Pairs.{Pairs, PairOf, pairs_length}
 use Rattle.tocmark_text_laws.proofs.Fronts.{last_got}
 use Rattle.tocmark_text_laws.proofs.SequencePages.{Earlier, numbered, OpenedOn, Onward, Firm, firm, settled_firm, closed_on, touched_on, list_left_on, opened_with_on, has_text_on}
 use Rattle.tocmark_text_laws.proofs.SequenceLeaves.{Shared, wider, code_taken_firm, indented_firm, fence_firm, html_firm, text_taken_firm, rule_firm, heading_firm, underlined_firm, ended_firm, FineLeaf, leaf_fine, FineTurn, turn_fine}
-use Rattle.tocmark_text_laws.proofs.QuotedLeaves.{paragraph_open}
+use Rattle.tocmark_text_laws.proofs.QuotedTurns.{directly_open}
 use Rattle.tocmark_text_laws.proofs.Pages.{is_shut}
 use Rattle.tocmark_text_laws.proofs.Begun.{is_core_start, container_core}
 use Rattle.tocmark_text_laws.proofs.Machine.{core_at, core_begun}
@@ -157,14 +157,6 @@ started_on t q f n m l cs tail p d start.Rule there here s e o g = wider t q f n
 started_on t q f n m l cs tail p d (start.Metadata k) there here s e o g = absurd e
 started_on t q f n m l cs tail p d (start.Task b) there here s e o g = absurd e
 started_on t q f n m l cs tail p d (start.QuoteKind k) there here s e o g = absurd e
-
-directly_open : (depth : ℕ) (s : State) → goes_directly depth s ≡ true → is_shut s.leaf ≡ false
-unfolding goes_directly
-directly_open depth s e = by (is_paragraph s.leaf) refl e
-  where
-    by : (b : Bool) → is_paragraph s.leaf ≡ b → (b && nat_le (length s.opened) depth) ≡ true → is_shut s.leaf ≡ false
-    by true g k = paragraph_open s.leaf g
-    by false g k = absurd cc
 
 core_at_on : (t q : List ℕ) (f : Earlier) (n m : ℕ) (l : Line) (cs : List Cell) (tail : Tail) (p : LineStart) (there here : State) → Shared t q f n m l cs → Onward t q f n there here → core_at q cs (numbered m l) tail there p ≡ core_at t cs l tail here p
 core_at_on t q f n m l cs tail p there here s h =
