@@ -43,13 +43,13 @@ AnswersAt said result old new before after = MatchResult said (λ text. (result 
 -- what was said is answered, with a place
 pub answered_at : (IsText : List ℕ → Type 0) (IsCause : Cause → Type 0) (said : Result (String Global) Refusal) (result : ℤ) (old new : List ℕ) (before after : TocmarkPlace) → IfOk said (λ s. IsText (string_bytes s)) → IfErr said (λ refusal. IsCause refusal.cause) → AnswersAt said result old new before after → IsAnswer IsText IsCause result old new
 answered_at IsText IsCause (Ok s) result old new before after is cause h =
-    text_answered IsText IsCause (string_bytes s) result old new is h.0 h.1.0
+    text_answered IsText IsCause (string_bytes s) result old new is h.0 h.1
 answered_at IsText IsCause (Err refusal) result old new before after is cause h =
-    cause_answered IsText IsCause refusal.cause result old new cause h.0 h.1.0
+    cause_answered IsText IsCause refusal.cause result old new cause h.0 h.1
 
 -- its place is told
 pub told_at : (said : Result (String Global) Refusal) (result : ℤ) (old new : List ℕ) (before after : TocmarkPlace) → AnswersAt said result old new before after → IsTold result before after
 told_at (Ok s) result old new before after h =
-    place_kept (length (string_bytes s)) result before after h.0 h.1.1
+    place_kept (length (string_bytes s)) result before after h.0 h.2
 told_at (Err refusal) result old new before after h =
-    place_filled refusal.cause result before after h.0 h.1.1
+    place_filled refusal.cause result before after h.0 h.2
