@@ -13,7 +13,7 @@ use Rattle.percent_encoding.proofs.PercentLemmas.{All-percent_encode, IsEscapeBy
 use Rattle.percent_encoding.specs.AsciiSet.{should_percent_encode}
 use Rattle.percent_encoding.specs.Percent.{percent_encode}
 use Rattle.percent_encoding.specs.declared.ascii_set.AsciiSet.{AsciiSet}
-use Rattle.tocmark_links.specs.Destinations.{ends_scheme, is_mark, is_scheme_byte, IsPlain, IsRest, path_of, until}
+use Rattle.tocmark_links.specs.Destinations.{anchor_of, ends_scheme, is_mark, is_scheme_byte, IsPlain, IsRest, path_of, rest_after, until}
 use Rattle.tocmark_links.specs.Paths.{before, before_slash, below, folder_of, is_tail}
 use Rattle.tocmark_links.proofs.Parts.{Lacks, lacks}
 
@@ -142,6 +142,25 @@ until-all mark (b ∷ bytes) h = elim (eqb_tells b mark) [
       ap (λ s. if s then [] else b ∷ until mark bytes) f.0
       ∙ ap (λ xs. b ∷ xs) (until-all mark bytes (λ i within. h (suc i) (omega (arith, within))))
 ]
+
+-- a front, the byte that ends it, and a rest: the front is found again, and so is the rest
+pub until-cut : (mark : ℕ) (bytes rest : List ℕ) → until mark (until mark bytes ++ (mark ∷ rest)) ≡ until mark bytes
+until-cut mark [] rest = ap (λ s. if s then [] else mark ∷ until mark rest) (same-byte mark)
+until-cut mark (b ∷ bytes) rest = by (b == mark) refl (until-cut mark bytes rest)
+  where
+    by : (m : Bool) → (b == mark) ≡ m → until mark (until mark bytes ++ (mark ∷ rest)) ≡ until mark bytes → until mark ((if m then [] else b ∷ until mark bytes) ++ (mark ∷ rest)) ≡ (if m then [] else b ∷ until mark bytes)
+    by true e ih = ap (λ s. if s then [] else mark ∷ until mark rest) (same-byte mark)
+    by false e ih =
+        ap (λ s. if s then [] else b ∷ until mark (until mark bytes ++ (mark ∷ rest))) e ∙ ap (λ xs. b ∷ xs) ih
+
+pub after-cut : (mark : ℕ) (bytes rest : List ℕ) → rest_after mark (until mark bytes ++ (mark ∷ rest)) ≡ rest
+after-cut mark [] rest = ap (λ s. if s then rest else rest_after mark rest) (same-byte mark)
+after-cut mark (b ∷ bytes) rest = by (b == mark) refl (after-cut mark bytes rest)
+  where
+    by : (m : Bool) → (b == mark) ≡ m → rest_after mark (until mark bytes ++ (mark ∷ rest)) ≡ rest → rest_after mark ((if m then [] else b ∷ until mark bytes) ++ (mark ∷ rest)) ≡ rest
+    by true e ih = ap (λ s. if s then rest else rest_after mark rest) (same-byte mark)
+    by false e ih =
+        ap (λ s. if s then until mark bytes ++ (mark ∷ rest) else rest_after mark (until mark bytes ++ (mark ∷ rest))) e ∙ ih
 
 rest-is : (bytes : List ℕ) → IsRest (drop (length (path_of bytes)) bytes)
 rest-is [] = tt

@@ -18,6 +18,15 @@ until mark (b ∷ bytes) = if b == mark then [] else b ∷ until mark bytes
 abbrev pub path_of : List ℕ → List ℕ
 path_of destination = until 63 (until 35 destination)
 
+-- what is after the first such byte
+abbrev pub rest_after : ℕ → List ℕ → List ℕ
+rest_after mark [] = []
+rest_after mark (b ∷ bytes) = if b == mark then bytes else rest_after mark bytes
+
+-- the name of a destination's anchor: what is after `#`
+abbrev pub anchor_of : List ℕ → List ℕ
+anchor_of destination = rest_after 35 destination
+
 -- a byte that ends a path
 abbrev pub is_mark : ℕ → Bool
 is_mark b = (b == 35) || (b == 63)

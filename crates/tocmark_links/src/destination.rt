@@ -2,7 +2,7 @@
 
 ghost use Rattle.std.specs.Prelude.{◌≡◌, ◌<◌, All, IfOk, string_bytes};
 ghost use Rattle.percent_encoding.specs.Percent.{percent_decode};
-ghost use Rattle.tocmark_links.specs.Destinations.{IsPlain, decoded, ends_scheme, has_host, has_scheme, is_local, is_scheme_byte, path_of, until};
+ghost use Rattle.tocmark_links.specs.Destinations.{IsPlain, anchor_of, decoded, ends_scheme, has_host, has_scheme, is_local, is_scheme_byte, path_of, until};
 
 use percent_encoding::{
     AsciiSet, NON_ALPHANUMERIC, ascii_set, percent_decode, utf8_percent_encode,
@@ -138,4 +138,31 @@ pub fn encoded(alloc: Global, path: &str) -> Result<String, AllocError>
     let mut text = String::new(alloc);
     utf8_percent_encode(path, ESCAPED_IN_PATHS).append_to(&mut text)?;
     Ok(text)
+}
+
+/// A name that is read as an anchor: the anchor itself, or the anchor with percent signs if these are wanted or needed.
+fn anchor_name(alloc: Global, anchor: &str, is_escaped: bool) -> Result<String, AllocError>
+    ensures { IfOk result (λ name. percent_decode (string_bytes name) ≡ anchor.now) }
+{
+    let mut plain = Vec::new(alloc);
+    percent_decode(anchor.as_bytes()).append_to(&mut plain)?;
+    if is_escaped || plain.as_slice() != anchor.as_bytes() {
+        return encoded(alloc, anchor);
+    }
+    String::from_str(alloc, anchor)
+}
+
+/// The destination that leads to another anchor of the same file, with the same query. The new anchor has percent signs if the old
+/// one does.
+pub fn with_anchor(alloc: Global, destination: &str, anchor: &str) -> Result<String, AllocError>
+    ensures front { IfOk result (λ new. until 35 (string_bytes new) ≡ until 35 destination.now) }
+    ensures anchor { IfOk result (λ new.
+        percent_decode (anchor_of (string_bytes new)) ≡ anchor.now) }
+{
+    let is_escaped = parts(destination).anchor.contains('%');
+    let name = anchor_name(alloc, anchor, is_escaped)?;
+    let mut new = String::from_str(alloc, until(destination, '#'))?;
+    new.push('#')?;
+    new.push_str(name.as_str())?;
+    Ok(new)
 }

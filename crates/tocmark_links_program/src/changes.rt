@@ -7,7 +7,7 @@ use crate::site::{Site, SitePage};
 use std::alloc::{AllocError, Global};
 use std::collections::HashMap;
 use tocmark_links::changed::with_destinations;
-use tocmark_links::destination::{encoded, parts};
+use tocmark_links::destination::with_anchor;
 use tocmark_links::moved::relocated;
 use tocmark_links::moves::Moves;
 use tocmark_links::page::Page;
@@ -20,21 +20,6 @@ pub enum Reason {
     Moved(Moves),
     /// Anchors of the page at this path get other names.
     Renamed(String, HashMap<String, String>),
-}
-
-/// The destination that leads to another anchor of its file.
-fn with_anchor(alloc: Global, destination: &str, anchor: &str) -> Result<String, AllocError> {
-    let old = parts(destination);
-    let (path, query) = (old.path, old.query);
-    let mut new = String::from_str(alloc, path)?;
-    new.push_str(query)?;
-    new.push('#')?;
-    if old.anchor.contains('%') {
-        new.push_str(encoded(alloc, anchor)?.as_str())?;
-    } else {
-        new.push_str(anchor)?;
-    }
-    Ok(new)
 }
 
 impl Reason {

@@ -10,10 +10,7 @@ use std::alloc::AllocError;
 use std::fmt::Write;
 use tocmark_format::Left;
 use tocmark_links::page::Link;
-use tocmark_links::tree::{Led, Tree};
-
-/// What a destination must not have where no angle brackets are round it.
-const APART: [char; 6] = [' ', '(', ')', '<', '>', '\\'];
+use tocmark_links::tree::Led;
 
 /// A problem's code and what is said of it. `None`: there is no problem.
 fn problem_of(led: &Led) -> Option<(&'static str, &'static str)> {
@@ -48,14 +45,6 @@ fn span_of(lined: &Lined<'_>, link: &Link) -> Span {
     match link.place {
         Some(place) => lined.span(place),
         None => front_of(link.line),
-    }
-}
-
-/// The destination by which a page leads to what is nearest to a broken one, if it needs no angle brackets.
-fn nearest(tree: &Tree, from: &str, led: &Led) -> Result<Option<String>, AllocError> {
-    match tree.nearest_destination(from, led)? {
-        Some(near) if !near.as_str().contains(&APART) => Ok(Some(near)),
-        _ => Ok(None),
     }
 }
 
@@ -124,49 +113,6 @@ pub(crate) fn problems<F: Files>(
     let mut json = String::from_str(alloc, "[")?;
     add_broken(&mut json, asking, &lined)?;
     add_left(&mut json, asking, &lined, configured)?;
-    json.push(']')?;
-    Ok(json)
-}
-
-/// Whether two ranges have a place in common.
-fn touch(one: (usize, usize), other: (usize, usize)) -> bool {
-    one.0 <= other.1 && other.0 <= one.1
-}
-
-/// The changes that mend broken links in a range, as JSON: each to what is nearest.
-pub(crate) fn mendings<F: Files>(
-    asking: &Asking<'_, F>,
-    asked: Span,
-) -> Result<String, AllocError> {
-    let alloc = asking.gathering.alloc;
-    let lined = Lined::new(alloc, asking.text, asking.encoding)?;
-    let asked = (lined.byte(asked.start), lined.byte(asked.stop));
-    let page = asking.page()?;
-    let tree = asking.gathering.tree(&page)?;
-    let from = asking.gathering.place.path.as_str();
-    let uri = JsonText(asking.uri);
-    let mut json = String::from_str(alloc, "[")?;
-    for link in &page.links {
-        let Some(place) = link.place else {
-            continue;
-        };
-        if !touch(place, asked) {
-            continue;
-        }
-        let led = tree.led_to(from, link.destination.as_str())?;
-        if let Some(near) = nearest(&tree, from, &led)? {
-            if json.ends_with('}') {
-                json.push(',')?;
-            }
-            let title = format!(in alloc; "Change to {near}")?;
-            let (title, near) = (JsonText(title.as_str()), JsonText(near.as_str()));
-            let span = lined.span(place);
-            write!(
-                json,
-                "{{\"title\":{title},\"kind\":\"quickfix\",\"isPreferred\":true,\"edit\":{{\"changes\":{{{uri}:[{{\"range\":{span},\"newText\":{near}}}]}}}}}}"
-            )?;
-        }
-    }
     json.push(']')?;
     Ok(json)
 }

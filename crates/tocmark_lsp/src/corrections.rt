@@ -5,10 +5,10 @@ use crate::message::Fault;
 use crate::moves::AllMoves;
 use crate::tree::Files;
 use crate::workspace::{Site, Workspace};
-use std::alloc::{AllocError, Global};
+use std::alloc::AllocError;
 use std::collections::HashMap;
 use tocmark_links::changed::with_destinations;
-use tocmark_links::destination::{encoded, parts};
+use tocmark_links::destination::with_anchor;
 use tocmark_links::page::Page;
 
 /// Why destinations change.
@@ -18,17 +18,6 @@ pub(crate) enum Reason {
     Renamed(String, HashMap<String, String>),
     /// Files and folders are moved.
     Moved(AllMoves),
-}
-
-/// The destination that leads to another anchor of its file.
-fn with_anchor(alloc: Global, destination: &str, anchor: &str) -> Result<String, AllocError> {
-    let old = parts(destination);
-    let (path, query) = (old.path, old.query);
-    if old.anchor.contains('%') {
-        let anchor = encoded(alloc, anchor)?;
-        return format!(in alloc; "{path}{query}#{anchor}");
-    }
-    format!(in alloc; "{path}{query}#{anchor}")
 }
 
 impl<F: Files> Workspace<'_, F> {

@@ -69,6 +69,21 @@ impl Documents {
         Ok(all)
     }
 
+    /// Whether one of the files that a call says are changed isn't open.
+    pub(crate) fn lack_one(&self, call: Call<'_>) -> Result<bool, AllocError> {
+        let Some(changes) = call.at("/changes").and_then(Value::as_array) else {
+            return Ok(false);
+        };
+        for change in changes {
+            if let Some(uri) = change.get("uri").and_then(Value::as_str)
+                && self.at(key_of(self.alloc, uri)?.as_str()).is_none()
+            {
+                return Ok(true);
+            }
+        }
+        Ok(false)
+    }
+
     /// Takes a text that is opened.
     pub(crate) fn open(&mut self, call: Call<'_>) -> Result<(), Fault> {
         let text = String::from_str(self.alloc, call.text("/textDocument/text")?)?;

@@ -8,10 +8,10 @@ use crate::message::{Code, Fault, JsonText};
 use crate::tree::Files;
 use crate::workspace::Workspace;
 use std::alloc::{AllocError, Global};
-use std::collections::{HashMap, HashSet};
-use tocmark_links::anchors::{Anchor, AnchorKind};
+use tocmark_links::anchors::Anchor;
 use tocmark_links::changed::with_heading;
 use tocmark_links::page::Page;
+use tocmark_links::renamed::renamed_anchors;
 use tocmark_lsp_text::positions::Position;
 
 /// What is said of words by which links would lead elsewhere.
@@ -20,52 +20,6 @@ const TAKEN: &str =
 
 /// What is said of a place where nothing can get another name.
 const NOTHING: &str = "there is no heading and no label here";
-
-/// The anchors of elements of HTML, and those that headings name themselves.
-fn taken_names(alloc: Global, page: &Page) -> Result<HashSet<String>, AllocError> {
-    let mut names = HashSet::new(alloc);
-    for anchor in &page.anchors {
-        if anchor.kind != AnchorKind::Heading {
-            names.insert(anchor.name.clone()?)?;
-        }
-    }
-    Ok(names)
-}
-
-/// The headings of a page, in their order.
-fn headings_of<'p>(alloc: Global, page: &'p Page) -> Result<Vec<&'p Anchor>, AllocError> {
-    let mut headings = Vec::new(alloc);
-    for anchor in &page.anchors {
-        if anchor.kind != AnchorKind::Html {
-            headings.push(anchor)?;
-        }
-    }
-    Ok(headings)
-}
-
-/// The anchors that differ of two pages with as many headings: each old one with the new one. `None`: a new one is empty, or is
-/// taken.
-fn new_names(
-    alloc: Global,
-    old: &Page,
-    new: &Page,
-) -> Result<Option<HashMap<String, String>>, AllocError> {
-    let mut names = HashMap::new(alloc);
-    let taken = taken_names(alloc, new)?;
-    let olds = headings_of(alloc, old)?;
-    let news = headings_of(alloc, new)?;
-    for (one, other) in olds.iter().zip(&news) {
-        let name = other.name.as_str();
-        if one.name.as_str() == name {
-            continue;
-        }
-        if name.is_empty() || taken.contains(name) {
-            return Ok(None);
-        }
-        names.insert(one.name.clone()?, other.name.clone()?)?;
-    }
-    Ok(Some(names))
-}
 
 /// The place of what can get another name at a byte: a label, or the words of a heading.
 fn place_at<F: Files>(
@@ -113,7 +67,7 @@ fn renamed_heading<F: Files>(
     let path = place.path.as_str();
     let new = with_heading(alloc, asking.text, workspace.terms.flags, heading, words)?;
     let new_page = workspace.page_of(new.as_str())?;
-    let Some(names) = new_names(alloc, page, &new_page)? else {
+    let Some(names) = renamed_anchors(alloc, page, &new_page)? else {
         return Err(Fault::Refused(Code::Failed, TAKEN));
     };
     let reason = Reason::Renamed(place.path.clone()?, names);

@@ -95,7 +95,7 @@ impl fmt::Display for JsonText<'_> {
 }
 
 impl<'m> Call<'m> {
-    /// The call that a message is. `None`: it is an answer of the client to a request, and there are none.
+    /// The call that a message is. `None`: it is the client's answer to a question.
     pub(crate) fn of(message: &'m Value) -> Result<Option<Call<'m>>, Fault> {
         let Some(method) = message.get("method") else {
             if message.get("result").is_some() || message.get("error").is_some() {
@@ -177,6 +177,17 @@ pub(crate) fn refusal_message(
     let (code, why) = (code.number(), JsonText(why));
     format!(in alloc;
         "{{\"jsonrpc\":\"2.0\",\"id\":{id},\"error\":{{\"code\":{code},\"message\":{why}}}}}"
+    )
+}
+
+/// The message that asks the client for something. The server has one question, so its id is always the same.
+pub(crate) fn question_message(
+    alloc: Global,
+    method: &str,
+    params: &str,
+) -> Result<String, AllocError> {
+    format!(in alloc;
+        "{{\"jsonrpc\":\"2.0\",\"id\":\"tocmark-1\",\"method\":\"{method}\",\"params\":{params}}}"
     )
 }
 

@@ -1,15 +1,15 @@
 //! The server: what it keeps, and what it answers to each message.
 
-use crate::checking::{mendings, problems};
+use crate::actions::actions;
+use crate::checking::problems;
 use crate::completion::completions;
 use crate::configured::{Configured, Lookup, Unknown};
 use crate::documents::{Document, Documents};
 use crate::formatting;
 use crate::headings::{prepared, renamed};
-use crate::lined::Span;
 use crate::links::{Asking, Read};
 use crate::message::{
-    Call, Code, Fault, JsonText, answer_message, notice_message, range_in, refusal_message,
+    Call, Code, Fault, JsonText, answer_message, notice_message, question_message, refusal_message,
 };
 use crate::moves::moves_in;
 use crate::outline::{folding, headings, symbols};
@@ -53,7 +53,7 @@ enum Request {
     Definition,
     References,
     Hover,
-    Mendings,
+    Actions,
     PrepareRename,
     Rename,
     WillRename,
@@ -64,11 +64,14 @@ enum Request {
 /// The notifications that change something.
 #[derive(Clone, Copy, Drop)]
 enum Notice {
+    Initialized,
     Exit,
     Open,
     Change,
     Close,
     Save,
+    /// Files are changed, by whomever.
+    Watched,
 }
 
 static REQUESTS: [(&str, Request); 16] = [
@@ -82,7 +85,7 @@ static REQUESTS: [(&str, Request); 16] = [
     ("textDocument/definition", Request::Definition),
     ("textDocument/references", Request::References),
     ("textDocument/hover", Request::Hover),
-    ("textDocument/codeAction", Request::Mendings),
+    ("textDocument/codeAction", Request::Actions),
     ("textDocument/prepareRename", Request::PrepareRename),
     ("textDocument/rename", Request::Rename),
     ("workspace/willRenameFiles", Request::WillRename),
@@ -91,12 +94,14 @@ static REQUESTS: [(&str, Request); 16] = [
     ("tocmark/text", Request::Text),
 ];
 
-static NOTICES: [(&str, Notice); 5] = [
+static NOTICES: [(&str, Notice); 7] = [
+    ("initialized", Notice::Initialized),
     ("exit", Notice::Exit),
     ("textDocument/didOpen", Notice::Open),
     ("textDocument/didChange", Notice::Change),
     ("textDocument/didClose", Notice::Close),
     ("textDocument/didSave", Notice::Save),
+    ("workspace/didChangeWatchedFiles", Notice::Watched),
 ];
 
 /// What the server can do, as JSON, after the encoding of positions.
@@ -104,9 +109,15 @@ const ABILITIES: &str = "\"textDocumentSync\":{\"openClose\":true,\"change\":2,\
 \"documentFormattingProvider\":true,\"documentRangeFormattingProvider\":true,\
 \"documentSymbolProvider\":true,\"foldingRangeProvider\":true,\"documentLinkProvider\":{},\
 \"definitionProvider\":true,\"referencesProvider\":true,\"hoverProvider\":true,\
-\"codeActionProvider\":{\"codeActionKinds\":[\"quickfix\"]},\
+\"codeActionProvider\":{\"codeActionKinds\":[\"quickfix\",\"source.fixAll.tocmark\",\"source.contents.tocmark\"]},\
 \"completionProvider\":{\"triggerCharacters\":[\"(\",\"/\",\"#\",\"[\"]},\
 \"workspace\":{\"fileOperations\":{\"willRename\":{\"filters\":[{\"scheme\":\"file\",\"pattern\":{\"glob\":\"**/*\"}}]}}}";
+
+/// What has a client say which files change, as JSON: Markdown files, and those that say how documents are formatted.
+const WATCHED: &str =
+    "{\"registrations\":[{\"id\":\"files\",\"method\":\"workspace/didChangeWatchedFiles\",\
+\"registerOptions\":{\"watchers\":[{\"globPattern\":\"**/*.{md,markdown,mdown,mkd}\"},\
+{\"globPattern\":\"**/{.tocmark.toml,.editorconfig,mkdocs.yml}\"}]}}]}";
 
 /// A server, with the texts that its client has open.
 #[derive(Drop)]
@@ -120,10 +131,12 @@ pub struct Server {
     documents: Documents,
     /// The paths of the Markdown files below the root, as they were when they were last listed.
     listed: Vec<String>,
-    /// Whether a text was opened, closed or saved since.
+    /// Whether a text was opened, closed or saved since, or a file changed.
     is_stale: bool,
     /// Whether the client takes a version with the edits of a text.
     is_versioned: bool,
+    /// Whether the client says which files change, if it is asked to.
+    is_watching: bool,
 }
 
 /// UTF-8 if the client can count so, and else UTF-16.
@@ -171,6 +184,7 @@ impl Server {
             listed: Vec::new(alloc),
             is_stale: true,
             is_versioned: false,
+            is_watching: false,
         }
     }
 
@@ -252,7 +266,36 @@ impl Server {
         }
     }
 
-    /// Does what a notification of a text asks for.
+    /// Says again what is wrong in each open text, if one of the files that are changed isn't open. A text that is open counts as
+    /// the client has it.
+    fn check_all<F: Files>(
+        &self,
+        files: &F,
+        call: Call<'_>,
+        answers: &mut Vec<String>,
+    ) -> Result<(), Fault> {
+        if !self.documents.lack_one(call)? {
+            return Ok(());
+        }
+        let open = self.documents.all()?;
+        for document in &open {
+            let uri = document.uri.as_str();
+            let found = self.problems_of(files, uri)?;
+            answers.push(self.problems_message(uri, found.as_str())?)?;
+        }
+        Ok(())
+    }
+
+    /// Asks the client to say which files change, if it can.
+    fn watch(&self, answers: &mut Vec<String>) -> Result<(), AllocError> {
+        if self.is_watching {
+            let method = "client/registerCapability";
+            answers.push(question_message(self.alloc, method, WATCHED)?)?;
+        }
+        Ok(())
+    }
+
+    /// Does what a notification asks for.
     fn follow<F: Files>(
         &mut self,
         files: &F,
@@ -260,11 +303,14 @@ impl Server {
         call: Call<'_>,
         answers: &mut Vec<String>,
     ) -> Result<(), Fault> {
-        if let Notice::Change = notice {
-            return self.documents.change(self.encoding, call);
+        match notice {
+            Notice::Initialized => return Ok(self.watch(answers)?),
+            Notice::Change => return self.documents.change(self.encoding, call),
+            _ => {}
         }
         self.is_stale = true;
         match notice {
+            Notice::Watched => return self.check_all(files, call, answers),
             Notice::Open => self.documents.open(call)?,
             Notice::Close => {
                 self.documents.close(call)?;
@@ -326,7 +372,7 @@ impl Server {
     }
 
     /// Lists the pages of the workspace, if a request needs them. For a completion, which is asked for at each key, the last list
-    /// counts until a text is opened, closed or saved.
+    /// counts until a text is opened, closed or saved, or a file changes.
     fn list_for<F: Files>(&mut self, files: &F, request: Request) -> Result<(), AllocError> {
         let is_needed = match request {
             Request::References | Request::Rename | Request::WillRename => true,
@@ -473,6 +519,9 @@ impl Server {
             _ => {
                 let place = Place::of(self.alloc, self.root.as_str(), uri)?;
                 let asking = self.asking(files, &place, document, terms);
+                if let Request::Actions = request {
+                    return actions(&asking, &configured, self.is_versioned, call);
+                }
                 self.answer_about_links(files, request, call, &asking)
             }
         }
@@ -506,12 +555,6 @@ impl Server {
             Request::Definition => Ok(asking.definition(call.position("/position")?)?),
             Request::Hover => Ok(asking.hover(call.position("/position")?)?),
             Request::References => self.references(files, call, asking),
-            Request::Mendings => {
-                let Some((start, stop)) = call.at("/range").and_then(range_in) else {
-                    return Err(Fault::Refused(Code::Params, "a range is missing"));
-                };
-                Ok(mendings(asking, Span { start, stop })?)
-            }
             Request::PrepareRename => Ok(prepared(asking, call.position("/position")?)?),
             Request::Rename => {
                 let position = call.position("/position")?;
@@ -574,6 +617,10 @@ impl Server {
         self.is_versioned = is_able(
             call,
             "/capabilities/workspace/workspaceEdit/documentChanges",
+        );
+        self.is_watching = is_able(
+            call,
+            "/capabilities/workspace/didChangeWatchedFiles/dynamicRegistration",
         );
         self.settings = settings;
         self.encoding = encoding;
