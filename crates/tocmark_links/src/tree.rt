@@ -104,9 +104,11 @@ pub struct Tree {
     entries: IndexMap<String, Entry>,
     /// A path for each name of a file or folder, in lower case: the first that was added.
     by_name: IndexMap<String, String>,
+    /// The names of the files and folders that are directly in a folder.
+    by_folder: IndexMap<String, IndexSet<String>>,
 }
 
-/// How many anchors of a page are compared to find the nearest one.
+/// How many names are compared to find the one that is spelled most alike.
 const COMPARED: usize = 500;
 
 /// How many bytes of a name are compared.
@@ -118,6 +120,41 @@ fn in_lower_case(alloc: Global, name: &str) -> Result<String, AllocError> {
     Ok(lower)
 }
 
+/// The first of the names that is spelled most like another one, if at most so many characters differ.
+fn most_alike(
+    alloc: Global,
+    names: &IndexSet<String>,
+    wanted: &str,
+    most: usize,
+) -> Result<Option<String>, AllocError> {
+    if wanted.len() > LONGEST {
+        return Ok(None);
+    }
+    let mut least = most.saturating_add(1);
+    let mut found = None;
+    for name in names.iter().take(COMPARED) {
+        if name.len() <= LONGEST {
+            let distance = levenshtein(alloc, wanted, name.as_str())?;
+            if distance < least {
+                least = distance;
+                found = Some(name.as_str());
+            }
+        }
+    }
+    match found {
+        None => Ok(None),
+        Some(name) => Ok(Some(String::from_str(alloc, name)?)),
+    }
+}
+
+/// A name without its ending.
+fn stem(name: &str) -> &str {
+    match name.rsplit_once('.') {
+        None => name,
+        Some((stem, _)) => stem,
+    }
+}
+
 impl Tree {
     /// A tree without files.
     pub fn new(alloc: Global) -> Tree {
@@ -125,6 +162,7 @@ impl Tree {
             alloc,
             entries: IndexMap::new(alloc),
             by_name: IndexMap::new(alloc),
+            by_folder: IndexMap::new(alloc),
         }
     }
 
@@ -152,8 +190,24 @@ impl Tree {
         Ok(())
     }
 
+    /// Adds the name of what is directly in a folder.
+    fn add_name(&mut self, folder: &str, name: &str) -> Result<(), AllocError> {
+        let name = String::from_str(self.alloc, name)?;
+        if let Some(names) = self.by_folder.get_mut(folder) {
+            names.insert(name)?;
+            return Ok(());
+        }
+        let mut names = IndexSet::new(self.alloc);
+        names.insert(name)?;
+        self.by_folder
+            .insert(String::from_str(self.alloc, folder)?, names)?;
+        Ok(())
+    }
+
     fn add_entry(&mut self, path: &str, entry: Entry) -> Result<(), AllocError> {
-        let name = in_lower_case(self.alloc, folder_and_name(path).1)?;
+        let (folder, name) = folder_and_name(path);
+        self.add_name(folder, name)?;
+        let name = in_lower_case(self.alloc, name)?;
         if !self.by_name.contains_key(name.as_str()) {
             self.by_name
                 .insert(name, String::from_str(self.alloc, path)?)?;
@@ -372,18 +426,36 @@ impl Tree {
         }
     }
 
-    /// For a link that leads nowhere, the path of a file with the same name; for one without its anchor, the anchor of that page
-    /// that is spelled most alike.
+    /// The path of a file or folder with the same name as one that isn't there, or of the one in its folder whose name differs
+    /// least, by a third of it at most.
+    fn nearest_path(&self, path: &str) -> Result<Option<String>, AllocError> {
+        let (folder, name) = folder_and_name(path);
+        let lower = in_lower_case(self.alloc, name)?;
+        if let Some(path) = self.by_name.get(lower.as_str()) {
+            return Ok(Some(path.clone()?));
+        }
+        let Some(names) = self.by_folder.get(folder) else {
+            return Ok(None);
+        };
+        let Some(found) = most_alike(self.alloc, names, name, stem(name).len() / 3)? else {
+            return Ok(None);
+        };
+        let mut path = String::from_str(self.alloc, folder)?;
+        push_part(&mut path, found.as_str())?;
+        Ok(Some(path))
+    }
+
+    /// What is nearest to where a broken link leads. For a path, that is one with the same name in any folder, or else the one in
+    /// its folder that is spelled most alike. For an anchor, it is the anchor of its page that is spelled most alike.
     pub fn nearest(&self, led: &Led) -> Result<Option<String>, AllocError> {
         match led {
-            Led::Nowhere { path } => {
-                let name = in_lower_case(self.alloc, folder_and_name(path.as_str()).1)?;
-                match self.by_name.get(name.as_str()) {
-                    None => Ok(None),
-                    Some(path) => Ok(Some(path.clone()?)),
+            Led::Nowhere { path } => self.nearest_path(path.as_str()),
+            Led::NoAnchor { path, anchor } => match self.entries.get(path.as_str()) {
+                Some(Entry::Page(names)) => {
+                    most_alike(self.alloc, names, anchor.as_str(), anchor.len() / 2)
                 }
-            }
-            Led::NoAnchor { path, anchor } => self.nearest_anchor(path.as_str(), anchor.as_str()),
+                _ => Ok(None),
+            },
             _ => Ok(None),
         }
     }
@@ -409,29 +481,5 @@ impl Tree {
         near.push('#')?;
         near.push_str(found.as_str())?;
         Ok(Some(near))
-    }
-
-    fn nearest_anchor(&self, path: &str, anchor: &str) -> Result<Option<String>, AllocError> {
-        let Some(Entry::Page(names)) = self.entries.get(path) else {
-            return Ok(None);
-        };
-        if anchor.len() > LONGEST {
-            return Ok(None);
-        }
-        let mut least = anchor.len() / 2;
-        let mut nearest = None;
-        for name in names.iter().take(COMPARED) {
-            if name.len() <= LONGEST {
-                let distance = levenshtein(self.alloc, anchor, name.as_str())?;
-                if distance <= least {
-                    least = distance;
-                    nearest = Some(name.as_str());
-                }
-            }
-        }
-        match nearest {
-            None => Ok(None),
-            Some(name) => Ok(Some(String::from_str(self.alloc, name)?)),
-        }
     }
 }

@@ -1,4 +1,4 @@
-//! What the server offers to do with a document: to mend a link, to format, and to fill a list of contents.
+//! What the server offers to do with a document: to mend a link, to format, and to fill a table of contents.
 
 use crate::configured::{Configured, Unknown};
 use crate::edits::{WorkspaceEdit, word_edits};
@@ -7,11 +7,13 @@ use crate::lined::Lined;
 use crate::links::Asking;
 use crate::message::{Call, Code, Fault, JsonText, range_in};
 use crate::tree::Files;
+use crate::workspace::Workspace;
 use serde_json::Value;
 use std::alloc::AllocError;
 use std::fmt::Write;
 use tocmark_links::changed::{with_contents, with_destinations};
 use tocmark_links::page::Page;
+use tocmark_links::tree::Led;
 use tocmark_lsp_text::edits::{Edit, line_edits};
 
 /// The kind of what changes a link that leads nowhere.
@@ -20,7 +22,7 @@ const MENDING: &str = "quickfix";
 /// The kind of what formats a document.
 const FORMAT: &str = "source.fixAll.tocmark";
 
-/// The kind of what fills a list of contents.
+/// The kind of what fills a table of contents.
 const CONTENTS: &str = "source.contents.tocmark";
 
 /// How many links one answer offers to change, because the page is read for each.
@@ -59,9 +61,8 @@ fn touch(one: (usize, usize), other: (usize, usize)) -> bool {
 /// The actions so far, as JSON.
 #[derive(Drop)]
 struct Actions<'a, F> {
+    workspace: &'a Workspace<'a, F>,
     asking: &'a Asking<'a, F>,
-    /// Whether the client takes a version with the edits of a text.
-    is_versioned: bool,
     json: String,
 }
 
@@ -72,7 +73,7 @@ impl<F: Files> Actions<'_, F> {
             return Ok(());
         }
         let asking = self.asking;
-        let mut edit = WorkspaceEdit::new(asking.gathering.alloc, self.is_versioned);
+        let mut edit = WorkspaceEdit::new(asking.gathering.alloc, self.workspace.is_versioned);
         edit.add((asking.uri, asking.version), edits)?;
         let edit = edit.finish()?;
         if self.json.ends_with('}') {
@@ -113,14 +114,20 @@ impl<F: Files> Actions<'_, F> {
         let lined = Lined::new(asking.gathering.alloc, asking.text, asking.encoding)?;
         let asked = (lined.byte(start), lined.byte(stop));
         let page = asking.page()?;
-        let tree = asking.gathering.tree(&page)?;
-        let from = asking.gathering.place.path.as_str();
+        let mut tree = asking.gathering.tree(&page)?;
+        let mut is_whole = false;
+        let place = asking.gathering.place;
+        let from = place.path.as_str();
         let mut count = 0usize;
         for (index, link) in page.links.iter().enumerate() {
             if !link.place.is_some_and(|place| touch(place, asked)) {
                 continue;
             }
             let led = tree.led_to(from, link.destination.as_str())?;
+            if matches!(led, Led::Nowhere { .. }) && !is_whole {
+                self.workspace.add_paths(&mut tree, place.root.as_str())?;
+                is_whole = true;
+            }
             if count < MENDINGS
                 && let Some(near) = tree.nearest_destination(from, &led)?
             {
@@ -144,14 +151,14 @@ impl<F: Files> Actions<'_, F> {
         Ok(self.add("Format this document", FORMAT, &edits)?)
     }
 
-    /// Adds what fills the list of contents, if the document has a place for one.
+    /// Adds what fills the table of contents, if the document has a place for one.
     fn add_contents(&mut self) -> Result<(), Fault> {
         let asking = self.asking;
         let (alloc, terms) = (asking.gathering.alloc, asking.gathering.terms);
         match with_contents(alloc, asking.text, terms.flags, terms.slugs) {
             Ok(new) => {
                 let edits = line_edits(alloc, asking.encoding, asking.text, new.as_str())?;
-                Ok(self.add("Fill the list of contents", CONTENTS, &edits)?)
+                Ok(self.add("Fill the table of contents", CONTENTS, &edits)?)
             }
             Err(tocmark_links::Fault::OutOfMemory) => Err(Fault::OutOfMemory),
             Err(_) => Ok(()),
@@ -161,14 +168,14 @@ impl<F: Files> Actions<'_, F> {
 
 /// What the server offers to do with a document, as JSON.
 pub(crate) fn actions<F: Files>(
+    workspace: &Workspace<'_, F>,
     asking: &Asking<'_, F>,
     configured: &Result<Configured, Unknown>,
-    is_versioned: bool,
     call: Call<'_>,
 ) -> Result<String, Fault> {
     let mut actions = Actions {
+        workspace,
         asking,
-        is_versioned,
         json: String::from_str(asking.gathering.alloc, "[")?,
     };
     if is_wanted(call, MENDING) {

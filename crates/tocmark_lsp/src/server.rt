@@ -371,12 +371,12 @@ impl Server {
         }
     }
 
-    /// Lists the pages of the workspace, if a request needs them. For a completion, which is asked for at each key, the last list
+    /// Lists the pages of the workspace, if a request needs them. For what is asked for at each key, the last list
     /// counts until a text is opened, closed or saved, or a file changes.
     fn list_for<F: Files>(&mut self, files: &F, request: Request) -> Result<(), AllocError> {
         let is_needed = match request {
             Request::References | Request::Rename | Request::WillRename => true,
-            Request::Completion => self.is_stale,
+            Request::Completion | Request::Actions => self.is_stale,
             _ => false,
         };
         if is_needed && !self.root.is_empty() {
@@ -520,7 +520,8 @@ impl Server {
                 let place = Place::of(self.alloc, self.root.as_str(), uri)?;
                 let asking = self.asking(files, &place, document, terms);
                 if let Request::Actions = request {
-                    return actions(&asking, &configured, self.is_versioned, call);
+                    let workspace = self.workspace(files, terms);
+                    return actions(&workspace, &asking, &configured, call);
                 }
                 self.answer_about_links(files, request, call, &asking)
             }

@@ -98,6 +98,17 @@ impl<F: Files> Workspace<'_, F> {
         Ok((site, paths))
     }
 
+    /// Adds the paths of the pages in the tree with a root to another tree, so that what is nearest to a broken path is found.
+    pub(crate) fn add_paths(&self, tree: &mut Tree, root: &str) -> Result<(), AllocError> {
+        let (_, paths) = self.site(root)?;
+        for path in &paths {
+            if !tree.has(path.as_str()) {
+                tree.add(path.as_str(), None)?;
+            }
+        }
+        Ok(())
+    }
+
     /// The text of a page as the client has it, and else that of its file. `None`: it can't be read.
     pub(crate) fn source(&self, root: &str, path: &str) -> Result<Option<Source>, AllocError> {
         let full = format!(in self.alloc; "{root}/{path}")?;
