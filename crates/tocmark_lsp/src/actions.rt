@@ -125,7 +125,7 @@ impl<F: Files> Actions<'_, F> {
             }
             let led = tree.led_to(from, link.destination.as_str())?;
             if matches!(led, Led::Nowhere { .. }) && !is_whole {
-                self.workspace.add_paths(&mut tree, place.root.as_str())?;
+                self.workspace.add_pages(&mut tree, place.root.as_str())?;
                 is_whole = true;
             }
             if count < MENDINGS

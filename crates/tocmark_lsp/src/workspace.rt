@@ -99,7 +99,7 @@ impl<F: Files> Workspace<'_, F> {
     }
 
     /// Adds the paths of the pages in the tree with a root to another tree, so that what is nearest to a broken path is found.
-    pub(crate) fn add_paths(&self, tree: &mut Tree, root: &str) -> Result<(), AllocError> {
+    pub(crate) fn add_pages(&self, tree: &mut Tree, root: &str) -> Result<(), AllocError> {
         let (_, paths) = self.site(root)?;
         for path in &paths {
             if !tree.has(path.as_str()) {
