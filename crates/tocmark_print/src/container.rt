@@ -1,6 +1,6 @@
 //! Containers: quotes, lists, footnotes and definition lists.
 
-use crate::page::{Frame, Kind, Lead};
+use crate::page::{Frame, Kind};
 use crate::part::{Opening, Part};
 use crate::piece::push_repeated;
 use crate::printer::Printer;
@@ -30,10 +30,10 @@ fn digits_in(text: &str) -> usize {
 }
 
 /// The number of these digits.
-fn number_in(digits: &str) -> u64 {
-    let mut number = 0u64;
+fn number_in(digits: &str) -> u32 {
+    let mut number = 0u32;
     for byte in digits.as_bytes() {
-        let digit = u64::from(byte.saturating_sub(b'0'));
+        let digit = u32::from(byte.saturating_sub(b'0'));
         number = number.saturating_mul(10).saturating_add(digit);
     }
     number
@@ -55,14 +55,13 @@ impl Printer<'_> {
         let (start, end) = range;
         let has_blank = matches!(source.byte(start.saturating_add(1)), b' ' | b'\t');
         let content = start.saturating_add(if has_blank { 2 } else { 1 });
-        let mut frame = Frame::new(self.alloc, Kind::Quote, content, end);
-        frame.rest = Lead::Quote;
-        frame.column = self.column_of(start, content);
+        let column = self.column_of(start, content);
+        let mut frame = Frame::new(Kind::Quote, content, end).at_columns(column, 0);
         let line_end = source.line_end(start);
         if has_kind {
-            frame.at = line_end.saturating_add(1);
+            frame.set_at(line_end.saturating_add(1));
         }
-        self.page.open(frame)?;
+        self.page.open(frame, "")?;
         if has_kind {
             self.page
                 .line(without_blanks(source.slice(content, line_end)))?;
@@ -89,7 +88,7 @@ impl Printer<'_> {
         let marker = wanted.unwrap_or(own);
         let top = self.page.top();
         let is_beside = top.last == Some(Kind::List) && top.last_marker == marker;
-        let mut frame = Frame::new(self.alloc, Kind::List, start, end);
+        let mut frame = Frame::new(Kind::List, start, end);
         frame.marker = if is_beside {
             other_marker(marker)
         } else {
@@ -101,7 +100,7 @@ impl Printer<'_> {
         frame.is_tight = !part.is_loose(at);
         frame.is_close = part.is_loose_by_definitions(at);
         frame.keeps_gaps = part.is_loose_by_gaps(at);
-        self.page.open(frame)
+        self.page.open(frame, "")
     }
 
     /// What an item has in the source whose marker ends at a place.
@@ -148,35 +147,42 @@ impl Printer<'_> {
         text.push(marker)
     }
 
-    fn open_item(&mut self, range: (usize, usize)) -> Result<(), AllocError> {
-        let (start, end) = range;
-        let own = self.source.slice(start, end);
-        let digits = digits_in(own);
-        let behind = start.saturating_add(digits).saturating_add(1);
-        let columns = self.item_columns(start, behind);
+    /// The sign of the next item of the innermost list, which has these digits and columns in the source.
+    fn item_sign(&mut self, own: &str, columns: ItemColumns) -> Result<String, AllocError> {
         let mut first = String::new(self.alloc);
         if matches!(self.look.list_indent, ListIndent::Source) {
             push_repeated(&mut first, ' ', columns.indent)?;
         }
-        self.push_marker(&mut first, own.get(..digits).unwrap_or(""))?;
+        self.push_marker(&mut first, own)?;
         let pad = match self.look.list_indent {
             ListIndent::Source => columns.pad,
             ListIndent::Marker => 1,
             ListIndent::Four => 4usize.saturating_sub(first.len()).max(1),
         };
         push_repeated(&mut first, ' ', pad)?;
-        let mut frame = Frame::new(self.alloc, Kind::Item, columns.content, end);
-        frame.rest = Lead::Blanks(first.len());
-        frame.first = first;
-        frame.column = columns.column;
-        frame.columns = columns
+        Ok(first)
+    }
+
+    fn open_item(&mut self, range: (usize, usize)) -> Result<(), AllocError> {
+        let (start, end) = range;
+        let own = self.source.slice(start, end);
+        let digits = digits_in(own);
+        let behind = start.saturating_add(digits).saturating_add(1);
+        let columns = self.item_columns(start, behind);
+        let sign = self.item_sign(own.get(..digits).unwrap_or(""), columns)?;
+        let before = columns
             .indent
             .saturating_add(behind.saturating_sub(start))
             .saturating_add(columns.pad);
-        frame.is_tight = self.page.top().is_tight;
-        frame.is_close = self.page.top().is_close;
-        frame.keeps_gaps = self.page.top().keeps_gaps;
-        self.page.open(frame)
+        let list = self.page.top();
+        let mut frame = Frame::new(Kind::Item, columns.content, end).at_columns(
+            columns.column,
+            before,
+        );
+        frame.is_tight = list.is_tight;
+        frame.is_close = list.is_close;
+        frame.keeps_gaps = list.keeps_gaps;
+        self.page.open(frame, sign.as_str())
     }
 
     /// The column of a place after the front of a block that begins here.
@@ -192,33 +198,23 @@ impl Printer<'_> {
             None => 0,
         };
         let behind = start.saturating_add(label);
-        let mut first = String::from_str(self.alloc, self.source.slice(start, behind))?;
-        first.push(' ')?;
-        let mut frame = Frame::new(
-            self.alloc,
-            Kind::Footnote,
-            self.source.past_blanks(behind),
-            end,
-        );
-        frame.first = first;
-        frame.rest = Lead::Blanks(4);
-        frame.columns = 4;
-        frame.column = self.column_of(start, frame.content);
-        self.page.open(frame)
+        let mut sign = String::from_str(self.alloc, self.source.slice(start, behind))?;
+        sign.push(' ')?;
+        let content = self.source.past_blanks(behind);
+        let column = self.column_of(start, content);
+        let frame = Frame::new(Kind::Footnote, content, end).at_columns(column, 4);
+        self.page.open(frame, sign.as_str())
     }
 
     fn open_definition(&mut self, range: (usize, usize)) -> Result<(), AllocError> {
         let (start, end) = range;
         let content = self.source.past_blanks(start.saturating_add(1));
-        let mut frame = Frame::new(self.alloc, Kind::Definition, content, end);
+        let column = self.column_of(start, content);
+        let frame = Frame::new(Kind::Definition, content, end).at_columns(column, 2);
         // a word between colons, as `:smile:`, stays one for other programs
         let has_blank = content > start.saturating_add(1);
         let sign = if has_blank { ": " } else { ":" };
-        frame.first = String::from_str(self.alloc, sign)?;
-        frame.rest = Lead::Blanks(2);
-        frame.columns = 2;
-        frame.column = self.column_of(start, content);
-        self.page.open(frame)
+        self.page.open(frame, sign)
     }
 
     /// Opens the container that starts at a place.
@@ -236,8 +232,8 @@ impl Printer<'_> {
             Opening::Footnote => self.open_footnote(range),
             Opening::Definition => self.open_definition(range),
             _ => {
-                let frame = Frame::new(self.alloc, Kind::DefinitionList, range.0, range.1);
-                self.page.open(frame)
+                let frame = Frame::new(Kind::DefinitionList, range.0, range.1);
+                self.page.open(frame, "")
             }
         }
     }

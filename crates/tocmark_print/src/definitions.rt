@@ -117,14 +117,14 @@ impl Printer<'_> {
     pub(crate) fn print_gap(&mut self, end: usize) -> Result<(), AllocError> {
         let source = self.source;
         let top = self.page.top();
-        if top.kind == Kind::List || top.at >= end {
+        let mut from = top.at();
+        if top.kind == Kind::List || from >= end {
             return Ok(());
         }
-        let mut from = top.at;
-        if from > source.line_start(from) && from != top.content {
+        if from > source.line_start(from) && from != top.content() {
             from = source.line_end(from).saturating_add(1);
         }
-        self.page.top_mut().at = end;
+        self.page.top_mut().set_at(end);
         if are_white(source.bytes(from, end)) {
             return Ok(());
         }

@@ -94,7 +94,7 @@ impl Printer<'_> {
         let base = source.line_start(start);
         let top = self.page.top();
         let first_end = end.min(source.line_end(start));
-        if top.content <= base && !top.owes_sign() {
+        if top.content() <= base && !top.owes_sign() {
             let place = self.page.stripped(source, base);
             self.print_rest(place, first_end.max(place.at))?;
         } else {
@@ -124,7 +124,7 @@ impl Printer<'_> {
         let to = match stretch.until {
             Until::Next | Until::Place(_) => stretch.to,
             Until::Comment(_) | Until::End => {
-                let end = self.page.top().end;
+                let end = self.page.top().end();
                 self.source.slice(0, end).trim_end_matches('\n').len()
             }
         };
@@ -186,7 +186,7 @@ impl Printer<'_> {
         if span.from >= end {
             return None;
         }
-        if span.to > self.source.line_end(self.page.top().end) {
+        if span.to > self.source.line_end(self.page.top().end()) {
             self.code_end = span.from.saturating_add(1);
             return None;
         }

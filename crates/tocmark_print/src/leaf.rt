@@ -450,7 +450,7 @@ impl<'d> Printer<'d> {
             Rule::Dashes => "---",
         };
         let sign = if top.kind == Kind::Item && !top.is_used {
-            top.first.as_bytes().first().copied()
+            self.page.sign().as_bytes().first().copied()
         } else {
             None
         };

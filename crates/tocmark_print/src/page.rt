@@ -1,10 +1,10 @@
 //! What is printed, and the containers that are open in it.
 
+use crate::part::short;
 use crate::piece::{cut_blanks, push_repeated};
 use crate::source::{Source, is_blank};
 use crate::width::width;
 use std::alloc::{AllocError, Global};
-use std::mem;
 
 /// What a block is.
 #[derive(Clone, Copy, PartialEq, Eq)]
@@ -35,29 +35,31 @@ pub(crate) enum Kind {
 
 /// What a container has before its lines.
 #[derive(Clone, Copy)]
-pub(crate) enum Lead {
+enum Lead {
     Nothing,
     /// `> `
     Quote,
     Blanks(usize),
 }
 
-/// A container that is open.
-#[derive(Drop)]
+/// A container that is open. Its numbers are short, because one line may open a container for each two bytes.
+#[derive(Clone, Copy)]
 pub(crate) struct Frame {
-    pub(crate) kind: Kind,
-    /// What is before its first line, if that is something else than before the others.
-    pub(crate) first: String,
-    /// What is before its lines.
-    pub(crate) rest: Lead,
+    /// Where its sign begins among those of the page, and how long it is. It is before its first line, if that has something
+    /// else there than the others.
+    sign: u32,
+    sign_length: u32,
     /// How many columns an item, a footnote or a definition has before each of its lines in the source.
-    pub(crate) columns: usize,
+    columns: u32,
     /// Where its content begins in the source, the column of that place on its line, and where it ends.
-    pub(crate) content: usize,
-    pub(crate) column: usize,
-    pub(crate) end: usize,
+    content: u32,
+    column: u32,
+    end: u32,
     /// The place in the source after what is printed of it.
-    pub(crate) at: usize,
+    at: u32,
+    /// Of a list with numbers, that of its next item.
+    pub(crate) number: Option<u32>,
+    pub(crate) kind: Kind,
     pub(crate) is_tight: bool,
     /// Whether blank lines are only beside definitions of links, in a list and in its items.
     pub(crate) is_close: bool,
@@ -71,22 +73,21 @@ pub(crate) struct Frame {
     pub(crate) last_marker: u8,
     /// Of a list, the sign of its items: a bullet, or what is after numbers.
     pub(crate) marker: u8,
-    /// Of a list with numbers, that of its next item.
-    pub(crate) number: Option<u64>,
 }
 
 impl Frame {
-    /// A container that begins here, and has nothing before its lines.
-    pub(crate) fn new(alloc: Global, kind: Kind, content: usize, end: usize) -> Frame {
+    /// A container whose content begins at a place, and which has no sign and no columns.
+    pub(crate) fn new(kind: Kind, content: usize, end: usize) -> Frame {
         Frame {
-            kind,
-            first: String::new(alloc),
-            rest: Lead::Nothing,
+            sign: 0,
+            sign_length: 0,
             columns: 0,
-            content,
+            content: short(content),
             column: 0,
-            end,
-            at: content,
+            end: short(end),
+            at: short(content),
+            number: None,
+            kind,
             is_tight: false,
             is_close: false,
             keeps_gaps: false,
@@ -94,37 +95,83 @@ impl Frame {
             last: None,
             last_marker: 0,
             marker: 0,
-            number: None,
         }
+    }
+
+    /// The same container with its content's column, and with as many columns before its lines in the source.
+    pub(crate) fn at_columns(self, column: usize, columns: usize) -> Frame {
+        Frame {
+            column: short(column),
+            columns: short(columns),
+            ..self
+        }
+    }
+
+    /// Where its content begins in the source.
+    pub(crate) fn content(&self) -> usize {
+        self.content as usize
+    }
+
+    /// Where it ends in the source.
+    pub(crate) fn end(&self) -> usize {
+        self.end as usize
+    }
+
+    /// The place in the source after what is printed of it.
+    pub(crate) fn at(&self) -> usize {
+        self.at as usize
+    }
+
+    /// Notes that it is printed up to a place of the source.
+    pub(crate) fn set_at(&mut self, at: usize) {
+        self.at = short(at);
     }
 
     /// Whether it has a sign that isn't printed yet.
     pub(crate) fn owes_sign(&self) -> bool {
-        !self.is_used && (!self.first.is_empty() || self.kind == Kind::Quote)
+        !self.is_used && (self.sign_length > 0 || self.kind == Kind::Quote)
     }
 
-    /// Puts after a text what is before its next line.
-    fn push_prefix(&mut self, text: &mut String) -> Result<(), AllocError> {
-        let is_first = !self.is_used && !self.first.is_empty();
-        self.is_used = true;
-        if is_first {
-            text.push_str(self.first.as_str())
-        } else {
-            push_lead(text, self.rest)
+    /// Its sign among those of the page.
+    fn sign<'s>(&self, signs: &'s str) -> &'s str {
+        let from = self.sign as usize;
+        signs
+            .get(from..from.saturating_add(self.sign_length as usize))
+            .unwrap_or("")
+    }
+
+    /// What is before its lines, but for the sign before the first one.
+    fn lead(&self) -> Lead {
+        match self.kind {
+            Kind::Quote => Lead::Quote,
+            Kind::Item => Lead::Blanks(self.sign_length as usize),
+            Kind::Footnote | Kind::Definition => Lead::Blanks(self.columns as usize),
+            _ => Lead::Nothing,
         }
     }
 
-    /// How many columns are before its next line, and before each line after it.
-    fn prefix_columns(&self) -> (usize, usize) {
-        let others = match self.rest {
+    /// Puts after a text what is before its next line; it is given the signs of the page.
+    fn push_prefix(&mut self, text: &mut String, signs: &str) -> Result<(), AllocError> {
+        let is_first = !self.is_used && self.sign_length > 0;
+        self.is_used = true;
+        if is_first {
+            text.push_str(self.sign(signs))
+        } else {
+            push_lead(text, self.lead())
+        }
+    }
+
+    /// How many columns are before its next line, and before each line after it; it is given the signs of the page.
+    fn prefix_columns(&self, signs: &str) -> (usize, usize) {
+        let others = match self.lead() {
             Lead::Nothing => 0,
             Lead::Quote => 2,
             Lead::Blanks(count) => count,
         };
-        if self.is_used || self.first.is_empty() {
+        if self.is_used || self.sign_length == 0 {
             (others, others)
         } else {
-            (width(self.first.as_str()), others)
+            (width(self.sign(signs)), others)
         }
     }
 
@@ -134,12 +181,23 @@ impl Frame {
         let is_passed = if self.kind == Kind::Quote {
             cursor.pass_quote(source)
         } else {
-            cursor.pass_blanks(source, self.columns) == self.columns
+            let columns = self.columns as usize;
+            cursor.pass_blanks(source, columns) == columns
         };
         if !is_passed {
             *cursor = before;
         }
         is_passed
+    }
+}
+
+/// Takes from a text what is after a byte.
+fn cut(text: &mut String, start: usize) {
+    for _ in start..text.len() {
+        if text.len() <= start {
+            break;
+        }
+        text.pop();
     }
 }
 
@@ -225,6 +283,8 @@ pub(crate) struct Page {
     outer: Vec<Frame>,
     /// The innermost container.
     top: Frame,
+    /// The signs of the open containers, one after the other.
+    signs: String,
     /// How many bytes of prefixes may still come.
     budget: usize,
     /// Whether no more lines come: more prefixes would have come than may, or the block will be printed anew.
@@ -238,7 +298,8 @@ impl Page {
             alloc,
             text: String::new(alloc),
             outer: Vec::new(alloc),
-            top: Frame::new(alloc, Kind::Document, 0, end),
+            top: Frame::new(Kind::Document, 0, end),
+            signs: String::new(alloc),
             budget: usize::MAX,
             is_over: false,
         }
@@ -259,21 +320,38 @@ impl Page {
         &mut self.top
     }
 
+    /// The sign of the innermost container.
+    pub(crate) fn sign(&self) -> &str {
+        self.top.sign(self.signs.as_str())
+    }
+
     /// How many containers are open in the document.
     pub(crate) fn depth(&self) -> usize {
         self.outer.len()
     }
 
-    pub(crate) fn open(&mut self, frame: Frame) -> Result<(), AllocError> {
-        self.outer.reserve(1)?;
-        let outer = mem::replace(&mut self.top, frame);
-        self.outer.push(outer)?;
+    /// Makes room for so many containers, so that no more is taken while they open.
+    pub(crate) fn make_room(&mut self, count: usize) -> Result<(), AllocError> {
+        self.outer.reserve(count)
+    }
+
+    /// Opens a container with a sign, or with an empty one.
+    pub(crate) fn open(&mut self, frame: Frame, sign: &str) -> Result<(), AllocError> {
+        let from = self.signs.len();
+        self.signs.push_str(sign)?;
+        self.outer.push(self.top)?;
+        self.top = Frame {
+            sign: short(from),
+            sign_length: short(sign.len()),
+            ..frame
+        };
         Ok(())
     }
 
     /// Closes the innermost container, unless it is the document.
     pub(crate) fn close(&mut self) {
         if let Some(outer) = self.outer.pop() {
+            cut(&mut self.signs, self.top.sign as usize);
             self.top = outer;
         }
     }
@@ -296,19 +374,15 @@ impl Page {
 
     /// Takes back what is printed after a byte.
     pub(crate) fn take_back(&mut self, start: usize) {
-        for _ in start..self.text.len() {
-            if self.text.len() <= start {
-                break;
-            }
-            self.text.pop();
-        }
+        cut(&mut self.text, start);
     }
 
     /// How many columns the containers have before the next line, and before each line after it.
     pub(crate) fn prefix_columns(&self) -> (usize, usize) {
-        let (mut first, mut others) = self.top.prefix_columns();
+        let signs = self.signs.as_str();
+        let (mut first, mut others) = self.top.prefix_columns(signs);
         for frame in self.outer.iter() {
-            let (next, behind) = frame.prefix_columns();
+            let (next, behind) = frame.prefix_columns(signs);
             first = first.saturating_add(next);
             others = others.saturating_add(behind);
         }
@@ -318,9 +392,9 @@ impl Page {
     /// Starts a line: what the containers have before it. From here on their first lines are printed.
     fn start_line(&mut self) -> Result<(), AllocError> {
         for frame in self.outer.iter_mut() {
-            frame.push_prefix(&mut self.text)?;
+            frame.push_prefix(&mut self.text, self.signs.as_str())?;
         }
-        self.top.push_prefix(&mut self.text)
+        self.top.push_prefix(&mut self.text, self.signs.as_str())
     }
 
     /// Prints a line after what the containers have before it; no blanks are at the end of one without a text.
@@ -353,9 +427,9 @@ impl Page {
         }
         let start = self.text.len();
         for frame in &self.outer {
-            push_lead(&mut self.text, frame.rest)?;
+            push_lead(&mut self.text, frame.lead())?;
         }
-        push_lead(&mut self.text, self.top.rest)?;
+        push_lead(&mut self.text, self.top.lead())?;
         let prefix = self.text.len().saturating_sub(start);
         cut_blanks(&mut self.text, prefix);
         self.text.push('\n')
@@ -393,13 +467,13 @@ impl Page {
 
     /// Where the content of the innermost container that begins after a place begins, with its column; lists don't count.
     fn content_behind(&self, place: usize) -> Option<(usize, usize)> {
-        if self.top.kind != Kind::List && self.top.content > place {
-            return Some((self.top.content, self.top.column));
+        if self.top.kind != Kind::List && self.top.content() > place {
+            return Some((self.top.content(), self.top.column as usize));
         }
         for frame in self.outer.iter().rev() {
             if frame.kind != Kind::List {
-                return if frame.content > place {
-                    Some((frame.content, frame.column))
+                return if frame.content() > place {
+                    Some((frame.content(), frame.column as usize))
                 } else {
                     None
                 };

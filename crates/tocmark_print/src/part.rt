@@ -143,9 +143,9 @@ struct Node {
     end: u32,
 }
 
-/// A number in four bytes. In a tree of more than 4 GiB the largest one stands for those that don't fit. What is printed then
-/// reads otherwise, so the document stays as it is.
-fn short(number: usize) -> u32 {
+/// A number in four bytes. In a document of more than 4 GiB the largest one stands for those that don't fit. What is printed
+/// then reads otherwise, so the document stays as it is.
+pub(crate) fn short(number: usize) -> u32 {
     if number > 0xffff_ffff {
         0xffff_ffff
     } else {
@@ -194,6 +194,9 @@ enum Role {
     Inline,
 }
 
+/// So many open containers have room from tree to tree.
+const FEW: usize = 64;
+
 /// A container that is open.
 #[derive(Clone, Copy)]
 struct OpenContainer {
@@ -214,6 +217,8 @@ pub(crate) struct Part {
     cell: usize,
     /// The containers that are open.
     open: Vec<OpenContainer>,
+    /// How many blocks are open at most, one in the other.
+    deepest: usize,
     /// The lists, in order.
     lists: Vec<ListSpread>,
     /// The texts of code and HTML blocks, and what each of these blocks has of them.
@@ -264,6 +269,7 @@ impl Part {
             front: 0,
             cell: 0,
             open: Vec::new(alloc),
+            deepest: 0,
             lists: Vec::new(alloc),
             raw: String::new(alloc),
             raw_blocks: Vec::new(alloc),
@@ -280,6 +286,7 @@ impl Part {
         self.nodes.truncate(0);
         self.cell = 0;
         self.open.truncate(0);
+        self.deepest = 0;
         self.lists.truncate(0);
         self.raw.truncate(0);
         self.raw_blocks.truncate(0);
@@ -303,6 +310,11 @@ impl Part {
         self.tables.shrink_to(1);
         self.stars.shrink_to(1);
         self.scores.shrink_to(1);
+    }
+
+    /// Gives back most of the room of open containers, if it is large: all are closed in a tree that is whole.
+    pub(crate) fn let_go_of_open(&mut self) {
+        self.open.shrink_to(FEW);
     }
 
     /// Says of a list whether it is loose, unless that is known.
@@ -404,6 +416,9 @@ impl Part {
             role,
             last: None,
         })?;
+        if !is_inline_opening(opening) {
+            self.deepest = self.deepest.max(self.open.len());
+        }
         Ok(())
     }
 
@@ -521,6 +536,11 @@ impl Part {
     fn range_of_all(&self) -> (usize, usize) {
         let last = self.len().saturating_sub(1);
         (self.range(0).0, self.range(last).1)
+    }
+
+    /// How many blocks are open at most, one in the other.
+    pub(crate) fn deepest(&self) -> usize {
+        self.deepest
     }
 
     /// How many events there are.

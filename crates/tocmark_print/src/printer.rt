@@ -200,7 +200,8 @@ impl<'d> Printer<'d> {
         }
         let top = self.page.top_mut();
         top.last = Some(last);
-        top.at = top.at.max(end);
+        let at = top.at().max(end);
+        top.set_at(at);
         Ok(())
     }
 
@@ -210,7 +211,7 @@ impl<'d> Printer<'d> {
         let top = self.page.top();
         let kind = top.kind;
         let marker = top.marker;
-        let behind = top.end.saturating_add(1);
+        let behind = top.end().saturating_add(1);
         if kind != Kind::List {
             self.print_gap(behind)?;
         }
@@ -319,6 +320,7 @@ impl<'d> Printer<'d> {
 
     /// Prints the next trees at the top.
     pub(crate) fn print(&mut self, part: &Part) -> Result<(), AllocError> {
+        self.page.make_room(part.deepest())?;
         let mut at = 0usize;
         for _ in 0..part.len() {
             if at >= part.len() {

@@ -33,6 +33,7 @@ impl<'d> Printing<'d> {
 
     /// Prints the tree, which is whole. Its room stays.
     fn print_tree(&mut self) -> Result<(), AllocError> {
+        self.tree.let_go_of_open();
         self.tree.find_signs(self.printer.source)?;
         self.printer.print(&self.tree)?;
         self.tree.clear();
