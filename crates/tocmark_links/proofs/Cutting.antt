@@ -1,5 +1,5 @@
 -- Where paths and destinations are cut.
-use Rattle.std.proofs.Common.{◌≡◌, ◌≢◌, refl, sym, ◌∙◌, ap, subst, ℕ, zero, suc, ◌<◌, ◌≤◌, ◌+◌, ◌-◌, ◌==◌, Bool, true, false, ◌||◌, not, List, [], ◌∷◌, ◌++◌, length, take, drop, All, true≢false, get_or, arith, Option, None, Some, unwrap_or, codes, bytes_eq, if◌then◌else◌, inl, inr}
+use Rattle.std.proofs.Common.{◌≡◌, ◌≢◌, refl, sym, ◌∙◌, ap, subst, ℕ, suc, ◌<◌, ◌≤◌, ◌+◌, ◌-◌, ◌==◌, Bool, true, false, ◌||◌, List, [], ◌∷◌, ◌++◌, length, take, drop, All, true≢false, get_or, arith, Option, None, Some, unwrap_or, bytes_eq, if◌then◌else◌, inl, inr}
 use Rattle.std.specs.Borrow.{Bor}
 use Rattle.std.specs.Option.{option_and_then, option_copied, MatchOption}
 use Rattle.std.specs.Str.{NoCharPasses}
@@ -13,7 +13,7 @@ use Rattle.percent_encoding.proofs.PercentLemmas.{All-percent_encode, IsEscapeBy
 use Rattle.percent_encoding.specs.AsciiSet.{should_percent_encode}
 use Rattle.percent_encoding.specs.Percent.{percent_encode}
 use Rattle.percent_encoding.specs.declared.ascii_set.AsciiSet.{AsciiSet}
-use Rattle.tocmark_links.specs.Destinations.{anchor_of, ends_scheme, is_mark, is_scheme_byte, IsPlain, IsRest, path_of, rest_after, until}
+use Rattle.tocmark_links.specs.Destinations.{ends_scheme, is_mark, is_scheme_byte, IsPlain, IsRest, path_of, rest_after, until}
 use Rattle.tocmark_links.specs.Paths.{before, before_slash, below, folder_of, is_tail}
 use Rattle.tocmark_links.proofs.Parts.{Lacks, lacks}
 

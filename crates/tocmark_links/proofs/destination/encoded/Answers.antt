@@ -1,8 +1,7 @@
-use Rattle.std.proofs.Common.{◌≡◌, true, refl, arith, List, ℕ, All}
+use Rattle.std.proofs.Common.{refl, arith}
 use Rattle.std.proofs.lemmas.List.Elements.{All-from_get_or}
 use Rattle.percent_encoding.proofs.PercentLemmas.{round_trip, IsByte}
 use Rattle.percent_encoding.specs.AsciiSet.{should_percent_encode}
-use Rattle.tocmark_links.specs.Destinations.{IsPlain}
 use Rattle.tocmark_links.proofs.Cutting.{plain-text}
 use Rattle.tocmark_links.proofs.destination.encoded.Goals as goal
 
