@@ -285,10 +285,11 @@ impl Printer<'_> {
         false
     }
 
-    /// Whether a paragraph has a line that could be the delimiter row of a table, and its lines don't stay, or one is indented
-    /// like code. GitHub lets a table begin anywhere in a paragraph, also below a header without a bar.
+    /// Whether a paragraph has a line that could be the delimiter row of a table, and its lines don't stay in the style, or one
+    /// is indented like code. GitHub lets a table begin anywhere in a paragraph, also below a header without a bar. In the
+    /// source's own spelling it's the same, or else what is printed so would be of another dialect when it is formatted again.
     fn has_table(&self, start: usize, end: usize) -> bool {
-        if self.look.wrap == Wrap::Keep && !self.has_deep_row(start, end) {
+        if self.wanted.wrap == Wrap::Keep && !self.has_deep_row(start, end) {
             return false;
         }
         let source = self.source;
@@ -303,11 +304,11 @@ impl Printer<'_> {
         false
     }
 
-    /// Whether a paragraph whose lines don't stay is metadata at the front of the document, as MultiMarkdown and Pelican read
-    /// them: two lines or more with a key each, and lines that go on with them.
+    /// Whether a paragraph whose lines don't stay in the style is metadata at the front of the document, as MultiMarkdown and
+    /// Pelican read them: two lines or more with a key each, and lines that go on with them.
     fn has_keys(&self, start: usize, end: usize) -> bool {
         let is_first = self.page.depth() == 0 && self.page.top().last.is_none();
-        if self.look.wrap == Wrap::Keep || !is_first {
+        if self.wanted.wrap == Wrap::Keep || !is_first {
             return false;
         }
         let source = self.source;

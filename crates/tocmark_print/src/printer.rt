@@ -20,7 +20,8 @@ pub(crate) struct Printer<'d> {
     pub(crate) alloc: Global,
     pub(crate) source: &'d Source<'d>,
     pub(crate) page: Page,
-    wanted: Look,
+    /// How blocks are printed in the style.
+    pub(crate) wanted: Look,
     /// How the block at the top is printed that is open.
     pub(crate) look: Look,
     /// How near to the source each tree is printed.
