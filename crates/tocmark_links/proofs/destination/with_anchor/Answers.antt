@@ -8,8 +8,8 @@ joined : (c : goal.After-drop-name-2) → string_bytes c.push_str.new.self ≡ u
 joined c =
     c.in_ok-push_str.ensures.bytes
     ∙ ap (λ xs. xs ++ c.as_str.result.now)
-      (c.in_ok-push.ensures.bytes ∙ ap (λ xs. string_bytes c.in_ok-new.new ++ xs) (c.in_ok-push.ensures.ascii (omega arith))
-      ∙ ap (λ xs. xs ++ (35 ∷ [])) (c.in_ok-new.ensures.ok ∙ c.until.ensures (omega arith)))
+    (c.in_ok-push.ensures.bytes ∙ ap (λ xs. string_bytes c.in_ok-new.new ++ xs) (c.in_ok-push.ensures.ascii (omega arith))
+    ∙ ap (λ xs. xs ++ (35 ∷ [])) (c.in_ok-new.ensures.ok ∙ c.until.ensures (omega arith)))
     ∙ append_assoc (until 35 c.args.destination.now) (35 ∷ []) c.as_str.result.now
 
 pub returns-clause-front : goal.returns-clause-front
