@@ -36,8 +36,8 @@ pub enum Fault {
         /// The line, from 1 on.
         line: usize,
     },
-    /// The new words of a heading are empty, or have several lines.
-    #[error("a heading's words are in one line")]
+    /// The new words of a heading are empty, have several lines, or end with what isn't read as words, such as ` #`.
+    #[error("a heading's words are one line, without a closing # or an anchor at its end")]
     NoWords,
     /// There is no `<!-- toc -->` with a `<!-- tocstop -->` after it.
     #[error("there is no <!-- toc --> with a <!-- tocstop --> after it")]
@@ -345,8 +345,8 @@ fn has_words(
 /// The text in which a heading has other words; `heading` is its anchor in the text's page.
 ///
 /// The words are Markdown in one line. The reader finds the same events before and after the heading, and takes all words for
-/// words. An anchor that is written after them stays. It fails if memory runs out, if the words are empty or have several lines,
-/// or if there is no such text: then the fault names the line.
+/// words. An anchor that is written after them stays. It fails if memory runs out, if these are no words of a heading, or if there
+/// is no such text: then the fault names the line.
 pub fn with_heading(
     alloc: Global,
     text: &str,
@@ -376,10 +376,13 @@ pub fn with_heading(
     let number = heading_number(&before, start);
     let kept = without_heading(alloc, before, number)?;
     let found = without_heading(alloc, after, number)?;
-    if are_same(alloc, &kept, &found)? && has_words(alloc, new.as_str(), flags, (start, words))? {
+    if !are_same(alloc, &kept, &found)? {
+        return Err(Fault::Misread { line });
+    }
+    if has_words(alloc, new.as_str(), flags, (start, words))? {
         return Ok(new);
     }
-    Err(Fault::Misread { line })
+    Err(Fault::NoWords)
 }
 
 /// The bytes between `<!-- toc -->` and `<!-- tocstop -->`.
@@ -502,7 +505,8 @@ fn with_feeds_of(alloc: Global, text: &str, lines: String) -> Result<String, All
     }
 }
 
-/// The text with a list of links to the headings after it, between a line `<!-- toc -->` and a line `<!-- tocstop -->`.
+/// The text with a list of links to the headings after it, between a line `<!-- toc -->` and a line `<!-- tocstop -->`. Without
+/// such headings, one empty line is between them.
 ///
 /// The events before and after these lines stay. It fails if memory runs out, if there are no such lines, or if
 /// more than a list is between them.
@@ -523,7 +527,12 @@ pub fn with_contents(
     }
     let page = Page::read(alloc, text, flags, slugs)?;
     let list = contents(alloc, &page, end)?;
-    let new = with_feeds_of(alloc, text, format!(in alloc; "\n{list}\n")?)?;
+    let lines = if list.is_empty() {
+        String::from_str(alloc, "\n")?
+    } else {
+        format!(in alloc; "\n{list}\n")?
+    };
+    let new = with_feeds_of(alloc, text, lines)?;
     let length = new.len();
     let mut edits = Vec::new(alloc);
     edits.push(Edit {

@@ -77,7 +77,10 @@ impl From<tocmark_links::Fault> for Fault {
         match fault {
             tocmark_links::Fault::OutOfMemory => Fault::OutOfMemory,
             tocmark_links::Fault::NoWords => {
-                Fault::Refused(Code::Failed, "a heading has words, in one line")
+                Fault::Refused(
+                    Code::Failed,
+                    "a heading has words in one line, without a closing # or an anchor at its end",
+                )
             }
             _ => Fault::Refused(
                 Code::Failed,
