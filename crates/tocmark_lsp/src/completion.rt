@@ -21,6 +21,9 @@ const MOST: usize = 200;
 /// What ends a destination.
 const ENDS: [char; 3] = [' ', ')', '<'];
 
+/// What is in no destination without angle brackets, and doesn't close one.
+const BREAKS: [char; 7] = [' ', '\t', '\n', '\r', '<', '>', '('];
+
 /// The numbers of kinds of items in the protocol.
 const FILE: u8 = 17;
 
@@ -61,6 +64,21 @@ fn front_in(before: &str) -> Front<'_> {
         Some((_, label)) if !label.contains(']') => Front::Label(label),
         _ => Front::Nothing,
     }
+}
+
+/// How many bytes are from a position to what closes what is begun there; none if something else comes before that.
+fn tail(rest: &str, closing: &[char], apart: &[char]) -> usize {
+    let mut count = 0usize;
+    for c in rest.chars() {
+        if closing.contains(&c) {
+            return count;
+        }
+        if apart.contains(&c) {
+            return 0;
+        }
+        count = count.saturating_add(c.len_utf8());
+    }
+    0
 }
 
 impl Items {
@@ -224,7 +242,14 @@ pub(crate) fn completions<F: Files>(
         Front::Label(begun) => begun,
         Front::Nothing => "",
     };
-    let span = read.lined.span((at.saturating_sub(replaced.len()), at));
+    let rest = asking.text.get(at..).unwrap_or("");
+    let tail = match front {
+        Front::Destination(begun) if begun.contains('#') => tail(rest, &[')'], &BREAKS),
+        Front::Destination(_) => tail(rest, &[')', '#', '?'], &BREAKS),
+        Front::Label(_) => tail(rest, &[']'], &['[', '\n', '\r']),
+        Front::Nothing => 0,
+    };
+    let span = read.lined.span((at.saturating_sub(replaced.len()), at.saturating_add(tail)));
     let mut items = Items::new(alloc, span);
     match front {
         Front::Destination(begun) if begun.contains('#') => {

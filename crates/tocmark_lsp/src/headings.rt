@@ -39,7 +39,7 @@ fn place_at<F: Files>(
     )
 }
 
-/// The range and the text of what can get another name at a position, as JSON; `null` if nothing can.
+/// The range and the text of what can get another name at a position, as JSON; `null` if nothing can, or if it has several lines.
 pub(crate) fn prepared<F: Files>(
     asking: &Asking<'_, F>,
     position: Position,
@@ -49,8 +49,11 @@ pub(crate) fn prepared<F: Files>(
     let Some((start, end)) = place_at(asking, &read, read.lined.byte(position))? else {
         return String::from_str(alloc, "null");
     };
-    let span = read.lined.span((start, end));
-    let words = JsonText(asking.text.get(start..end).unwrap_or(""));
+    let words = asking.text.get(start..end).unwrap_or("");
+    if words.contains('\n') || words.contains('\r') {
+        return String::from_str(alloc, "null");
+    }
+    let (span, words) = (read.lined.span((start, end)), JsonText(words));
     format!(in alloc; "{{\"range\":{span},\"placeholder\":{words}}}")
 }
 

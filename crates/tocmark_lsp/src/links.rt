@@ -10,7 +10,7 @@ use std::fmt::Write;
 use tocmark_event::event::{Event, LinkType, Tag};
 use tocmark_event::reader::{Reader, Reading};
 use tocmark_links::anchors::AnchorKind;
-use tocmark_links::destination::{is_local, parts};
+use tocmark_links::destination::{decoded, encoded, is_local, parts};
 use tocmark_links::page::Page;
 use tocmark_links::tree::{Led, Tree};
 use tocmark_lsp_text::positions::{Encoding, Position};
@@ -257,25 +257,42 @@ impl<'a, F: Files> Asking<'a, F> {
         tree.led_to(path, destination)
     }
 
-    /// The URI to which a destination leads, for a client that opens it. `None`: it leads out of the tree.
+    /// The URI of the file at a path in the tree; of the document itself, as the client names it.
+    fn uri_of(&self, path: &str) -> Result<String, AllocError> {
+        if path == self.place().path.as_str() {
+            return String::from_str(self.alloc(), self.uri);
+        }
+        self.place().uri(self.alloc(), path)
+    }
+
+    /// The URI to which a destination leads, for a client that opens it. `None`: there is none, because it is empty, names a host
+    /// without a scheme, leads out of the tree, or names a file from a document that is none.
     fn target(&self, destination: &str) -> Result<Option<String>, AllocError> {
+        let alloc = self.alloc();
+        if destination.is_empty() || destination.starts_with("//") {
+            return Ok(None);
+        }
         if !is_local(destination) {
-            return Ok(Some(String::from_str(self.alloc(), destination)?));
+            return Ok(Some(String::from_str(alloc, destination)?));
         }
         let parts = parts(destination);
         let mut uri = if parts.path.is_empty() {
-            String::from_str(self.alloc(), self.uri)?
+            String::from_str(alloc, self.uri)?
         } else {
-            match self.place().resolved(self.alloc(), parts.path)? {
-                None => return Ok(None),
-                Some(path) => self.place().uri(self.alloc(), path.as_str())?,
+            match self.place().resolved(alloc, parts.path)? {
+                Some(path) if self.uri.starts_with("file://") => self.uri_of(path.as_str())?,
+                _ => return Ok(None),
             }
         };
-        uri.push_str(parts.anchor)?;
+        if let Some(anchor) = parts.anchor.strip_prefix('#') {
+            let anchor = decoded(alloc, anchor)?;
+            uri.push('#')?;
+            uri.push_str(encoded(alloc, anchor.as_str())?.as_str())?;
+        }
         Ok(Some(uri))
     }
 
-    /// The destinations of the document's links, with where they lead.
+    /// The destinations of the document's links that a client can open, with where they lead.
     pub(crate) fn document_links(&self) -> Result<String, AllocError> {
         let lined = Lined::new(self.alloc(), self.text, self.encoding)?;
         let mut json = String::from_str(self.alloc(), "[")?;
@@ -284,16 +301,14 @@ impl<'a, F: Files> Asking<'a, F> {
             let Some(place) = link.place else {
                 continue;
             };
+            let Some(target) = self.target(link.destination.as_str())? else {
+                continue;
+            };
             if json.ends_with('}') {
                 json.push(',')?;
             }
-            let span = lined.span(place);
-            write!(json, "{{\"range\":{span}")?;
-            if let Some(target) = self.target(link.destination.as_str())? {
-                let target = JsonText(target.as_str());
-                write!(json, ",\"target\":{target}")?;
-            }
-            json.push('}')?;
+            let (span, target) = (lined.span(place), JsonText(target.as_str()));
+            write!(json, "{{\"range\":{span},\"target\":{target}}}")?;
         }
         json.push(']')?;
         Ok(json)
@@ -335,7 +350,7 @@ impl<'a, F: Files> Asking<'a, F> {
         let page = self.page()?;
         let led = self.led_to(&page, link.destination.as_str())?;
         if let Led::To { path, anchor, .. } = &led {
-            let uri = self.place().uri(self.alloc(), path.as_str())?;
+            let uri = self.uri_of(path.as_str())?;
             let line = self.anchor_line(path.as_str(), anchor.as_str())?;
             add_location(&mut json, uri.as_str(), front_of(line))?;
         }

@@ -168,7 +168,14 @@ pub(crate) fn folding(
 ) -> Result<String, AllocError> {
     let mut json = String::from_str(alloc, "[")?;
     for heading in headings {
-        add_fold(&mut json, lined, (heading.place.0, heading.end))?;
+        // a section ends above the line of the next heading, which a container may begin
+        let front = lined.line_start(lined.span((heading.end, heading.end)).start.line);
+        let end = if heading.end < lined.text.len() {
+            front.min(heading.end)
+        } else {
+            heading.end
+        };
+        add_fold(&mut json, lined, (heading.place.0, end))?;
     }
     for (event, place) in &reading.events {
         if let Event::Start(tag) = event

@@ -137,6 +137,8 @@ pub struct Server {
     is_versioned: bool,
     /// Whether the client says which files change, if it is asked to.
     is_watching: bool,
+    /// Whether the client takes actions that have their edits with them.
+    takes_actions: bool,
 }
 
 /// UTF-8 if the client can count so, and else UTF-16.
@@ -185,6 +187,15 @@ impl Server {
             is_stale: true,
             is_versioned: false,
             is_watching: false,
+            takes_actions: false,
+        }
+    }
+
+    /// The status of the program if the input ends here: 0 if the client has shut the server down, and else 1.
+    pub fn status(&self) -> u8 {
+        match self.phase {
+            Phase::ShutDown => 0,
+            _ => 1,
         }
     }
 
@@ -254,8 +265,7 @@ impl Server {
             return Ok(Next::GoOn);
         };
         if let Notice::Exit = notice {
-            let is_shut_down = matches!(self.phase, Phase::ShutDown);
-            return Ok(Next::End(if is_shut_down { 0 } else { 1 }));
+            return Ok(Next::End(self.status()));
         }
         if !matches!(self.phase, Phase::Running) {
             return Ok(Next::GoOn);
@@ -266,17 +276,8 @@ impl Server {
         }
     }
 
-    /// Says again what is wrong in each open text, if one of the files that are changed isn't open. A text that is open counts as
-    /// the client has it.
-    fn check_all<F: Files>(
-        &self,
-        files: &F,
-        call: Call<'_>,
-        answers: &mut Vec<String>,
-    ) -> Result<(), Fault> {
-        if !self.documents.lack_one(call)? {
-            return Ok(());
-        }
+    /// Says again what is wrong in each open text: a link can lead to a text that was saved, or to a file that changed.
+    fn check_all<F: Files>(&self, files: &F, answers: &mut Vec<String>) -> Result<(), Fault> {
         let open = self.documents.all()?;
         for document in &open {
             let uri = document.uri.as_str();
@@ -310,7 +311,10 @@ impl Server {
         }
         self.is_stale = true;
         match notice {
-            Notice::Watched => return self.check_all(files, call, answers),
+            Notice::Save => return self.check_all(files, answers),
+            // a text that is open counts as the client has it
+            Notice::Watched if !self.documents.lack_one(call)? => return Ok(()),
+            Notice::Watched => return self.check_all(files, answers),
             Notice::Open => self.documents.open(call)?,
             Notice::Close => {
                 self.documents.close(call)?;
@@ -520,6 +524,9 @@ impl Server {
                 let place = Place::of(self.alloc, self.root.as_str(), uri)?;
                 let asking = self.asking(files, &place, document, terms);
                 if let Request::Actions = request {
+                    if !self.takes_actions {
+                        return Ok(String::from_str(self.alloc, "[]")?);
+                    }
                     let workspace = self.workspace(files, terms);
                     return actions(&workspace, &asking, &configured, call);
                 }
@@ -590,9 +597,13 @@ impl Server {
         let Some(heading) = number.and_then(|number| page.anchors.get(number)) else {
             return Ok(String::from_str(self.alloc, "null")?);
         };
+        let own = match heading.place {
+            Some(place) if with_definition => Some((asking.uri, read.lined.span(place))),
+            _ => None,
+        };
         let place = asking.gathering.place;
         let workspace = self.workspace(files, asking.gathering.terms);
-        Ok(workspace.links_to(place, &page, heading.name.as_str())?)
+        Ok(workspace.links_to(place, &page, heading.name.as_str(), own)?)
     }
 
     /// Takes what a client can do and sets, and says what the server can do.
@@ -623,6 +634,9 @@ impl Server {
             call,
             "/capabilities/workspace/didChangeWatchedFiles/dynamicRegistration",
         );
+        self.takes_actions = call
+            .at("/capabilities/textDocument/codeAction/codeActionLiteralSupport")
+            .is_some();
         self.settings = settings;
         self.encoding = encoding;
         self.phase = Phase::Running;

@@ -1,7 +1,7 @@
 //! The pages of a workspace: those below its root, and those that are open.
 
 use crate::documents::Documents;
-use crate::lined::Lined;
+use crate::lined::{Lined, Span};
 use crate::links::add_location;
 use crate::tree::{Files, Place, Terms};
 use std::alloc::{AllocError, Global};
@@ -200,17 +200,22 @@ impl<F: Files> Workspace<'_, F> {
         Ok(())
     }
 
-    /// The links of all pages that lead to an anchor of a page at a place, as JSON.
+    /// The links of all pages that lead to an anchor of a page at a place, as JSON, after the heading's own place if that is
+    /// wanted.
     pub(crate) fn links_to(
         &self,
         place: &Place,
         page: &Page,
         name: &str,
+        heading: Option<(&str, Span)>,
     ) -> Result<String, AllocError> {
         let target = place.path.as_str();
         let (mut site, paths) = self.site(place.root.as_str())?;
         site.tree.add(target, Some(page))?;
         let mut json = String::from_str(self.alloc, "[")?;
+        if let Some((uri, span)) = heading {
+            add_location(&mut json, uri, span)?;
+        }
         for path in &paths {
             self.add_links_to(&mut json, &mut site, path.as_str(), (target, name))?;
         }

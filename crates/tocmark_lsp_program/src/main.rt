@@ -24,6 +24,9 @@ const SERVER: Program = Program { name: NAME };
 /// How many bytes a file may have whose headings links lead to: 16 MiB.
 const LONGEST_FILE: u64 = 16_777_216;
 
+/// A byte order mark, which editors take for no text.
+const MARK: char = '\u{feff}';
+
 /// The last lines of `--help`.
 const LAST: &str =
     "An editor starts it, and speaks the language server protocol to it over standard input
@@ -31,12 +34,20 @@ and output. Status 1: the input ended before the editor shut it down; 2: a messa
 be read, or the output not written.";
 
 /// The options.
-static OPTIONS: [CommandOption<'static>; 1] = [CommandOption {
-    name: "stdio",
-    letter: None,
-    takes: Takes::Nothing,
-    help: "Does nothing: some editors pass it",
-}];
+static OPTIONS: [CommandOption<'static>; 2] = [
+    CommandOption {
+        name: "stdio",
+        letter: None,
+        takes: Takes::Nothing,
+        help: "Does nothing: some editors pass it",
+    },
+    CommandOption {
+        name: "clientProcessId",
+        letter: None,
+        takes: Takes::Value("N"),
+        help: "Does nothing: some editors pass it",
+    },
+];
 
 /// Why the server ends before its client says so.
 #[derive(Debug, Drop)]
@@ -73,7 +84,11 @@ impl Files for HostFiles<'_> {
         if !found.is_file() || found.len() > LONGEST_FILE {
             return None;
         }
-        fs::read_to_string(self.rt, path).ok()
+        let text = fs::read_to_string(self.rt, path).ok()?;
+        match text.as_str().strip_prefix(MARK) {
+            Some(rest) => String::from_str(self.rt.alloc(), rest).ok(),
+            None => Some(text),
+        }
     }
 
     fn setting(&self, path: &str) -> Result<Option<Vec<u8>>, Distrust> {
@@ -120,7 +135,7 @@ fn serve(rt: &HostRuntime) -> Result<u8, Fault> {
             return Ok(status);
         }
     }
-    Ok(1)
+    Ok(server.status())
 }
 
 /// The command line.
