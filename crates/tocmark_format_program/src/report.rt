@@ -217,6 +217,8 @@ pub struct Report<E: Write + Drop> {
     shows_progress: bool,
     /// Whether nothing is written, so that files would change.
     is_dry: bool,
+    /// Whether nobody reads standard output any more.
+    is_unread: bool,
     /// What was found, if a program reads it.
     found: String,
 }
@@ -228,6 +230,7 @@ impl<E: Write + Drop> Report<E> {
             voice,
             shows_progress: false,
             is_dry,
+            is_unread: false,
             found: String::new(alloc),
         }
     }
@@ -272,6 +275,7 @@ impl<E: Write + Drop> Report<E> {
     /// Reports a file that failed, unless it failed because nobody reads standard output any more.
     pub fn failed<'m>(&mut self, path: &'m str, fault: &'m Fault) -> Result<(), AllocError> {
         if fault.is_broken_pipe() {
+            self.is_unread = true;
             return Ok(());
         }
         self.add(&Finding {
@@ -351,9 +355,9 @@ impl<E: Write + Drop> Report<E> {
         }
     }
 
-    /// Writes the summary.
+    /// Writes the summary, unless nobody reads standard output any more.
     pub fn end(&mut self, outcomes: &[Outcome]) {
-        if self.voice.is_quiet {
+        if self.voice.is_quiet || self.is_unread {
             self.clear();
             return;
         }
