@@ -131,7 +131,7 @@ impl<F: Files> Actions<'_, F> {
             if count < MENDINGS
                 && let Some(near) = tree.nearest_destination(from, &led)?
             {
-                count += 1;
+                count = count.saturating_add(1);
                 self.add_mending(&page, index, near)?;
             }
         }
