@@ -44,7 +44,8 @@ rename FILE#ANCHOR WORDS: give a heading other words
 contents FILE..: fill tables of contents";
 
 /// The last lines of `--help`.
-const LAST: &str = "Status 1: a link is broken, or a file could not be read; 2: nothing was done.";
+const LAST: &str =
+    "Status 1: a link is broken, a file could not be read, or standard output\ncould not be written; 2: nothing was done.";
 
 /// The options of this program alone.
 static OPTIONS: [CommandOption<'static>; 6] = [
@@ -158,8 +159,67 @@ pub fn terms_of(matches: &ArgMatches<'_>) -> Result<Terms, Fault> {
     })
 }
 
+/// The commands, each with what is said if its words are wrong, and what is said of a word that is spelled like it.
+const COMMANDS: [(&str, &str, &str); 4] = [
+    (
+        "check",
+        "check wants the paths of files and folders, or none",
+        "is no command; check is near",
+    ),
+    (
+        "move",
+        "move wants two paths, OLD and NEW; put one with blanks into quotation marks",
+        "is no command; move is near",
+    ),
+    (
+        "rename",
+        "rename wants FILE#ANCHOR and the new words, each in quotation marks",
+        "is no command; rename is near",
+    ),
+    (
+        "contents",
+        "contents wants the path of a file, or of several",
+        "is no command; contents is near",
+    ),
+];
+
+/// How many characters of a word are not in another one.
+fn foreign_count(word: &str, other: &str) -> usize {
+    let mut count = 0usize;
+    for c in word.chars() {
+        if !other.contains(c) {
+            count = count.saturating_add(1);
+        }
+    }
+    count
+}
+
+/// Whether a word is spelled like another one: at most two characters are in one of them alone.
+fn is_alike(word: &str, other: &str) -> bool {
+    foreign_count(word, other).saturating_add(foreign_count(other, word)) <= 2
+}
+
+/// What is wrong with a command, or with the words after it.
+fn wrong_words(alloc: Global, command: &str) -> Fault {
+    for (name, wants, _near) in &COMMANDS {
+        if *name == command {
+            return Fault::Usage(*wants);
+        }
+    }
+    for (name, _wants, near) in &COMMANDS {
+        if is_alike(command, name) {
+            return Fault::path(alloc, command, *near);
+        }
+    }
+    Fault::path(
+        alloc,
+        command,
+        "is no command; check, move, rename and contents are",
+    )
+}
+
 /// What is done, by the words of a command line.
-pub fn work_of<'w>(words: &'w [&'w str]) -> Result<Work<'w>, Fault> {
+pub fn work_of<'w>(alloc: Global, words: &'w [&'w str]) -> Result<Work<'w>, Fault> {
     let Some((command, rest)) = words.split_first() else {
         return Err(Fault::Usage("a command is wanted: check, move, rename or contents"));
     };
@@ -175,8 +235,6 @@ pub fn work_of<'w>(words: &'w [&'w str]) -> Result<Work<'w>, Fault> {
     match rest {
         [old, new] if *command == "move" => Ok(Work::Move(old, new)),
         [place, words] if *command == "rename" => Ok(Work::Rename(place, words)),
-        _ => Err(Fault::Usage(
-            "wanted: check [PATH..], move OLD NEW, rename FILE#ANCHOR WORDS or contents FILE..",
-        )),
+        _ => Err(wrong_words(alloc, command)),
     }
 }

@@ -117,13 +117,11 @@ impl Site {
         if changes.is_empty() {
             return Ok(None);
         }
-        let old = self.text(rt, path)?;
-        match self.corrected(rt.alloc(), path, old.as_str(), reason, report)? {
-            Some(new) => Ok(Some(Edit {
-                path: String::from_str(rt.alloc(), path)?,
-                old,
-                new,
-            })),
+        let source = self.source_at(rt, path)?;
+        let new = self.corrected(rt.alloc(), path, source.text.as_str(), reason, report)?;
+        let path = String::from_str(rt.alloc(), path)?;
+        match new {
+            Some(new) => Ok(Some(source.edit(rt.alloc(), path, new)?)),
             None => Ok(None),
         }
     }

@@ -5,10 +5,21 @@ use crate::outcome::Outcome;
 use crate::report::{Kind, Note, Report};
 use crate::root::within;
 use crate::site::{LINKS, Site, SitePage};
-use std::alloc::Global;
+use std::alloc::{AllocError, Global};
+use std::fs;
+use tocmark_files::names::is_markdown;
+use tocmark_files::quoted::Quoted;
 use tocmark_links::destination::is_local;
 use tocmark_links::page::Link;
 use tocmark_links::tree::Led;
+
+/// What is said of a named file that is no page.
+const NO_MARKDOWN: &str =
+    "is no Markdown file: its name would end with .md, .markdown, .mdown or .mkd";
+
+/// What is said of a named path at which no page is read.
+const NO_PAGES: &str =
+    "warning: no Markdown file is checked here; .gitignore and --exclude leave out some";
 
 /// How many links were checked.
 #[derive(Clone, Copy)]
@@ -39,14 +50,14 @@ fn broken<'n>(kind: Kind, file: &'n str, link: &'n Link, near: Option<&'n str>) 
     }
 }
 
-/// Whether a path in the tree is one of these, or in one of them. Of no paths, each is.
+/// Whether a path in the tree is one of these, or in one of them.
 fn is_asked(path: &str, asked: &[String]) -> bool {
     for folder in asked {
         if folder.is_empty() || within(path, folder.as_str()).is_some() {
             return true;
         }
     }
-    asked.is_empty()
+    false
 }
 
 impl Site {
@@ -86,7 +97,67 @@ impl Site {
         Ok(outcome)
     }
 
-    /// Reports the broken links of the pages at these paths in the tree or below them, of all pages if there are none.
+    /// Whether a path is one that the tree leaves out, or is in such a folder.
+    fn leaves_out(&self, path: &str) -> bool {
+        is_asked(path, &self.others)
+    }
+
+    /// Whether a page that is read is at a path in the tree or below it.
+    fn has_pages(&self, path: &str) -> bool {
+        for page in &self.pages {
+            if path.is_empty() || within(page.path.as_str(), path).is_some() {
+                return true;
+            }
+        }
+        false
+    }
+
+    /// Says that no page is checked at what a word of the command line names.
+    fn warn_of_none(&self, rt: &HostRuntime, word: &str) -> Result<(), AllocError> {
+        let name = Quoted(word);
+        let line = format!(in rt.alloc(); "{name}: {NO_PAGES}")?;
+        LINKS.complain(&mut rt.stderr(), &line.as_str());
+        Ok(())
+    }
+
+    /// The path in the tree of the page or folder that a word of the command line names. A symbolic link is followed.
+    fn asked_path(&self, rt: &HostRuntime, word: &str) -> Result<String, Fault> {
+        let path = self.root.followed(rt, word)?;
+        let full = self.root.full(rt.alloc(), path.as_str())?;
+        let is_folder = match fs::metadata(rt, full.as_str()) {
+            Ok(found) => found.is_dir(),
+            Err(error) => return Err(Fault::unreadable(rt.alloc(), word, error)),
+        };
+        if !is_folder && !is_markdown(path.as_str()) {
+            return Err(Fault::path(rt.alloc(), word, NO_MARKDOWN));
+        }
+        if !self.has_pages(path.as_str()) && (is_folder || self.leaves_out(path.as_str())) {
+            self.warn_of_none(rt, word)?;
+        }
+        Ok(path)
+    }
+
+    /// The paths in the tree of what words of the command line name; that of the root, if there are none. Standard error names
+    /// each word that can't be checked.
+    pub fn asked_paths(&mut self, rt: &HostRuntime, words: &[&str]) -> Result<Vec<String>, Fault> {
+        let mut asked = Vec::new(rt.alloc());
+        if words.is_empty() {
+            asked.push(String::new(rt.alloc()))?;
+        }
+        for word in words {
+            match self.asked_path(rt, word) {
+                Ok(path) => asked.push(path)?,
+                Err(fault) if fault.is_of_file() => {
+                    LINKS.complain(&mut rt.stderr(), &fault);
+                    self.outcomes.push(Outcome::Failed)?;
+                }
+                Err(fault) => return Err(fault),
+            }
+        }
+        Ok(asked)
+    }
+
+    /// Reports the broken links of the pages at these paths in the tree or below them.
     pub fn check(
         &mut self,
         rt: &HostRuntime,

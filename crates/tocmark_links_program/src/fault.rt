@@ -9,6 +9,9 @@ use tocmark_links::changed;
 /// What is said of a file without a place for its contents.
 const NO_CONTENTS: &str = "has no line <!-- toc --> with a line <!-- tocstop --> below it";
 
+/// What is said of a path at which nothing is.
+pub const MISSING: &str = "there is no such file or folder";
+
 /// Why a call or a file fails, shown as one line on standard error, after the name of the program. Paths are quoted.
 #[derive(Debug, Drop)]
 pub enum Fault {
@@ -31,7 +34,15 @@ pub enum Fault {
     Left(String, String),
     /// The file that says what a call does while it writes, and what it says.
     Running(String, String),
+    /// A place of the command line that names no heading, and one that is near.
+    NoHeading(String, Option<String>),
+    /// A file, and a line of it whose heading can't have the new words, but can have others.
+    Words(String, usize),
+    /// A file, and a line of it where `<!-- toc -->` or `<!-- tocstop -->` doesn't begin the line.
+    Indented(String, usize),
     Output(io::Error),
+    /// Everything is changed, but standard output can't say so.
+    Unreported(io::Error),
     OutOfMemory,
 }
 
@@ -44,8 +55,11 @@ impl Fault {
         }
     }
 
-    /// A file that can't be read.
+    /// A file or folder that can't be read, or isn't there.
     pub fn unreadable(alloc: Global, path: &str, error: io::Error) -> Fault {
+        if error.kind() == io::ErrorKind::NotFound {
+            return Fault::path(alloc, path, MISSING);
+        }
         match in_quotes(alloc, path) {
             Ok(path) => Fault::Unreadable(path, error),
             Err(_) => Fault::OutOfMemory,
@@ -54,7 +68,15 @@ impl Fault {
 
     /// Whether other files can still be read.
     pub fn is_of_file(&self) -> bool {
-        matches!(self, Fault::Unreadable(..) | Fault::NotUtf8(..))
+        matches!(
+            self,
+            Fault::Path(..) | Fault::Unreadable(..) | Fault::NotUtf8(..)
+        )
+    }
+
+    /// Whether standard output can't be written.
+    pub fn is_of_output(&self) -> bool {
+        matches!(self, Fault::Output(_))
     }
 
     /// Whether nobody reads standard output any more.
@@ -106,7 +128,23 @@ impl fmt::Display for Fault {
                 f,
                 "{path}: another call writes now or was interrupted: {text}; look at the files, then remove this one"
             ),
+            Fault::NoHeading(place, Some(near)) => {
+                write!(f, "{place}: no heading has this anchor; {near} is near")
+            }
+            Fault::NoHeading(place, None) => write!(f, "{place}: no heading has this anchor"),
+            Fault::Words(path, line) => write!(
+                f,
+                "{path}:{line}: not all of these words would be read as the heading's; nothing was changed, so choose others"
+            ),
+            Fault::Indented(path, line) => write!(
+                f,
+                "{path}:{line}: <!-- toc --> and <!-- tocstop --> have to begin their lines; nothing was changed"
+            ),
             Fault::Output(error) => write!(f, "standard output cannot be written: {error}"),
+            Fault::Unreported(error) => write!(
+                f,
+                "everything was changed, but standard output cannot be written: {error}"
+            ),
             Fault::OutOfMemory => f.write_str("out of memory"),
         }
     }

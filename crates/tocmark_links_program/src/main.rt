@@ -12,7 +12,9 @@ mod outcome;
 mod plan;
 mod report;
 mod root;
+mod shell;
 mod site;
+mod source;
 mod walk;
 
 use crate::arguments::{Terms, Work, command, terms_of, work_of};
@@ -21,8 +23,10 @@ use crate::outcome::{Outcome, status_of};
 use crate::plan::Plan;
 use crate::report::Report;
 use crate::root::Root;
+use crate::shell::ShellWord;
 use crate::site::{LINKS, Site};
 use clap::ArgMatches;
+use std::fs;
 use std::process::ExitCode;
 use tocmark_command::program::words_of;
 use tocmark_command::streams::write_out;
@@ -33,9 +37,6 @@ use tocmark_files::rules::Rules;
 
 /// The first line of what `--help` says of `--syntax`.
 const SYNTAX: &str = "Kind of Markdown: commonmark, gfm (default) or all";
-
-/// What is said of a path that isn't in the tree.
-const MISSING: &str = "no such file or folder is in the tree";
 
 /// What is said of the root of a tree.
 const WHOLE: &str = "is the whole tree: name a file or a folder in it";
@@ -81,14 +82,7 @@ fn print(rt: &HostRuntime, text: &str) -> Result<(), Fault> {
 /// Checks the links of what words name, and returns the status.
 fn check_paths(rt: &HostRuntime, site: Site, words: &[&str]) -> Result<u8, Fault> {
     let mut site = site;
-    let mut asked = Vec::new(rt.alloc());
-    for word in words {
-        let path = site.root.inner(rt, word)?;
-        if !site.tree.has(path.as_str()) {
-            return Err(Fault::path(rt.alloc(), word, MISSING));
-        }
-        asked.push(path)?;
-    }
+    let asked = site.asked_paths(rt, words)?;
     let mut report = Report::new(rt.alloc(), site.terms.form)?;
     site.check(rt, &asked, &mut report)?;
     print(rt, report.end()?.as_str())?;
@@ -110,24 +104,62 @@ fn diff_of(rt: &HostRuntime, site: &Site, plan: &Plan) -> Result<String, Fault> 
     Ok(diff)
 }
 
-/// Says how to stage a move, if Git has the tree.
-fn show_staging(rt: &HostRuntime, site: &Site, plan: &Plan) -> Result<(), Fault> {
-    let Some((old, new)) = &plan.way else {
-        return Ok(());
+/// How to stage a move, if Git has the tree.
+fn staging_line(rt: &HostRuntime, site: &Site, new: &str) -> Result<Option<String>, Fault> {
+    if !site.root.is_git || site.terms.is_dry {
+        return Ok(None);
+    }
+    let new = site.root.shown(rt.alloc(), new)?;
+    let new = ShellWord(new.as_str());
+    let line = format!(in rt.alloc();
+        "nothing is staged; to do that: git add --update && git add -- {new}"
+    )?;
+    Ok(Some(line))
+}
+
+/// What is said last: what is moved, how much is changed, and how to stage it.
+fn last_lines(
+    rt: &HostRuntime,
+    site: &Site,
+    plan: &Plan,
+    count: usize,
+) -> Result<Vec<String>, Fault> {
+    let mut lines = Vec::new(rt.alloc());
+    let (moved, changed) = if site.terms.is_dry {
+        ("would move", "would change")
+    } else {
+        ("moved", "changed")
     };
-    if site.root.is_git && !site.terms.is_dry {
+    if let Some((old, new)) = &plan.way {
         let old = site.root.shown(rt.alloc(), old.as_str())?;
         let new = site.root.shown(rt.alloc(), new.as_str())?;
         let (old, new) = (Quoted(old.as_str()), Quoted(new.as_str()));
-        let line = format!(in rt.alloc();
-            "nothing is staged; to do that: git add --update && git add -- '{new}' (moved from '{old}')"
-        )?;
-        LINKS.complain(&mut rt.stderr(), &line.as_str());
+        lines.push(format!(in rt.alloc(); "{moved}: {old} -> {new}")?)?;
     }
-    Ok(())
+    let files = plan.edits.len();
+    let noun = if files == 1 { "file" } else { "files" };
+    lines.push(format!(in rt.alloc(); "{changed}: {count} in {files} {noun}")?)?;
+    if let Some((_, new)) = &plan.way
+        && let Some(line) = staging_line(rt, site, new.as_str())?
+    {
+        lines.push(line)?;
+    }
+    Ok(lines)
 }
 
-/// Writes what is planned, unless nothing is to be changed; reports it, and returns the status.
+/// Writes what was changed, and returns what becomes of that. The change stays, also if nobody can read of it.
+fn tell(rt: &HostRuntime, output: &str) -> Outcome {
+    match write_out(&mut rt.stdout(), output) {
+        Ok(()) => Outcome::Right,
+        Err(error) => {
+            LINKS.complain(&mut rt.stderr(), &Fault::Unreported(error));
+            Outcome::Failed
+        }
+    }
+}
+
+/// Writes what is planned, unless nothing is to be changed; reports it, and returns the status. All that is said is made before
+/// something is changed.
 fn finish(
     rt: &HostRuntime,
     site: &Site,
@@ -135,29 +167,41 @@ fn finish(
     report: Report,
     text: &str,
 ) -> Result<u8, Fault> {
-    let (count, files) = (report.count, plan.edits.len());
+    let lines = last_lines(rt, site, plan, report.count)?;
     if let Some((old, _)) = &plan.way {
         site.warn_of_mentions(rt, old.as_str())?;
-    }
-    if !site.terms.is_dry {
-        plan.carry_out(rt, &site.root, text)?;
     }
     let output = if site.terms.shows {
         diff_of(rt, site, plan)?
     } else {
         report.end()?
     };
-    print(rt, output.as_str())?;
-    let what = if site.terms.is_dry {
-        "would change"
+    let mut told = Outcome::Right;
+    if site.terms.is_dry {
+        print(rt, output.as_str())?;
     } else {
-        "changed"
-    };
-    let noun = if files == 1 { "file" } else { "files" };
-    let line = format!(in rt.alloc(); "{what}: {count} in {files} {noun}")?;
-    LINKS.complain(&mut rt.stderr(), &line.as_str());
-    show_staging(rt, site, plan)?;
-    Ok(status_of(&site.outcomes))
+        plan.carry_out(rt, &site.root, text)?;
+        told = tell(rt, output.as_str());
+    }
+    for line in &lines {
+        LINKS.complain(&mut rt.stderr(), &line.as_str());
+    }
+    let status = status_of(&[told]);
+    Ok(if status == 0 {
+        status_of(&site.outcomes)
+    } else {
+        status
+    })
+}
+
+/// The first of some paths at which something is; the current folder, if there is none.
+fn first_found<'w>(rt: &HostRuntime, paths: &'w [&'w str]) -> &'w str {
+    for path in paths {
+        if fs::exists(rt, *path).unwrap_or(false) {
+            return *path;
+        }
+    }
+    "."
 }
 
 /// Does what a call asks for, and returns the status.
@@ -167,11 +211,11 @@ fn perform(
     words: &[&str],
     matches: &ArgMatches<'_>,
 ) -> Result<u8, Fault> {
-    let work = work_of(words)?;
+    let work = work_of(rt.alloc(), words)?;
     let mut report = Report::new(rt.alloc(), terms.form)?;
     let (site, plan) = match work {
         Work::Check(paths) => {
-            let first = paths.first().copied().unwrap_or(".");
+            let first = first_found(rt, paths);
             return check_paths(rt, site_of(rt, first, terms, matches)?, paths);
         }
         Work::Move(old, new) => {
@@ -205,12 +249,12 @@ fn perform(
     finish(rt, &site, &plan, report, text.as_str())
 }
 
-/// Says what is wrong, and returns status 2.
+/// Says what is wrong, and returns the status: 1 if standard output can't be written, else 2.
 fn fail(rt: &HostRuntime, fault: &Fault) -> ExitCode {
     if !fault.is_broken_pipe() {
         LINKS.complain(&mut rt.stderr(), fault);
     }
-    ExitCode::from(2)
+    ExitCode::from(if fault.is_of_output() { 1 } else { 2 })
 }
 
 /// Does what right arguments ask for.

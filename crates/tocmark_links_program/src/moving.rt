@@ -42,14 +42,23 @@ fn moved_last(alloc: Global, edits: Vec<Edit>, old: &str) -> Result<Vec<Edit>, A
 }
 
 impl Site {
-    /// The path in the tree that a moved path gets by a word of the command line: below it, if it is a folder.
+    /// The path in the tree that a moved path gets by a word of the command line: below it, if a folder is there. It fails if
+    /// something has that path.
     fn new_path(&self, rt: &HostRuntime, old: &str, word: &str) -> Result<String, Fault> {
         let path = self.root.inner(rt, word)?;
-        if !self.tree.has_folder(path.as_str()) {
-            return Ok(path);
+        let full = self.root.full(rt.alloc(), path.as_str())?;
+        let is_folder = fs::symlink_metadata(rt, full.as_str()).is_ok_and(|found| found.is_dir());
+        let new = if is_folder {
+            joined(rt.alloc(), path.as_str(), folder_and_name(old).1)?
+        } else {
+            path
+        };
+        let full = self.root.full(rt.alloc(), new.as_str())?;
+        if fs::symlink_metadata(rt, full.as_str()).is_ok() {
+            let shown = self.root.shown(rt.alloc(), new.as_str())?;
+            return Err(Fault::path(rt.alloc(), shown.as_str(), TAKEN));
         }
-        let (_folder, name) = folder_and_name(old);
-        Ok(joined(rt.alloc(), path.as_str(), name)?)
+        Ok(new)
     }
 
     /// What is written to move what one word of the command line names to what another one names.
@@ -64,15 +73,10 @@ impl Site {
         if old.is_empty() || !self.tree.has(old.as_str()) {
             return Err(Fault::path(rt.alloc(), old_word, MISSING));
         }
-        let full = self.root.full(rt.alloc(), old.as_str())?;
-        if fs::symlink_metadata(rt, full.as_str()).is_ok_and(|found| found.is_symlink()) {
+        if self.root.is_link(rt, old.as_str())? {
             return Err(Fault::path(rt.alloc(), old_word, LINK));
         }
         let new = self.new_path(rt, old.as_str(), new_word)?;
-        let full = self.root.full(rt.alloc(), new.as_str())?;
-        if fs::symlink_metadata(rt, full.as_str()).is_ok() {
-            return Err(Fault::path(rt.alloc(), new_word, TAKEN));
-        }
         if within(new.as_str(), old.as_str()).is_some() {
             return Err(Fault::path(rt.alloc(), old_word, IN_ITSELF));
         }

@@ -10,6 +10,9 @@ use tocmark_links::paths::{folder_and_name, relative, resolved};
 const ELSEWHERE: &str =
     "is not in the same tree as the rest; a tree is a Git repository or else the folder that is named";
 
+/// What is said of an argument that is no path.
+const EMPTY: &str = "a path is missing: an argument is empty, or has nothing before #";
+
 /// The root of a tree.
 #[derive(Drop)]
 pub struct Root {
@@ -79,6 +82,9 @@ impl Root {
     /// The root of the tree that the file or folder at a path is in: the top of its Git repository; else the current folder, if
     /// that has it; else the folder itself, or that of the file.
     pub fn of(rt: &HostRuntime, path: &str) -> Result<Root, Fault> {
+        if path.is_empty() {
+            return Err(Fault::Usage(EMPTY));
+        }
         let folder = match folder_at(rt, path) {
             Ok(folder) => folder,
             Err(error) => return Err(Fault::unreadable(rt.alloc(), path, error)),
@@ -130,16 +136,40 @@ impl Root {
 
     /// The path in the tree of what a word of the command line names. It need not be there.
     pub fn inner(&self, rt: &HostRuntime, word: &str) -> Result<String, Fault> {
-        let whole = match whole_path(rt, word) {
-            Ok(whole) => whole,
-            Err(error) => return Err(Fault::unreadable(rt.alloc(), word, error)),
-        };
-        let Some(inner) = within(whole.as_str(), self.path.as_str()) else {
-            return Err(Fault::path(rt.alloc(), word, ELSEWHERE));
-        };
-        match resolved(rt.alloc(), "", inner)? {
-            Some(path) => Ok(path),
-            None => Err(Fault::path(rt.alloc(), word, ELSEWHERE)),
+        if word.is_empty() {
+            return Err(Fault::Usage(EMPTY));
         }
+        match whole_path(rt, word) {
+            Ok(whole) => self.inner_of(rt.alloc(), whole.as_str(), word),
+            Err(error) => Err(Fault::unreadable(rt.alloc(), word, error)),
+        }
+    }
+
+    /// The path in the tree of what is at a word of the command line, or of what that leads to if it is a symbolic link.
+    pub fn followed(&self, rt: &HostRuntime, word: &str) -> Result<String, Fault> {
+        if word.is_empty() {
+            return Err(Fault::Usage(EMPTY));
+        }
+        match Path::new(word).canonicalize(rt) {
+            Ok(whole) => self.inner_of(rt.alloc(), whole.into_string().as_str(), word),
+            Err(error) => Err(Fault::unreadable(rt.alloc(), word, error)),
+        }
+    }
+
+    /// The path in the tree of what has this path from the file system's root on, and is named by a word of the command line.
+    fn inner_of(&self, alloc: Global, whole: &str, word: &str) -> Result<String, Fault> {
+        let Some(inner) = within(whole, self.path.as_str()) else {
+            return Err(Fault::path(alloc, word, ELSEWHERE));
+        };
+        match resolved(alloc, "", inner)? {
+            Some(path) => Ok(path),
+            None => Err(Fault::path(alloc, word, ELSEWHERE)),
+        }
+    }
+
+    /// Whether a symbolic link is at a path in the tree.
+    pub fn is_link(&self, rt: &HostRuntime, path: &str) -> Result<bool, AllocError> {
+        let full = self.full(rt.alloc(), path)?;
+        Ok(fs::symlink_metadata(rt, full.as_str()).is_ok_and(|found| found.is_symlink()))
     }
 }

@@ -36,36 +36,7 @@ pub struct Site {
     pub outcomes: Vec<Outcome>,
 }
 
-/// The line, counted from 1, in which the byte after these is.
-fn line_after(bytes: &[u8]) -> usize {
-    let mut line = 1usize;
-    for byte in bytes {
-        if *byte == b'\n' {
-            line = line.saturating_add(1);
-        }
-    }
-    line
-}
-
 impl Site {
-    /// The text of the file with this path in the tree.
-    pub fn text(&self, rt: &HostRuntime, path: &str) -> Result<String, Fault> {
-        let full = self.root.full(rt.alloc(), path)?;
-        let shown = self.root.shown(rt.alloc(), path)?;
-        let bytes = match fs::read(rt, full.as_str()) {
-            Ok(bytes) => bytes,
-            Err(error) => return Err(Fault::unreadable(rt.alloc(), shown.as_str(), error)),
-        };
-        match String::from_utf8(bytes) {
-            Ok(text) => Ok(text),
-            Err(error) => {
-                let end = error.utf8_error().valid_up_to();
-                let line = line_after(error.as_bytes().get(..end).unwrap_or(&[]));
-                Err(Fault::NotUtf8(shown, line))
-            }
-        }
-    }
-
     /// What a text has.
     pub fn page_of(&self, alloc: Global, text: &str) -> Result<Page, Fault> {
         Ok(Page::read(alloc, text, self.terms.flags, self.terms.slugs)?)
@@ -73,8 +44,8 @@ impl Site {
 
     /// Reads a page. If it can't be read, standard error says so, and it is a file without anchors.
     fn add_page(&mut self, rt: &HostRuntime, path: String) -> Result<(), Fault> {
-        let text = match self.text(rt, path.as_str()) {
-            Ok(text) => text,
+        let source = match self.source_at(rt, path.as_str()) {
+            Ok(source) => source,
             Err(fault) if fault.is_of_file() => {
                 LINKS.complain(&mut rt.stderr(), &fault);
                 self.outcomes.push(Outcome::Failed)?;
@@ -82,7 +53,7 @@ impl Site {
             }
             Err(fault) => return Err(fault),
         };
-        let page = self.page_of(rt.alloc(), text.as_str())?;
+        let page = self.page_of(rt.alloc(), source.text.as_str())?;
         self.tree.add(path.as_str(), Some(&page))?;
         self.pages.push(SitePage { path, page })?;
         Ok(())

@@ -137,6 +137,7 @@ impl Walk {
     fn look_into(&mut self, rt: &HostRuntime, root: &Root, folder: Folder) -> io::Result<()> {
         let Folder { path, level } = folder;
         let full = root.full(rt.alloc(), path.as_str())?;
+        let shown = root.shown(rt.alloc(), path.as_str())?;
         let level = self.enter(rt, full.as_str(), level)?;
         let folder = Folder { path, level };
         for entry in fs::read_dir(rt, full.as_str())? {
@@ -146,7 +147,7 @@ impl Walk {
             };
             // one name that can't be read hides no other
             if let Err(error) = added {
-                let fault = Fault::unreadable(rt.alloc(), full.as_str(), error);
+                let fault = Fault::unreadable(rt.alloc(), shown.as_str(), error);
                 self.files.faults.push(fault)?;
             }
         }
@@ -175,9 +176,9 @@ pub fn files_of(rt: &HostRuntime, root: &Root, exclude: Rules) -> Result<Files, 
         let Some(folder) = walk.todo.pop() else {
             break;
         };
-        let full = root.full(rt.alloc(), folder.path.as_str())?;
+        let shown = root.shown(rt.alloc(), folder.path.as_str())?;
         if let Err(error) = walk.look_into(rt, root, folder) {
-            let fault = Fault::unreadable(rt.alloc(), full.as_str(), error);
+            let fault = Fault::unreadable(rt.alloc(), shown.as_str(), error);
             walk.files.faults.push(fault)?;
         }
     }
