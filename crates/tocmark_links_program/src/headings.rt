@@ -151,6 +151,10 @@ impl Site {
             Err(fault) => fault,
         };
         let file = in_quotes(alloc, shown)?;
+        let is_line = !words.is_empty() && !words.contains('\n') && !words.contains('\r');
+        if is_line && matches!(fault, changed::Fault::NoWords) {
+            return Err(Fault::Words(file, heading.line));
+        }
         if let changed::Fault::Misread { line } = &fault
             && with_heading(alloc, old, flags, heading, "x").is_ok()
         {
