@@ -72,3 +72,14 @@ pub mod SequenceTrees
 pub mod SequenceRun
 pub mod SequenceBlank
 pub mod SequenceRows
+pub mod ItemContainers
+pub mod ItemPages
+pub mod ItemLeaves
+pub mod ItemBegun
+pub mod ItemTurns
+pub mod ItemFirst
+pub mod ItemMarks
+pub mod ItemTrees
+pub mod ItemLines
+pub mod ItemRun
+pub mod ItemRows

@@ -145,3 +145,58 @@ after_last_got {A = A} {B = B} H R (x ∷ xs) (y ∷ ys) h = subst (λ n. LastOf
     by None (Some b) u = absurd u
     by (Some a) None u = absurd u
     by (Some a) (Some b) u = u
+
+-- two elements more are in front
+abbrev pub Afters : {A B : Type 0} → (A → Type 0) → (A → Type 0) → (A → B → Type 0) → List A → List B → Type 0
+Afters G H R [] ys = ⊥
+Afters G H R (x ∷ xs) ys = G x × After H R xs ys
+
+pub afters_length : {A B : Type 0} (G H : A → Type 0) (R : A → B → Type 0) (xs : List A) (ys : List B) → Afters G H R xs ys → length xs ≡ suc (suc (length ys))
+afters_length G H R [] ys h = absurd h
+afters_length G H R (x ∷ xs) ys h = ap suc (after_length H R xs ys (h.1))
+
+pub afters_got : {A B : Type 0} (G H : A → Type 0) (R : A → B → Type 0) (i : ℕ) (xs : List A) (ys : List B) → Afters G H R xs ys → PairOf R (slice_get xs (suc (suc i))) (slice_get ys i)
+afters_got G H R i [] ys h = absurd h
+afters_got G H R i (x ∷ xs) ys h = after_got H R i xs ys (h.1)
+
+pub afters_set : {A B : Type 0} (G H : A → Type 0) (R : A → B → Type 0) (i : ℕ) (a : A) (b : B) → R a b → (xs : List A) (ys : List B) → Afters G H R xs ys → Afters G H R (slice_set xs (suc (suc i)) a) (slice_set ys i b)
+afters_set G H R i a b k [] ys h = absurd h
+afters_set G H R i a b k (x ∷ xs) ys h = (h.0, after_set H R i a b k xs ys (h.1))
+
+pub afters_take : {A B : Type 0} (G H : A → Type 0) (R : A → B → Type 0) (n : ℕ) (xs : List A) (ys : List B) → Afters G H R xs ys → Afters G H R (take (suc (suc n)) xs) (take n ys)
+afters_take G H R n [] ys h = absurd h
+afters_take G H R n (x ∷ xs) ys h = (h.0, after_take H R n xs ys (h.1))
+
+pub afters_end : {A B : Type 0} (G H : A → Type 0) (R : A → B → Type 0) (a : A) (b : B) → R a b → (xs : List A) (ys : List B) → Afters G H R xs ys → Afters G H R (xs ++ a ∷ []) (ys ++ b ∷ [])
+afters_end G H R a b k [] ys h = absurd h
+afters_end G H R a b k (x ∷ xs) ys h = (h.0, after_end H R a b k xs ys (h.1))
+
+pub afters_changed : {A B : Type 0} (G H : A → Type 0) (R : A → B → Type 0) (i : ℕ) (f : A → A) (g : B → B) → ((x : A) (y : B) → R x y → R (f x) (g y)) → (xs : List A) (ys : List B) → Afters G H R xs ys → Afters G H R (changed (suc (suc i)) f xs) (changed i g ys)
+afters_changed G H R i f g k [] ys h = absurd h
+afters_changed {A = A} {B = B} G H R i f g k (x ∷ xs) ys h = by (slice_get xs (suc i)) (slice_get ys i) (after_got H R i xs ys (h.1))
+  where
+    by : (o : Option A) (p : Option B) → PairOf R o p → Afters G H R (option_map_or (λ z. slice_set (x ∷ xs) (suc (suc i)) (f z)) o (x ∷ xs)) (option_map_or (λ y. slice_set ys i (g y)) p ys)
+    by None None u = h
+    by None (Some y) u = absurd u
+    by (Some z) None u = absurd u
+    by (Some z) (Some y) u = (h.0, after_set H R i (f z) (g y) (k z y u) xs ys (h.1))
+
+-- the place of the last one
+pub afters_place : {A B : Type 0} (G H : A → Type 0) (R : A → B → Type 0) (xs : List A) (ys : List B) → Afters G H R xs ys → 0 < length ys → length xs - 1 ≡ suc (suc (length ys - 1))
+afters_place G H R xs ys h some = omega (arith, some, afters_length G H R xs ys h)
+
+pub afters_last : {A B : Type 0} (G H : A → Type 0) (R : A → B → Type 0) (f : A → A) (g : B → B) → ((x : A) (y : B) → R x y → R (f x) (g y)) → (xs : List A) (ys : List B) → Afters G H R xs ys → 0 < length ys → Afters G H R (changed (length xs - 1) f xs) (changed (length ys - 1) g ys)
+afters_last G H R f g k xs ys h some = subst (λ n. Afters G H R (changed n f xs) (changed (length ys - 1) g ys)) (sym (afters_place G H R xs ys h some)) (afters_changed G H R (length ys - 1) f g k xs ys h)
+
+-- the same where the second one more may be the last, if it stays what it is
+pub afters_each_last : {A B : Type 0} (G H : A → Type 0) (R : A → B → Type 0) (f : A → A) (g : B → B) → ((x : A) → H x → H (f x)) → ((x : A) (y : B) → R x y → R (f x) (g y)) → (xs : List A) (ys : List B) → Afters G H R xs ys → Afters G H R (changed (length xs - 1) f xs) (changed (length ys - 1) g ys)
+afters_each_last G H R f g j k [] ys h = absurd h
+afters_each_last G H R f g j k (x ∷ []) ys h = absurd (h.1)
+afters_each_last G H R f g j k (x ∷ z ∷ []) [] h = (h.0, (j z (h.1.0), tt))
+afters_each_last G H R f g j k (x ∷ z ∷ w ∷ xs) [] h = absurd (h.1.1)
+afters_each_last G H R f g j k (x ∷ z ∷ xs) (y ∷ ys) h = afters_last G H R f g k (x ∷ z ∷ xs) (y ∷ ys) h (omega arith)
+
+pub afters_last_got : {A B : Type 0} (G H : A → Type 0) (R : A → B → Type 0) (xs : List A) (ys : List B) → Afters G H R xs ys → LastOf H R (slice_get xs (length xs - 1)) (slice_get ys (length ys - 1))
+afters_last_got G H R [] ys h = absurd h
+afters_last_got G H R (x ∷ []) ys h = absurd (h.1)
+afters_last_got {A = A} {B = B} G H R (x ∷ z ∷ xs) ys h = subst (λ n. LastOf H R (slice_get (x ∷ z ∷ xs) n) (slice_get ys (length ys - 1))) (let e : suc (length (z ∷ xs) - 1) ≡ length (x ∷ z ∷ xs) - 1 = omega arith in e) (after_last_got H R (z ∷ xs) ys (h.1))

@@ -46,7 +46,7 @@ in_list_two t q n sort there here h = by (innermost there.opened) (innermost her
     by (Some x) None u = ap (is_list_of sort) u.quote
     by (Some x) (Some y) u = ap (is_list_of sort) u.container
 
-opened_some : (c : Container) (k : BlockKind) (start : ℕ) (line : Line) (s : State) → 0 < length (opened_with c k start line s).opened
+pub opened_some : (c : Container) (k : BlockKind) (start : ℕ) (line : Line) (s : State) → 0 < length (opened_with c k start line s).opened
 unfolding opened_with
 opened_some c k start line s = by (is_quote c)
   where
@@ -60,7 +60,7 @@ opened_some c k start line s = by (is_quote c)
     by true = end_some t.opened _
     by false = end_some t.opened _
 
-list_some : (i : ItemStart) (start : ℕ) (line : Line) (s : State) → 0 < length (list_started i start line s).opened
+pub list_some : (i : ItemStart) (start : ℕ) (line : Line) (s : State) → 0 < length (list_started i start line s).opened
 unfolding list_started is_in_list
 list_some i start line s = by (slice_get s.opened (length s.opened - 1)) refl
   where
@@ -86,7 +86,7 @@ list_started_two t q n shift i start far l' l there here number h = rw (in_list_
     by true = inside_more t q n (suc n) there here (omega arith) h
     by false = opened_with_two t q n (container.List i.sort) (kind.List i.number) (kind.List i.number) start far l' l (list_left there) (list_left here) refl number (λ e. absurd cc) (list_left_two t q n there here h)
 
-placed : (shift : ℕ) (c' c : Cursor) (d' d : ℕ) → c' ≡ cursor_on shift c → d' ≡ suc d → record { cursor = c'; depth = d' } ≡ place_on shift (record { cursor = c; depth = d })
+pub placed : (shift : ℕ) (c' c : Cursor) (d' d : ℕ) → c' ≡ cursor_on shift c → d' ≡ suc d → record { cursor = c'; depth = d' } ≡ place_on shift (record { cursor = c; depth = d })
 placed shift c' c d' d e f = ap (λ (x : Cursor). at x d') e ∙ ap (at (cursor_on shift c)) f
   where
     at : Cursor → ℕ → LineStart
@@ -106,8 +106,8 @@ quote_two : (t q : List ℕ) (n : ℕ) (l' l : Line) (shift : ℕ) (w r : List C
     → Goes t q n shift r p (some_place (quote_opened q w l' (place_on shift p) there)) (some_place (quote_opened t r l p here))
 unfolding quote_opened is_inner
 quote_two t q n l' l shift w r p there here h i e k =
-    went t q n shift r p (after_quote w (cursor_on shift p.cursor)) (after_quote r p.cursor) _ _ (after_on shift w r p.cursor h.quoted e i)
-    (let z : p.cursor.ink < (after_quote r p.cursor).column = after_further r p.cursor e (omega (arith, h.quoted.fits)) in omega (arith, z, i.column))
+    went t q n shift r p (after_quote w (cursor_on shift p.cursor)) (after_quote r p.cursor) _ _ (after_on shift w r p.cursor h.fronted e i)
+    (let z : p.cursor.ink < (after_quote r p.cursor).column = after_further r p.cursor e (omega (arith, h.fronted.fits)) in omega (arith, z, i.column))
     (inside_more t q (suc n) (suc (suc n)) _ _ (omega arith)
     (opened_with_two t q n container.Quote (kind.Quote None) (kind.Quote None) (start_of w (place_on shift p) l') (start_of r p l) l' l (list_left (closed_to q (suc p.depth) there)) (list_left (closed_to t p.depth here)) refl h.line.number (λ x. absurd cc)
     (list_left_two t q n (closed_to q (suc p.depth) there) (closed_to t p.depth here) (closed_two t q n p.depth there here k))))
@@ -116,7 +116,7 @@ item_two : (t q : List ℕ) (n : ℕ) (l' l : Line) (shift : ℕ) (w r : List Ce
     → Goes t q n shift r p (some_place (item_opened q w l' (place_on shift p) (item_on shift x) there)) (some_place (item_opened t r l p x here))
 unfolding item_opened moved
 item_two t q n l' l shift w r p x there here h i more low k =
-    went t q n shift r p (moved w (cursor_on shift p.cursor) (shift + x.next)) (moved r p.cursor x.next) _ _ (moved_on shift w r p.cursor x.next h.quoted low i) (omega (arith, more, i.column))
+    went t q n shift r p (moved w (cursor_on shift p.cursor) (shift + x.next)) (moved r p.cursor x.next) _ _ (moved_on shift w r p.cursor x.next h.fronted low i) (omega (arith, more, i.column))
     (opened_with_two t q (suc n) (container.Item x.width) kind.Item kind.Item (start_of w (place_on shift p) l') (start_of r p l) l' l
     (list_started (item_on shift x) (start_of w (place_on shift p) l') l' (closed_to q (suc p.depth) there)) (list_started x (start_of r p l) l (closed_to t p.depth here)) refl h.line.number
     (λ e. list_some x (start_of r p l) l (closed_to t p.depth here))
@@ -144,10 +144,10 @@ once_two t q n l' l shift w r p there here h i k =
     rw (directly_two t q n p.depth there here k, found.0) (begun_two t q n l' l shift w r p (container_in CORE r (tail_of r) p.cursor (goes_directly p.depth here)) there here h i (found.1) k)
   where
     found : StartOn shift r p.cursor (container_in CORE w (tail_of w) (cursor_on shift p.cursor) (goes_directly p.depth here)) (container_in CORE r (tail_of r) p.cursor (goes_directly p.depth here))
-    found = container_in_two shift w r p.cursor (goes_directly p.depth here) h.quoted i
+    found = container_in_two shift w r p.cursor (goes_directly p.depth here) h.fronted i
 
 -- nothing begins where nothing is left of a line
-blank_stays : (t : List ℕ) (cs : List Cell) (line : Line) (tail : Tail) (p : LineStart) (s : State) (n : ℕ) → is_blank_at cs p.cursor ≡ true → repeated (container_once_in CORE t cs line tail) n p s ≡ (s, p)
+pub blank_stays : (t : List ℕ) (cs : List Cell) (line : Line) (tail : Tail) (p : LineStart) (s : State) (n : ℕ) → is_blank_at cs p.cursor ≡ true → repeated (container_once_in CORE t cs line tail) n p s ≡ (s, p)
 unfolding repeated container_once_in container_in container_at definition_start note_start
 blank_stays t cs line tail p s zero e = refl
 blank_stays t cs line tail p s (suc n) e = rw e refl
@@ -163,7 +163,7 @@ unfolding repeated
 repeated_two t q n l' l shift w r k' zero p there here h low enough i g = subst (λ x. Went t q (n + 2 * length r) shift r x (here, p)) (sym (blank_stays q w l' (tail_of w) (place_on shift p) there k' blank)) (inside_more t q (n + 2 * p.cursor.column) (n + 2 * length r) there here (omega (arith, i.column, i.ink)) g, (refl, i))
   where
     blank : nat_le (length w) (shift + p.cursor.ink) ≡ true
-    blank = let z : length w ≤ shift + p.cursor.ink = omega (arith, length_on shift w r h.quoted, enough, i.column) in le_yes (length w) (shift + p.cursor.ink) z
+    blank = let z : length w ≤ shift + p.cursor.ink = omega (arith, length_on shift w r h.fronted, enough, i.column) in le_yes (length w) (shift + p.cursor.ink) z
 repeated_two t q n l' l shift w r zero (suc k) p there here h low enough i g = absurd (omega (arith, low))
 repeated_two t q n l' l shift w r (suc k') (suc k) p there here h low enough i g =
     by (container_once_in CORE q w l' (tail_of w) (place_on shift p) there) (container_once_in CORE t r l (tail_of r) p here) (once_two t q (n + 2 * p.cursor.column) l' l shift w r p there here h i g)

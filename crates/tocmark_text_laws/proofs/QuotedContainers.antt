@@ -23,9 +23,9 @@ use Rattle.tocmark_read_lines.specs.declared.container.ContainerStart.TheVariant
 use Rattle.tocmark_read_lines.specs.declared.container.ItemStart.{ItemStart}
 use Rattle.tocmark_read_lines.specs.declared.container.Opened.{Opened}
 use Rattle.tocmark_read_lines.proofs.Columns.{byte_asked, run_asked}
-use Rattle.tocmark_text_laws.specs.Quoted.{space_if}
+use Rattle.tocmark_text_laws.specs.Quoted.{Mark, space_if, mark_bytes}
 use Rattle.tocmark_text_laws.proofs.Pairs.{Pairs, PairOf, changed, changed_length, got_some, After, LastOf, after_length, after_changed, after_each_last, after_take, after_end, after_last_got}
-use Rattle.tocmark_text_laws.proofs.QuotedCells.{Quoted, cursor_on, length_on, byte_two, digits_low, ink_low, ink_after, plus_shift, ink_two, le_shift, less_shift, moved_two}
+use Rattle.tocmark_text_laws.proofs.QuotedCells.{Fronted, cursor_on, length_on, byte_two, digits_low, ink_low, ink_after, plus_shift, ink_two, le_shift, less_shift, moved_two}
 use Rattle.tocmark_text_laws.proofs.QuotedMarks.{marker_two, rule_two}
 
 -- a container in the text without markers, and the same in the text with them
@@ -62,7 +62,7 @@ pub record Opens (n : ℕ) (there here : List Opened) : Type 0 where
 
 -- lists of open containers change
 
-rooted_changed : (i : ℕ) (f : Opened → Opened) → ((o : Opened) → (f o).container ≡ o.container) → (os : List Opened) → Rooted os → Rooted (changed i f os)
+pub rooted_changed : (i : ℕ) (f : Opened → Opened) → ((o : Opened) → (f o).container ≡ o.container) → (os : List Opened) → Rooted os → Rooted (changed i f os)
 rooted_changed i f k [] h = tt
 rooted_changed zero f k (o ∷ os) h = ap is_inner (k o) ∙ h
 rooted_changed (suc i) f k (o ∷ os) h = by (slice_get os i)
@@ -89,7 +89,7 @@ opens_first : (n : ℕ) (f : Opened → Opened) → ((x : Opened) → IsOuter x 
 opens_first n f j [] here h = absurd h.after
 opens_first n f j (o ∷ os) here h = record { after = (j o (h.after.0), h.after.1); rooted = h.rooted; few = h.few }
 
-rooted_take : (k : ℕ) (os : List Opened) → Rooted os → Rooted (take k os)
+pub rooted_take : (k : ℕ) (os : List Opened) → Rooted os → Rooted (take k os)
 rooted_take zero os h = tt
 rooted_take (suc k) [] h = tt
 rooted_take (suc k) (o ∷ os) h = h
@@ -101,7 +101,7 @@ opens_take n k there here h = record {
   few = omega (arith, h.few, length-take k here);
 }
 
-rooted_end : (os : List Opened) (o : Opened) → (is_inner o.container ≡ true → 0 < length os) → Rooted os → Rooted (os ++ o ∷ [])
+pub rooted_end : (os : List Opened) (o : Opened) → (is_inner o.container ≡ true → 0 < length os) → Rooted os → Rooted (os ++ o ∷ [])
 rooted_end [] o k h = by (is_inner o.container) refl
   where
     by : (b : Bool) → is_inner o.container ≡ b → is_inner o.container ≡ false
@@ -171,7 +171,7 @@ CursorOn shift r there here = (there ≡ cursor_on shift here) × InLine r here
 pub column_in : (r : List Cell) (c : Cursor) → InLine r c → c.column ≤ length r
 column_in r c h = omega (arith, h.column, h.ink)
 
-byte_in : (r : List Cell) (k b : ℕ) → (cell_byte r k == b) ≡ true → (b == 10) ≡ false → k < length r
+pub byte_in : (r : List Cell) (k b : ℕ) → (cell_byte r k == b) ≡ true → (b == 10) ≡ false → k < length r
 byte_in [] k b h e = absurd (let q : 10 ≡ b = grind (arith, h, nat_tests) in let f : (b == 10) ≡ true = grind (arith, q, nat_tests) in let z : true ≡ false = sym f ∙ e in true_not_false z)
   where
     true_not_false : true ≡ false → ⊥
@@ -179,7 +179,7 @@ byte_in [] k b h e = absurd (let q : 10 ≡ b = grind (arith, h, nat_tests) in l
 byte_in (x ∷ xs) zero b h e = omega arith
 byte_in (x ∷ xs) (suc k) b h e = let q : k < length xs = byte_in xs k b h e in omega (arith, q)
 
-moved_in : (r : List Cell) (c : Cursor) (k : ℕ) → k ≤ length r → length r + 9 < 2 ^ 64 → InLine r c → InLine r (moved r c k)
+pub moved_in : (r : List Cell) (c : Cursor) (k : ℕ) → k ≤ length r → length r + 9 < 2 ^ 64 → InLine r c → InLine r (moved r c k)
 unfolding moved
 moved_in r c k low fits h = by (nat_le k c.ink) refl
   where
@@ -187,11 +187,11 @@ moved_in r c k low fits h = by (nat_le k c.ink) refl
     by true e = record { column = (grind (arith, e, nat_tests)); ink = h.ink }
     by false e = record { column = ink_after r k low fits; ink = ink_low r k low }
 
-pub moved_on : (shift : ℕ) (w r : List Cell) (c : Cursor) (k : ℕ) → Quoted shift w r → k ≤ length r → InLine r c → CursorOn shift r (moved w (cursor_on shift c) (shift + k)) (moved r c k)
+pub moved_on : (shift : ℕ) (w r : List Cell) (c : Cursor) (k : ℕ) → Fronted shift w r → k ≤ length r → InLine r c → CursorOn shift r (moved w (cursor_on shift c) (shift + k)) (moved r c k)
 moved_on shift w r c k h low i = (moved_two shift w r c k h low, moved_in r c k low (omega (arith, h.fits)) i)
 
 -- after the mark of a quote in the line
-pub after_on : (shift : ℕ) (w r : List Cell) (c : Cursor) → Quoted shift w r → (cell_byte r c.ink == 62) ≡ true → InLine r c → CursorOn shift r (after_quote w (cursor_on shift c)) (after_quote r c)
+pub after_on : (shift : ℕ) (w r : List Cell) (c : Cursor) → Fronted shift w r → (cell_byte r c.ink == 62) ≡ true → InLine r c → CursorOn shift r (after_quote w (cursor_on shift c)) (after_quote r c)
 unfolding after_quote
 after_on shift w r c h e i = rw (one, byte_two shift w r (plus c.ink 1) h, two) (by (cell_byte r (plus c.ink 1) == 32) refl)
   where
@@ -223,7 +223,7 @@ after_further r c e fits = by (cell_byte r (plus c.ink 1) == 32)
 
 -- containers that go on
 
-item_two : (shift : ℕ) (w r : List Cell) (c : Cursor) (width : ℕ) (had : Bool) → Quoted shift w r → InLine r c → PairOf (CursorOn shift r) (item_goes_on w (cursor_on shift c) width had) (item_goes_on r c width had)
+pub item_two : (shift : ℕ) (w r : List Cell) (c : Cursor) (width : ℕ) (had : Bool) → Fronted shift w r → InLine r c → PairOf (CursorOn shift r) (item_goes_on w (cursor_on shift c) width had) (item_goes_on r c width had)
 unfolding item_goes_on
 item_two shift w r c width had h i = rw (length_on shift w r h, le_shift shift (length r) c.ink, less_shift shift c.ink c.column) (by (nat_le (length r) c.ink) (not had) (nat_le width (c.ink - c.column)) refl)
   where
@@ -246,7 +246,7 @@ item_two shift w r c width had h i = rw (length_on shift w r h, le_shift shift (
     by false none true e = wide e
     by false none false e = tt
 
-quote_goes : (shift : ℕ) (w r : List Cell) (c : Cursor) → Quoted shift w r → InLine r c
+pub quote_goes : (shift : ℕ) (w r : List Cell) (c : Cursor) → Fronted shift w r → InLine r c
     → PairOf (CursorOn shift r) (if nat_le (indent_of (cursor_on shift c)) 3 && (cell_byte w (shift + c.ink) == 62) then Some (after_quote w (cursor_on shift c)) else None) (if nat_le (indent_of c) 3 && (cell_byte r c.ink == 62) then Some (after_quote r c) else None)
 quote_goes shift w r c h i = rw (byte_two shift w r c.ink h, less_shift shift c.ink c.column) (by (nat_le (indent_of c) 3) (cell_byte r c.ink == 62) refl)
   where
@@ -255,7 +255,7 @@ quote_goes shift w r c h i = rw (byte_two shift w r c.ink h, less_shift shift c.
     by true false e = tt
     by true true e = after_on shift w r c h e i
 
-going_as : (k : Container) (shift : ℕ) (w r : List Cell) (c : Cursor) (had : Bool) → Quoted shift w r → InLine r c → PairOf (CursorOn shift r) (going_on_as k w (cursor_on shift c) had) (going_on_as k r c had)
+pub going_as : (k : Container) (shift : ℕ) (w r : List Cell) (c : Cursor) (had : Bool) → Fronted shift w r → InLine r c → PairOf (CursorOn shift r) (going_on_as k w (cursor_on shift c) had) (going_on_as k r c had)
 going_as container.Quote shift w r c had h i = quote_goes shift w r c h i
 going_as (container.List sort) shift w r c had h i = (refl, i)
 going_as (container.Item width) shift w r c had h i = item_two shift w r c width had h i
@@ -263,11 +263,11 @@ going_as container.Footnote shift w r c had h i = item_two shift w r c 4 true h 
 going_as container.Definitions shift w r c had h i = (refl, i)
 going_as (container.Definition width) shift w r c had h i = item_two shift w r c width had h i
 
-going_two : (shift : ℕ) (w r : List Cell) (c : Cursor) (x y : Opened) → Quoted shift w r → InLine r c → OpenedOn x y → PairOf (CursorOn shift r) (going_on w (cursor_on shift c) x) (going_on r c y)
+going_two : (shift : ℕ) (w r : List Cell) (c : Cursor) (x y : Opened) → Fronted shift w r → InLine r c → OpenedOn x y → PairOf (CursorOn shift r) (going_on w (cursor_on shift c) x) (going_on r c y)
 unfolding going_on
 going_two shift w r c x y h i o = rw (o.container, o.had) (going_as y.container shift w r c y.had h i)
 
-passed_two : (shift : ℕ) (w r : List Cell) (c : Cursor) (x y : Opened) → Quoted shift w r → InLine r c → OpenedOn x y → PairOf (CursorOn shift r) (passed w (cursor_on shift c) x) (passed r c y)
+passed_two : (shift : ℕ) (w r : List Cell) (c : Cursor) (x y : Opened) → Fronted shift w r → InLine r c → OpenedOn x y → PairOf (CursorOn shift r) (passed w (cursor_on shift c) x) (passed r c y)
 unfolding passed
 passed_two shift w r c x y h i o = rw (length_on shift w r h, le_shift shift (length r) c.column) (by (nat_le (length r) c.column))
   where
@@ -315,7 +315,7 @@ blank_depth_two n there here h = by (slice_get there (length there - 1)) (slice_
     by (Some x) None e u = rw u.quote long
     by (Some x) (Some y) e u = rw (u.container, u.had) (each (empty y) (got_some here (length here - 1) y e))
 
-stopped_two : (n shift : ℕ) (w r : List Cell) (there here : List Opened) (qs : List ℕ) (count : ℕ) (c : Cursor) → Quoted shift w r → Opens n there here → stopped w there (0 ∷ map suc qs) (suc count) (cursor_on shift c) ≡ suc (stopped r here qs count c)
+stopped_two : (n shift : ℕ) (w r : List Cell) (there here : List Opened) (qs : List ℕ) (count : ℕ) (c : Cursor) → Fronted shift w r → Opens n there here → stopped w there (0 ∷ map suc qs) (suc count) (cursor_on shift c) ≡ suc (stopped r here qs count c)
 unfolding stopped
 stopped_two n shift w r there here qs count c h o = rw (length_on shift w r h, le_shift shift (length r) c.column, quote_two qs count, blank_depth_two n there here o) (by (nat_le (length r) c.column))
   where
@@ -331,7 +331,7 @@ stopped_two n shift w r there here qs count c h o = rw (length_on shift w r h, l
 abbrev pub MatchedOn : ℕ → List Cell → ℕ × Cursor → ℕ × Cursor → Type 0
 MatchedOn shift r there here = (there ≡ (suc (here.0), cursor_on shift (here.1))) × InLine r (here.1)
 
-matched_rest : (n shift : ℕ) (w r : List Cell) (there here : List Opened) (qs : List ℕ) (count : ℕ) (c : Cursor) (xs ys : List Opened) → Quoted shift w r → Opens n there here → InLine r c → count + length ys + 4 < 2 ^ 64 → Pairs OpenedOn xs ys
+matched_rest : (n shift : ℕ) (w r : List Cell) (there here : List Opened) (qs : List ℕ) (count : ℕ) (c : Cursor) (xs ys : List Opened) → Fronted shift w r → Opens n there here → InLine r c → count + length ys + 4 < 2 ^ 64 → Pairs OpenedOn xs ys
     → MatchedOn shift r (matched_from w there (0 ∷ map suc qs) (suc count) (cursor_on shift c) xs) (matched_from r here qs count c ys)
 matched_rest n shift w r there here qs count c [] [] h o i few p = (refl, i)
 matched_rest n shift w r there here qs count c [] (y ∷ ys) h o i few p = absurd p
@@ -368,16 +368,30 @@ mark_next : (s : ℕ) (more xs : List ℕ) → byte_at (after_mark s more xs) (s
 mark_next zero more xs = refl
 mark_next (suc s) more xs = mark_next s more xs
 
+-- the columns in front are a block quote marker
+pub record Quoted (shift : ℕ) (w r : List Cell) : Type 0 where
+  pub fronted : Fronted shift w r
+  pub mark : Mark
+  pub near : mark.spaces ≤ 3
+  pub apart : (mark.spaced || not (cell_byte r 0 == 32)) ≡ true
+  pub whole : fronted.front ≡ mark_bytes mark
+
+quoted_bytes : (shift : ℕ) (w r : List Cell) (h : Quoted shift w r) → bytes_of w ≡ mark_bytes h.mark ++ bytes_of r
+quoted_bytes shift w r h = h.fronted.bytes ∙ ap (λ xs. xs ++ bytes_of r) h.whole
+
+quoted_long : (shift : ℕ) (w r : List Cell) (h : Quoted shift w r) → length (mark_bytes h.mark) ≡ shift
+quoted_long shift w r h = ap length (sym h.whole) ∙ h.fronted.long
+
 front_byte : (shift : ℕ) (w r : List Cell) (h : Quoted shift w r) → cell_byte w h.mark.spaces ≡ 62
-front_byte shift w r h = byte_asked w h.mark.spaces ∙ ap (λ (bs : List ℕ). byte_at bs h.mark.spaces) h.bytes ∙ mark_byte h.mark.spaces (space_if h.mark.spaced) (bytes_of r)
+front_byte shift w r h = byte_asked w h.mark.spaces ∙ ap (λ (bs : List ℕ). byte_at bs h.mark.spaces) (quoted_bytes shift w r h) ∙ mark_byte h.mark.spaces (space_if h.mark.spaced) (bytes_of r)
 
 pub front_long : (shift : ℕ) (w r : List Cell) (h : Quoted shift w r) → shift ≡ h.mark.spaces + suc (length (space_if h.mark.spaced))
-front_long shift w r h = sym h.long ∙ length-append (replicate h.mark.spaces 32) (62 ∷ space_if h.mark.spaced) ∙ ap (λ n. n + suc (length (space_if h.mark.spaced))) (length-replicate h.mark.spaces 32)
+front_long shift w r h = sym (quoted_long shift w r h) ∙ length-append (replicate h.mark.spaces 32) (62 ∷ space_if h.mark.spaced) ∙ ap (λ n. n + suc (length (space_if h.mark.spaced))) (length-replicate h.mark.spaces 32)
 
 front_ink : (shift : ℕ) (w r : List Cell) (h : Quoted shift w r) → ink_from w 0 ≡ h.mark.spaces
 front_ink shift w r h =
     let e : run_of w 0 32 ≡ h.mark.spaces =
-    run_asked w 0 32 ∙ ap (λ (bs : List ℕ). length (take_while (λ x. x == 32) bs)) h.bytes ∙ length-prefix_len (λ x. x == 32) (after_mark h.mark.spaces (space_if h.mark.spaced) (bytes_of r)) ∙ mark_run h.mark.spaces (space_if h.mark.spaced) (bytes_of r) in
+    run_asked w 0 32 ∙ ap (λ (bs : List ℕ). length (take_while (λ x. x == 32) bs)) (quoted_bytes shift w r h) ∙ length-prefix_len (λ x. x == 32) (after_mark h.mark.spaces (space_if h.mark.spaced) (bytes_of r)) ∙ mark_run h.mark.spaces (space_if h.mark.spaced) (bytes_of r) in
     omega (arith, e, h.near)
 
 pub front_in : (r : List Cell) → length r + 9 < 2 ^ 64 → InLine r (first_cursor r)
@@ -394,7 +408,7 @@ front_cursor shift w r h = ap front_place (front_ink shift w r h)
 
 -- a space is just after `>` only if it belongs to the marker
 front_space : (shift : ℕ) (w r : List Cell) (h : Quoted shift w r) → (cell_byte w (suc h.mark.spaces) == 32) ≡ h.mark.spaced
-front_space shift w r h = ap (λ b. b == 32) (byte_asked w (suc h.mark.spaces) ∙ ap (λ (bs : List ℕ). byte_at bs (suc h.mark.spaces)) h.bytes ∙ mark_next h.mark.spaces (space_if h.mark.spaced) (bytes_of r)) ∙ by h.mark.spaced refl
+front_space shift w r h = ap (λ b. b == 32) (byte_asked w (suc h.mark.spaces) ∙ ap (λ (bs : List ℕ). byte_at bs (suc h.mark.spaces)) (quoted_bytes shift w r h) ∙ mark_next h.mark.spaces (space_if h.mark.spaced) (bytes_of r)) ∙ by h.mark.spaced refl
   where
     none : (k : Bool) → (false || not k) ≡ true → k ≡ false
     none true e = absurd cc
@@ -406,7 +420,7 @@ front_space shift w r h = ap (λ b. b == 32) (byte_asked w (suc h.mark.spaces) �
 
 front_moved : (shift : ℕ) (w r : List Cell) (h : Quoted shift w r) → moved w (front_place h.mark.spaces) shift ≡ cursor_on shift (first_cursor r)
 unfolding moved first_cursor
-front_moved shift w r h = rw late (ap₂ at none (ap (ink_from w) none ∙ ink_two shift w r 0 h (omega arith)))
+front_moved shift w r h = rw late (ap₂ at none (ap (ink_from w) none ∙ ink_two shift w r 0 h.fronted (omega arith)))
   where
     at : ℕ → ℕ → Cursor
     at c n = record { column = c; ink = n }
@@ -442,7 +456,7 @@ unfolding passed going_on
 outer_goes shift w r o h i = rw (some, i.quote, near, mark) (ap Some (front_after shift w r h))
   where
     some : nat_le (length w) 0 ≡ false
-    some = let q : length w ≡ shift + length r = length_on shift w r h in let k : 0 < length w = omega (arith, q, front_long shift w r h) in grind (arith, k, nat_tests)
+    some = let q : length w ≡ shift + length r = length_on shift w r h.fronted in let k : 0 < length w = omega (arith, q, front_long shift w r h) in grind (arith, k, nat_tests)
 
     near : nat_le (h.mark.spaces - 0) 3 ≡ true
     near = let z : h.mark.spaces - 0 ≤ 3 = omega (arith, h.near) in grind (arith, z, nat_tests)
@@ -454,7 +468,7 @@ pub matched_two : (n shift : ℕ) (w r : List Cell) (there here : List Opened) (
 matched_two n shift w r [] here qs h few o = absurd o.after
 matched_two n shift w r (x ∷ xs) here qs h few o =
     rw (front_cursor shift w r h, outer_goes shift w r x h (o.after.0))
-    (matched_rest n shift w r (x ∷ xs) here qs 0 (first_cursor r) xs here h o (front_in r (omega (arith, h.fits))) (omega (arith, few, o.few)) (o.after.1))
+    (matched_rest n shift w r (x ∷ xs) here qs 0 (first_cursor r) xs here h.fronted o (front_in r (omega (arith, h.fronted.fits))) (omega (arith, few, o.few)) (o.after.1))
 
 -- containers that begin
 
@@ -539,7 +553,7 @@ FineItem r c (Some i) = (c.ink < i.next) × (i.next ≤ length r)
 abbrev ItemOn : ℕ → List Cell → Cursor → Option ItemStart → Option ItemStart → Type 0
 ItemOn shift r c there here = (there ≡ option_map (item_on shift) here) × FineItem r c here
 
-item_from_two : (shift : ℕ) (w r : List Cell) (c : Cursor) (p : Bool) (m : Marker) → Quoted shift w r → InLine r c → IsShort r c.ink (Some m) → c.ink < length r → ItemOn shift r c (item_from w (cursor_on shift c) p m) (item_from r c p m)
+item_from_two : (shift : ℕ) (w r : List Cell) (c : Cursor) (p : Bool) (m : Marker) → Fronted shift w r → InLine r c → IsShort r c.ink (Some m) → c.ink < length r → ItemOn shift r c (item_from w (cursor_on shift c) p m) (item_from r c p m)
 unfolding item_gap
 item_from_two shift w r c p m h i short some =
     rw (far, ink_two shift w r behind h low, length_on shift w r h, le_shift shift (length r) (ink_from r behind), less_shift shift (ink_from r behind) behind, less_shift shift c.ink c.column)
@@ -578,7 +592,7 @@ item_from_two shift w r c p m h i short some =
     by true empty e = (refl, tt)
     by false empty e = (ap (λ n. Some (start n empty)) (after (gap empty) (small empty)), known empty)
 
-item_at_two : (shift : ℕ) (w r : List Cell) (c : Cursor) (p : Bool) → Quoted shift w r → InLine r c → c.ink < length r → ItemOn shift r c (item_at w (cursor_on shift c) p) (item_at r c p)
+item_at_two : (shift : ℕ) (w r : List Cell) (c : Cursor) (p : Bool) → Fronted shift w r → InLine r c → c.ink < length r → ItemOn shift r c (item_at w (cursor_on shift c) p) (item_at r c p)
 unfolding item_at
 item_at_two shift w r c p h i some = rw (marker_two shift w r c.ink h i.ink) (by (marker_at r c.ink) (marker_short r c.ink i.ink (omega (arith, h.fits))))
   where
@@ -590,7 +604,7 @@ item_at_two shift w r c p h i some = rw (marker_two shift w r c.ink h i.ink) (by
 abbrev pub StartOn : ℕ → List Cell → Cursor → Option ContainerStart → Option ContainerStart → Type 0
 StartOn shift r c there here = (there ≡ option_map (start_on shift) here) × Fine r c here
 
-container_two : (shift : ℕ) (w r : List Cell) (c : Cursor) (p : Bool) → Quoted shift w r → InLine r c → StartOn shift r c (container_at w (tail_of w) (cursor_on shift c) p) (container_at r (tail_of r) c p)
+container_two : (shift : ℕ) (w r : List Cell) (c : Cursor) (p : Bool) → Fronted shift w r → InLine r c → StartOn shift r c (container_at w (tail_of w) (cursor_on shift c) p) (container_at r (tail_of r) c p)
 unfolding container_at
 container_two shift w r c p h i =
     rw (length_on shift w r h, le_shift shift (length r) c.ink, less_shift shift c.ink c.column, byte_two shift w r c.ink h, rule_two shift w r c.ink h)
@@ -612,7 +626,7 @@ container_two shift w r c p h i =
     by false e false false q true = (refl, tt)
     by false e false false q false = item (grind (arith, e, nat_tests))
 
-pub container_in_two : (shift : ℕ) (w r : List Cell) (c : Cursor) (p : Bool) → Quoted shift w r → InLine r c → StartOn shift r c (container_in CORE w (tail_of w) (cursor_on shift c) p) (container_in CORE r (tail_of r) c p)
+pub container_in_two : (shift : ℕ) (w r : List Cell) (c : Cursor) (p : Bool) → Fronted shift w r → InLine r c → StartOn shift r c (container_in CORE w (tail_of w) (cursor_on shift c) p) (container_in CORE r (tail_of r) c p)
 unfolding container_in definition_start note_start
 container_in_two shift w r c p h i = container_two shift w r c p h i
 
@@ -622,7 +636,7 @@ unfolding container_in container_at definition_start note_start
 front_begins shift w r p h = rw (some, near, mark) refl
   where
     some : nat_le (length w) h.mark.spaces ≡ false
-    some = let q : length w ≡ shift + length r = length_on shift w r h in let k : h.mark.spaces < length w = omega (arith, q, front_long shift w r h) in grind (arith, k, nat_tests)
+    some = let q : length w ≡ shift + length r = length_on shift w r h.fronted in let k : h.mark.spaces < length w = omega (arith, q, front_long shift w r h) in grind (arith, k, nat_tests)
 
     near : nat_le 4 (h.mark.spaces - 0) ≡ false
     near = let z : h.mark.spaces - 0 < 4 = omega (arith, h.near) in grind (arith, z, nat_tests)

@@ -34,7 +34,7 @@ use Rattle.tocmark_read_blocks.specs.declared.leaf.Turn.{Turn}
 use Rattle.tocmark_read_blocks.specs.declared.leaf.Turn.TheVariants as turn
 use Rattle.tocmark_text_laws.specs.Quoted.{Fenced, Heading as HeadingSort, sort_of}
 use Rattle.tocmark_text_laws.proofs.Pairs.{PairOf, After, set_length, changed_length, pairs_length, after_got, after_place, after_last, after_set}
-use Rattle.tocmark_text_laws.proofs.QuotedCells.{Quoted, cursor_on, length_on, run_low, plus_shift, ink_two, le_shift, less_shift, trimmed_two}
+use Rattle.tocmark_text_laws.proofs.QuotedCells.{Fronted, cursor_on, length_on, run_low, plus_shift, ink_two, le_shift, less_shift, trimmed_two}
 use Rattle.tocmark_text_laws.proofs.QuotedMarks.{heading_on, heading_two, fence_two, closes_two, underline_two, rule_two}
 use Rattle.tocmark_text_laws.proofs.QuotedContainers.{InLine, column_in}
 use Rattle.tocmark_text_laws.proofs.QuotedPieces.{Beside, PieceOn, code_two, text_two, heading_piece_two, keeps_two}
@@ -46,10 +46,10 @@ use Rattle.tocmark_text_laws.proofs.Leaves.{is_core}
 abbrev pub place_on : ℕ → LineStart → LineStart
 place_on shift p = record { cursor = cursor_on shift p.cursor; depth = suc p.depth }
 
-info_two : (t q : List ℕ) (there here : Line) (shift : ℕ) (w r : List Cell) (c : Cursor) (f : Fence) → Beside t q there here shift w r → c.ink + f.count ≤ length r → sort_of q (info_of w (cursor_on shift c) f there) ≡ sort_of t (info_of r c f here)
+pub info_two : (t q : List ℕ) (there here : Line) (shift : ℕ) (w r : List Cell) (c : Cursor) (f : Fence) → Beside t q there here shift w r → c.ink + f.count ≤ length r → sort_of q (info_of w (cursor_on shift c) f there) ≡ sort_of t (info_of r c f here)
 unfolding info_of
 info_two t q there here shift w r c f h low =
-    rw (far, ink_two shift w r (plus c.ink f.count) h.quoted (omega (arith, low)), length_on shift w r h.quoted, trimmed_two shift w r from (length r) 32 h.quoted, h.placed from, h.placed to)
+    rw (far, ink_two shift w r (plus c.ink f.count) h.fronted (omega (arith, low)), length_on shift w r h.fronted, trimmed_two shift w r from (length r) 32 h.fronted, h.placed from, h.placed to)
     (ap Fenced (h.line.window (cell_place r from here.end) (cell_place r to here.end) (h.begins from) (omega (arith, h.stops to, h.line.onto))))
   where
     from : ℕ
@@ -59,7 +59,7 @@ info_two t q there here shift w r c f h low =
     to = trimmed r from (length r) 32
 
     far : plus (shift + c.ink) f.count ≡ shift + plus c.ink f.count
-    far = plus_shift shift c.ink f.count (omega (arith, low, h.quoted.fits))
+    far = plus_shift shift c.ink f.count (omega (arith, low, h.fronted.fits))
 
 html_ended_firm : (t q : List ℕ) (n : ℕ) (rest : List ℕ) (there here : State) → Firm t q n there here → Firm t q n (html_ended rest there) (html_ended rest here)
 unfolding html_ended
@@ -90,7 +90,7 @@ code_taken_firm t q n l' l shift w r column there here h low f =
     words = (code_two t q l' l shift w r column h).words
 
     keeps : keeps_line w (shift + column) there.leaf ≡ keeps_line r column here.leaf
-    keeps = ap (keeps_line w (shift + column)) f.inside.leaf ∙ keeps_two shift w r column here.leaf h.quoted low
+    keeps = ap (keeps_line w (shift + column)) f.inside.leaf ∙ keeps_two shift w r column here.leaf h.fronted low
 
 -- a leaf begins after what ends in the line
 after_closed : (t q : List ℕ) (n depth : ℕ) (f : Leaf) (x y : BlockKind) (start far : ℕ) (l' l : Line) (there here : State) → is_core f ≡ true → sort_of q x ≡ sort_of t y → l'.number ≡ l.number → Inside t q n there here
@@ -247,7 +247,7 @@ fence_short r c low = by (is_fence_byte (cell_byte r c.ink) && nat_le 3 (run_of 
     by true = run_low r c.ink (cell_byte r c.ink) low
     by false = tt
 
-pub rule_at_two : (shift : ℕ) (w r : List Cell) (k : ℕ) → Quoted shift w r → rule_at w (tail_of w) (shift + k) ≡ rule_at r (tail_of r) k
+pub rule_at_two : (shift : ℕ) (w r : List Cell) (k : ℕ) → Fronted shift w r → rule_at w (tail_of w) (shift + k) ≡ rule_at r (tail_of r) k
 unfolding rule_at
 rule_at_two shift w r k h = rw (rule_two shift w r k h) refl
 
@@ -259,7 +259,7 @@ rule_fine shift r c d k = by (is_rule r (tail_of r) k)
     by true = (refl, tt)
     by false = (refl, tt)
 
-mark_two : (shift : ℕ) (w r : List Cell) (rest : List ℕ) (c : Cursor) (p d : Bool) → Quoted shift w r → InLine r c → LeafOn shift r c d (mark_at w rest (tail_of w) (cursor_on shift c) p d) (mark_at r rest (tail_of r) c p d)
+mark_two : (shift : ℕ) (w r : List Cell) (rest : List ℕ) (c : Cursor) (p d : Bool) → Fronted shift w r → InLine r c → LeafOn shift r c d (mark_at w rest (tail_of w) (cursor_on shift c) p d) (mark_at r rest (tail_of r) c p d)
 unfolding mark_at underline_in
 mark_two shift w r rest c p d h i =
     rw (heading_two shift w r c.ink h i.ink, fence_two shift w r c h i.ink, underline_two shift w r c.ink h i.ink, rule_at_two shift w r c.ink h)
@@ -275,7 +275,7 @@ mark_two shift w r rest c p d h i =
     by None None s None true g None = rule_fine shift r c d c.ink
     by None None s None false g u = rule_fine shift r c d c.ink
 
-pub leaf_at_two : (shift : ℕ) (w r : List Cell) (rest : List ℕ) (c : Cursor) (p d : Bool) → Quoted shift w r → InLine r c → LeafOn shift r c d (leaf_at w rest (tail_of w) (cursor_on shift c) p d) (leaf_at r rest (tail_of r) c p d)
+pub leaf_at_two : (shift : ℕ) (w r : List Cell) (rest : List ℕ) (c : Cursor) (p d : Bool) → Fronted shift w r → InLine r c → LeafOn shift r c d (leaf_at w rest (tail_of w) (cursor_on shift c) p d) (leaf_at r rest (tail_of r) c p d)
 unfolding leaf_at
 leaf_at_two shift w r rest c p d h i =
     rw (length_on shift w r h, le_shift shift (length r) c.ink, less_shift shift c.ink c.column) (by (nat_le (length r) c.ink) (nat_lt (c.ink - c.column) 4) refl p)
@@ -309,7 +309,7 @@ FineTurn r k (turn.Row x) = ⊥
 abbrev pub TurnOn : ℕ → List Cell → Leaf → Turn → Turn → Type 0
 TurnOn shift r k there here = (there ≡ turn_on shift here) × FineTurn r k here
 
-pub leaf_turn_two : (t q : List ℕ) (l' l : Line) (shift : ℕ) (w r : List Cell) (c : Cursor) (k : Leaf) → is_core k ≡ true → Quoted shift w r → InLine r c → TurnOn shift r k (leaf_turn q w l' (cursor_on shift c) k) (leaf_turn t r l c k)
+pub leaf_turn_two : (t q : List ℕ) (l' l : Line) (shift : ℕ) (w r : List Cell) (c : Cursor) (k : Leaf) → is_core k ≡ true → Fronted shift w r → InLine r c → TurnOn shift r k (leaf_turn q w l' (cursor_on shift c) k) (leaf_turn t r l c k)
 unfolding leaf_turn is_core is_shut
 leaf_turn_two t q l' l shift w r c leaf.Nothing e h i = (refl, tt)
 leaf_turn_two t q l' l shift w r c leaf.Paragraph e h i = (refl, tt)

@@ -1,4 +1,4 @@
--- What begins at a column after a block quote marker is what begins there without it.
+-- What begins at a column after others is what begins there without them.
 use Rattle.std.proofs.Common.{◌≡◌, ℕ, zero, suc, ◌+◌, ◌-◌, ◌<◌, ◌≤◌, Bool, true, false, not, ◌==◌, ◌||◌, cond, if◌then◌else◌, nat_lt, nat_le, List, [], ◌∷◌, ◌++◌, length, reverse, refl, ap, sym, subst, ◌∙◌, arith}
 use Rattle.std.specs.Prelude.{take_while, Option, Some, None}
 use Rattle.std.specs.List.{prefix_len, AllByRecursion}
@@ -17,12 +17,11 @@ use Rattle.tocmark_read_lines.specs.declared.beginnings.Fence.{Fence}
 use Rattle.tocmark_read_lines.specs.declared.cell.Cell.{Cell}
 use Rattle.tocmark_read_lines.specs.declared.cell.Cursor.{Cursor}
 use Rattle.tocmark_read_lines.proofs.Columns.{byte_asked, trailing_asked, tail_asked}
-use Rattle.tocmark_text_laws.specs.Quoted.{mark_bytes}
-use Rattle.tocmark_text_laws.proofs.QuotedCells.{Quoted, cursor_on, In, length_on, byte_two, run_two, count_two, digits_two, run_low, digits_low, plus_shift, ink_two, le_shift, less_shift, behind_two, between_two, trimmed_two}
+use Rattle.tocmark_text_laws.proofs.QuotedCells.{Fronted, cursor_on, In, length_on, byte_two, run_two, count_two, digits_two, run_low, digits_low, plus_shift, ink_two, le_shift, less_shift, behind_two, between_two, trimmed_two}
 
 -- headings
 
-end_as : (shift : ℕ) (w r : List Cell) (from whole open_end : ℕ) → Quoted shift w r
+end_as : (shift : ℕ) (w r : List Cell) (from whole open_end : ℕ) → Fronted shift w r
     → (if nat_le (shift + open_end) (shift + from) || (cell_byte w (shift + open_end - 1) == 32) then trimmed w (shift + from) (shift + open_end) 32 else shift + whole)
     ≡ shift + (if nat_le open_end from || (cell_byte r (open_end - 1) == 32) then trimmed r from open_end 32 else whole)
 end_as shift w r from whole zero h = rw (le_shift shift 0 from, none) (trimmed_two shift w r from 0 32 h)
@@ -42,7 +41,7 @@ end_as shift w r from whole (suc k) h =
     by true = refl
     by false = refl
 
-heading_end_two : (shift : ℕ) (w r : List Cell) (from limit : ℕ) → Quoted shift w r → heading_end_before w (shift + from) (shift + limit) ≡ shift + heading_end_before r from limit
+heading_end_two : (shift : ℕ) (w r : List Cell) (from limit : ℕ) → Fronted shift w r → heading_end_before w (shift + from) (shift + limit) ≡ shift + heading_end_before r from limit
 unfolding heading_end_before
 heading_end_two shift w r from limit h =
     rw (trimmed_two shift w r from limit 32 h, trimmed_two shift w r from (trimmed r from limit 32) 35 h)
@@ -52,7 +51,7 @@ heading_end_two shift w r from limit h =
 abbrev pub heading_on : ℕ → Heading → Heading
 heading_on shift x = record { level = x.level; from = shift + x.from; to = shift + x.to }
 
-pub heading_two : (shift : ℕ) (w r : List Cell) (k : ℕ) → Quoted shift w r → In r k → heading_at w (shift + k) ≡ option_map (heading_on shift) (heading_at r k)
+pub heading_two : (shift : ℕ) (w r : List Cell) (k : ℕ) → Fronted shift w r → In r k → heading_at w (shift + k) ≡ option_map (heading_on shift) (heading_at r k)
 unfolding heading_at
 heading_two shift w r k h low =
     rw (run_two shift w r k 35 h, here, behind_two shift w r behind h, ink_two shift w r behind h within, less_shift shift behind k) (by (is_behind r behind) (level_of (behind - k)))
@@ -79,7 +78,7 @@ heading_two shift w r k h low =
 
 -- fences
 
-pub fence_two : (shift : ℕ) (w r : List Cell) (c : Cursor) → Quoted shift w r → In r c.ink → fence_at w (cursor_on shift c) ≡ fence_at r c
+pub fence_two : (shift : ℕ) (w r : List Cell) (c : Cursor) → Fronted shift w r → In r c.ink → fence_at w (cursor_on shift c) ≡ fence_at r c
 unfolding fence_at
 fence_two shift w r c h low =
     rw (byte_two shift w r c.ink h, run_two shift w r c.ink (cell_byte r c.ink) h, far, count_two shift w r (plus c.ink (run_of r c.ink (cell_byte r c.ink))) 96 h, less_shift shift c.ink c.column) refl
@@ -87,7 +86,7 @@ fence_two shift w r c h low =
     far : plus (shift + c.ink) (run_of r c.ink (cell_byte r c.ink)) ≡ shift + plus c.ink (run_of r c.ink (cell_byte r c.ink))
     far = plus_shift shift c.ink (run_of r c.ink (cell_byte r c.ink)) (omega (arith, run_low r c.ink (cell_byte r c.ink) low, h.fits))
 
-pub closes_two : (shift : ℕ) (w r : List Cell) (c : Cursor) (f : Fence) → Quoted shift w r → In r c.ink → closes_fence w (cursor_on shift c) f ≡ closes_fence r c f
+pub closes_two : (shift : ℕ) (w r : List Cell) (c : Cursor) (f : Fence) → Fronted shift w r → In r c.ink → closes_fence w (cursor_on shift c) f ≡ closes_fence r c f
 unfolding closes_fence
 closes_two shift w r c f h low =
     rw (run_two shift w r c.ink f.byte h, far, ink_two shift w r behind h within, length_on shift w r h, le_shift shift (length r) (ink_from r behind), less_shift shift c.ink c.column) refl
@@ -103,7 +102,7 @@ closes_two shift w r c f h low =
 
 -- underlines
 
-pub underline_two : (shift : ℕ) (w r : List Cell) (k : ℕ) → Quoted shift w r → In r k → underline_at w (shift + k) ≡ underline_at r k
+pub underline_two : (shift : ℕ) (w r : List Cell) (k : ℕ) → Fronted shift w r → In r k → underline_at w (shift + k) ≡ underline_at r k
 unfolding underline_at
 underline_two shift w r k h low =
     rw (byte_two shift w r k h, run_two shift w r k (cell_byte r k) h, far, ink_two shift w r behind h within, length_on shift w r h, le_shift shift (length r) (ink_from r behind)) refl
@@ -119,11 +118,11 @@ underline_two shift w r k h low =
 
 -- markers of items
 
-bullet_two : (shift : ℕ) (w r : List Cell) (k : ℕ) → Quoted shift w r → In r k → bullet_at w (shift + k) ≡ bullet_at r k
+bullet_two : (shift : ℕ) (w r : List Cell) (k : ℕ) → Fronted shift w r → In r k → bullet_at w (shift + k) ≡ bullet_at r k
 unfolding bullet_at
 bullet_two shift w r k h low = rw (byte_two shift w r k h, plus_shift shift k 1 (omega (arith, low, h.fits)), behind_two shift w r (plus k 1) h) refl
 
-ordered_two : (shift : ℕ) (w r : List Cell) (k : ℕ) → Quoted shift w r → In r k → ordered_at w (shift + k) ≡ ordered_at r k
+ordered_two : (shift : ℕ) (w r : List Cell) (k : ℕ) → Fronted shift w r → In r k → ordered_at w (shift + k) ≡ ordered_at r k
 unfolding ordered_at
 ordered_two shift w r k h low = rw (digits_two shift w r k h, far, byte_two shift w r last h, next, behind_two shift w r (plus last 1) h, number) refl
   where
@@ -142,7 +141,7 @@ ordered_two shift w r k h low = rw (digits_two shift w r k h, far, byte_two shif
     number : bytes_between (bytes_of w) (shift + k) (shift + last) ≡ bytes_between (bytes_of r) k last
     number = between_two shift w r k last h
 
-pub marker_two : (shift : ℕ) (w r : List Cell) (k : ℕ) → Quoted shift w r → In r k → marker_at w (shift + k) ≡ marker_at r k
+pub marker_two : (shift : ℕ) (w r : List Cell) (k : ℕ) → Fronted shift w r → In r k → marker_at w (shift + k) ≡ marker_at r k
 unfolding marker_at
 marker_two shift w r k h low = rw (bullet_two shift w r k h low, ordered_two shift w r k h low) refl
 
@@ -173,7 +172,7 @@ back_one : (p : ℕ → Bool) (b : ℕ) (bs : List ℕ) → length (take_while p
 back_one p b bs = ap (λ ys. length (take_while p ys)) (reverse-append (b ∷ []) bs) ∙ length-prefix_len p (reverse bs ++ b ∷ []) ∙ prefix_len-append p (reverse bs) (b ∷ [])
 
 -- if all bytes pass from the end on, each passes
-back_each : (p : ℕ → Bool) (xs : List ℕ) → length xs ≤ length (take_while p (reverse xs)) → AllByRecursion (λ b. p b ≡ true) xs
+pub back_each : (p : ℕ → Bool) (xs : List ℕ) → length xs ≤ length (take_while p (reverse xs)) → AllByRecursion (λ b. p b ≡ true) xs
 back_each p [] h = tt
 back_each p (b ∷ bs) h = by (eqb (prefix_len p (reverse bs)) (length (reverse bs))) refl (p b) refl (λ k. back_each p bs k)
   where
@@ -194,14 +193,14 @@ no_rule [] k h = refl
 no_rule (b ∷ bs) zero h = let q : b ≡ 32 = grind (arith, h.0, nat_tests) in rw q refl
 no_rule (b ∷ bs) (suc k) h = no_rule bs k (h.1)
 
-trailing_two : (shift : ℕ) (w r : List Cell) (b : ℕ) → Quoted shift w r → trailing r b < length r → trailing w b ≡ trailing r b
+trailing_two : (shift : ℕ) (w r : List Cell) (b : ℕ) → Fronted shift w r → trailing r b < length r → trailing w b ≡ trailing r b
 trailing_two shift w r b h few =
     trailing_asked w b ∙ ap (λ (xs : List ℕ). length (take_while (λ x. x == b) (reverse xs))) h.bytes
-    ∙ back_as (λ x. x == b) (mark_bytes h.mark) (bytes_of r) (omega (arith, few, trailing_asked r b, length-map r (λ (c : Cell). c.byte)))
+    ∙ back_as (λ x. x == b) h.front (bytes_of r) (omega (arith, few, trailing_asked r b, length-map r (λ (c : Cell). c.byte)))
     ∙ sym (trailing_asked r b)
 
 -- whether the tail of a line begins before a column
-tail_two : (shift : ℕ) (w r : List Cell) (b k : ℕ) → Quoted shift w r → nat_le (shift + length r - tail_length w b) (shift + k) ≡ nat_le (length r - tail_length r b) k
+tail_two : (shift : ℕ) (w r : List Cell) (b k : ℕ) → Fronted shift w r → nat_le (shift + length r - tail_length w b) (shift + k) ≡ nat_le (length r - tail_length r b) k
 tail_two shift w r b k h = by (nat_lt (tail_length r b) (length r)) refl
   where
     p : ℕ → Bool
@@ -210,7 +209,7 @@ tail_two shift w r b k h = by (nat_lt (tail_length r b) (length r)) refl
     bytes : length (bytes_of r) ≡ length r
     bytes = length-map r (λ (c : Cell). c.byte)
 
-    there : tail_length w b ≡ length (take_while p (reverse ((mark_bytes h.mark) ++ bytes_of r)))
+    there : tail_length w b ≡ length (take_while p (reverse (h.front ++ bytes_of r)))
     there = tail_asked w b ∙ ap (λ (xs : List ℕ). length (take_while p (reverse xs))) h.bytes
 
     here : tail_length r b ≡ length (take_while p (reverse (bytes_of r)))
@@ -219,19 +218,19 @@ tail_two shift w r b k h = by (nat_lt (tail_length r b) (length r)) refl
     by : (e : Bool) → nat_lt (tail_length r b) (length r) ≡ e → nat_le (shift + length r - tail_length w b) (shift + k) ≡ nat_le (length r - tail_length r b) k
     by true e =
         let few : tail_length r b < length r = grind (arith, nat_tests) in
-        let same : tail_length w b ≡ tail_length r b = there ∙ back_as p (mark_bytes h.mark) (bytes_of r) (omega (arith, few, here, bytes)) ∙ sym here in
+        let same : tail_length w b ≡ tail_length r b = there ∙ back_as p h.front (bytes_of r) (omega (arith, few, here, bytes)) ∙ sym here in
         let far : shift + length r - tail_length w b ≡ shift + (length r - tail_length r b) = omega (arith, same, few) in
         ap (λ n. nat_le n (shift + k)) far ∙ le_shift shift (length r - tail_length r b) k
     by false e =
         let all : length r ≤ tail_length r b = grind (arith, nat_tests) in
-        let more : length (bytes_of r) ≤ length (take_while p (reverse ((mark_bytes h.mark) ++ bytes_of r))) = back_all p (mark_bytes h.mark) (bytes_of r) (omega (arith, all, here, bytes)) in
+        let more : length (bytes_of r) ≤ length (take_while p (reverse (h.front ++ bytes_of r))) = back_all p h.front (bytes_of r) (omega (arith, all, here, bytes)) in
         let far : shift + length r - tail_length w b ≤ shift + k = omega (arith, more, there, bytes) in
         let near : length r - tail_length r b ≤ k = omega (arith, all) in
         let first : nat_le (shift + length r - tail_length w b) (shift + k) ≡ true = grind (arith, nat_tests) in
         let second : nat_le (length r - tail_length r b) k ≡ true = grind (arith, nat_tests) in
         first ∙ sym second
 
-rule_some : (shift : ℕ) (w r : List Cell) (k : ℕ) → Quoted shift w r → trailing r 32 < length r → is_rule w (tail_of w) (shift + k) ≡ is_rule r (tail_of r) k
+rule_some : (shift : ℕ) (w r : List Cell) (k : ℕ) → Fronted shift w r → trailing r 32 < length r → is_rule w (tail_of w) (shift + k) ≡ is_rule r (tail_of r) k
 unfolding is_rule tail_of
 rule_some shift w r k h some = rw (trailing_two shift w r 32 h some, length_on shift w r h, last, byte_two shift w r (length r - trailing r 32 - 1) h, byte_two shift w r k h, count_two shift w r k (cell_byte r k) h, tail_two shift w r end k h) refl
   where
@@ -245,7 +244,7 @@ rule_none : (r : List Cell) (tail : _) (k : ℕ) → is_rule_byte (cell_byte r k
 unfolding is_rule
 rule_none r tail k h = rw h refl
 
-pub rule_two : (shift : ℕ) (w r : List Cell) (k : ℕ) → Quoted shift w r → is_rule w (tail_of w) (shift + k) ≡ is_rule r (tail_of r) k
+pub rule_two : (shift : ℕ) (w r : List Cell) (k : ℕ) → Fronted shift w r → is_rule w (tail_of w) (shift + k) ≡ is_rule r (tail_of r) k
 rule_two shift w r k h = by (nat_lt (trailing r 32) (length r)) refl
   where
     blank : length r ≤ trailing r 32 → is_rule_byte (cell_byte r k) ≡ false

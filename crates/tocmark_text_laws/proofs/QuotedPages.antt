@@ -82,7 +82,7 @@ inside_more t q n m there here k h = record { opened = opens_more n m there.open
 
 -- counts of quotes
 
-count_changed : (i : ℕ) (f : Opened → Opened) → ((o : Opened) → (f o).container ≡ o.container) → (os : List Opened) → quote_count (changed i f os) ≡ quote_count os
+pub count_changed : (i : ℕ) (f : Opened → Opened) → ((o : Opened) → (f o).container ≡ o.container) → (os : List Opened) → quote_count (changed i f os) ≡ quote_count os
 count_changed i f k os = by (slice_get os i) refl
   where
     set : (xs : List Opened) (j : ℕ) (o : Opened) → slice_get xs j ≡ Some o → quote_count (slice_set xs j (f o)) ≡ quote_count xs
@@ -94,18 +94,18 @@ count_changed i f k os = by (slice_get os i) refl
     by None e = refl
     by (Some o) e = set os i o e
 
-count_end : (os : List Opened) (o : Opened) → quote_count (os ++ o ∷ []) ≡ quote_count os + (if is_quote o.container then 1 else 0)
+pub count_end : (os : List Opened) (o : Opened) → quote_count (os ++ o ∷ []) ≡ quote_count os + (if is_quote o.container then 1 else 0)
 count_end [] o = omega arith
 count_end (x ∷ xs) o = ap (λ n. (if is_quote x.container then 1 else 0) + n) (count_end xs o) ∙ (let z : (if is_quote x.container then 1 else 0) + (quote_count xs + (if is_quote o.container then 1 else 0)) ≡ (if is_quote x.container then 1 else 0) + quote_count xs + (if is_quote o.container then 1 else 0) = omega arith in z)
 
 -- all but the last one
-count_at : (k : ℕ) (os : List Opened) (o : Opened) → slice_get os k ≡ Some o → length os ≡ suc k → quote_count os ≡ quote_count (take k os) + (if is_quote o.container then 1 else 0)
+pub count_at : (k : ℕ) (os : List Opened) (o : Opened) → slice_get os k ≡ Some o → length os ≡ suc k → quote_count os ≡ quote_count (take k os) + (if is_quote o.container then 1 else 0)
 count_at k [] o e m = absurd cc
 count_at zero (x ∷ []) o e m = let z : x ≡ o = cc in ap (λ (y : Opened). (if is_quote y.container then 1 else 0) + 0) z ∙ (let g : (if is_quote o.container then 1 else 0) + 0 ≡ 0 + (if is_quote o.container then 1 else 0) = omega arith in g)
 count_at zero (x ∷ y ∷ ys) o e m = absurd (omega (arith, m))
 count_at (suc k) (x ∷ xs) o e m = ap (λ n. (if is_quote x.container then 1 else 0) + n) (count_at k xs o e (omega (arith, m))) ∙ (let z : (if is_quote x.container then 1 else 0) + (quote_count (take k xs) + (if is_quote o.container then 1 else 0)) ≡ (if is_quote x.container then 1 else 0) + quote_count (take k xs) + (if is_quote o.container then 1 else 0) = omega arith in z)
 
-count_last : (os : List Opened) (o : Opened) → slice_get os (length os - 1) ≡ Some o → quote_count os ≡ quote_count (take (length os - 1) os) + (if is_quote o.container then 1 else 0)
+pub count_last : (os : List Opened) (o : Opened) → slice_get os (length os - 1) ≡ Some o → quote_count os ≡ quote_count (take (length os - 1) os) + (if is_quote o.container then 1 else 0)
 count_last os o e = count_at (length os - 1) os o e (omega (arith, got_some os (length os - 1) o e))
 
 -- blocks end
@@ -131,7 +131,7 @@ pub raised_count : (os : List Opened) (i end line : ℕ) → quote_count (raised
 unfolding raised_at
 raised_count os i end line = count_changed i (λ (o : Opened). raised o end line) (raised_same end line) os
 
-raised_length : (os : List Opened) (i end line : ℕ) → length (raised_at os i end line) ≡ length os
+pub raised_length : (os : List Opened) (i end line : ℕ) → length (raised_at os i end line) ≡ length os
 unfolding raised_at
 raised_length os i end line = changed_length i (λ (o : Opened). raised o end line) os
 
@@ -319,7 +319,7 @@ one_closed_two t q n there here some h = rw place (by (slice_get there.opened (s
     by (Some x) None e u = absurd u
     by (Some x) (Some y) e u = one_closes t q n there here x y e u h
 
-quote_left_opened : (k : Container) (s : State) → (quote_left k s).opened ≡ s.opened
+pub quote_left_opened : (k : Container) (s : State) → (quote_left k s).opened ≡ s.opened
 quote_left_opened k s = by (is_quote k)
   where
     by : (b : Bool) → (if b then record s { quotes = take (length s.quotes - 1) s.quotes } else s).opened ≡ s.opened
@@ -363,7 +363,7 @@ closed_two t q n depth there here h = rw less (times_two t q n (length (leaf_clo
 
 -- the list that a block is in
 
-rooted_long : (os : List Opened) (o : Opened) → slice_get os (length os - 1) ≡ Some o → is_inner o.container ≡ true → Rooted os → 1 < length os
+pub rooted_long : (os : List Opened) (o : Opened) → slice_get os (length os - 1) ≡ Some o → is_inner o.container ≡ true → Rooted os → 1 < length os
 rooted_long [] o e k h = absurd cc
 rooted_long (x ∷ []) o e k h = let z : x ≡ o = cc in let w : true ≡ false = sym k ∙ ap (λ (y : Opened). is_inner y.container) (sym z) ∙ h in absurd cc
 rooted_long (x ∷ y ∷ ys) o e k h = omega arith
@@ -458,11 +458,11 @@ had_two : (n : ℕ) (there here : List Opened) → Opens n there here → Opens 
 unfolding had_marked
 had_two n there here h = opens_last n (λ (o : Opened). record o { had = true }) (λ (o : Opened). record o { had = true }) (λ x k. record { quote = k.quote; first = k.first }) (λ x y k. record { container = k.container; block = k.block; line = k.line; had = refl }) (λ o. refl) there here h
 
-had_count : (os : List Opened) → quote_count (had_marked os) ≡ quote_count os
+pub had_count : (os : List Opened) → quote_count (had_marked os) ≡ quote_count os
 unfolding had_marked
 had_count os = count_changed (length os - 1) (λ (o : Opened). record o { had = true }) (λ o. refl) os
 
-had_length : (os : List Opened) → length (had_marked os) ≡ length os
+pub had_length : (os : List Opened) → length (had_marked os) ≡ length os
 unfolding had_marked
 had_length os = changed_length (length os - 1) (λ (o : Opened). record o { had = true }) os
 
@@ -496,7 +496,7 @@ begun_firm t q n x y start far number there here e h = (
     shape : made (length (had_marked there.opened)) (sort_of q x) (length there.pieces) (list_of there.opened) ≡ made (suc (length (had_marked here.opened))) (sort_of t y) (length here.pieces) (option_map suc (list_of here.opened))
     shape = rw (depth, e, count, list_two n there.opened here.opened h.opened) refl
 
-begun_length : (k : BlockKind) (start number : ℕ) (s : State) → length (begun k start number s).opened ≡ length s.opened
+pub begun_length : (k : BlockKind) (start number : ℕ) (s : State) → length (begun k start number s).opened ≡ length s.opened
 unfolding begun
 begun_length k start number s = had_length s.opened
 

@@ -1,10 +1,10 @@
--- What a leaf keeps of a line after a block quote marker, and what of a line is where in both texts.
-use Rattle.std.proofs.Common.{◌≡◌, ℕ, zero, suc, ◌+◌, ◌-◌, ◌*◌, ◌^◌, ◌<◌, ◌≤◌, Bool, true, false, not, ◌==◌, ◌&&◌, ◌||◌, if◌then◌else◌, nat_lt, List, [], ◌∷◌, ◌++◌, length, flat_map, refl, ap, sym, ◌∙◌, arith, length-append}
-use Rattle.std.specs.Prelude.{replicate}
+-- What a leaf keeps of a line after other bytes, and what of a line is where in both texts.
+use Rattle.std.proofs.Common.{◌≡◌, ◌⊎◌, inl, inr, ℕ, zero, suc, ◌+◌, ◌-◌, ◌*◌, ◌^◌, ◌<◌, ◌≤◌, Bool, true, false, ◌==◌, ◌&&◌, if◌then◌else◌, nat_lt, nat_le, List, [], ◌∷◌, ◌++◌, length, take, drop, flat_map, refl, ap, sym, ◌∙◌, arith, length-append}
 use Rattle.std.specs.List.{list_any}
 use Rattle.std.proofs.lemmas.Bool.Decides.{nat_tests}
 use Rattle.tocmark_read_scan.specs.Basic.{plus, byte_at, bytes_between}
-use Rattle.tocmark_read_lines.specs.Cells.{cells_at, cells_of, cell_place, ink_from}
+use Rattle.tocmark_read_scan.proofs.PlainTests.{both_false}
+use Rattle.tocmark_read_lines.specs.Cells.{cells_at, cells_of, cell_byte, cell_place, ink_from}
 use Rattle.tocmark_read_lines.specs.declared.beginnings.Heading.{Heading}
 use Rattle.tocmark_read_lines.specs.declared.cell.Cell.{Cell}
 use Rattle.tocmark_read_lines.specs.declared.cell.Cursor.{Cursor}
@@ -15,19 +15,18 @@ use Rattle.tocmark_read_page.specs.Pieces.{is_split, code_piece, whole_place, te
 use Rattle.tocmark_read_page.specs.declared.leaf.Leaf.{Leaf}
 use Rattle.tocmark_read_page.specs.declared.leaf.Leaf.TheVariants as leaf
 use Rattle.tocmark_read_page.specs.declared.piece.Piece.{Piece}
-use Rattle.tocmark_text_laws.specs.Quoted.{Mark, space_if, mark_bytes}
 use Rattle.tocmark_text_laws.proofs.Pairs.{Pairs}
-use Rattle.tocmark_text_laws.proofs.QuotedCells.{lt_true, Quoted, cursor_on, In, length_on, ink_two, lt_shift}
+use Rattle.tocmark_text_laws.proofs.QuotedCells.{lt_true, Fronted, cursor_on, In, length_on, ink_two, lt_shift}
 use Rattle.tocmark_text_laws.proofs.QuotedMarks.{heading_on}
 
 -- a line of both texts, which is so many bytes further in the one with markers
 pub record LineOn (t q : List ℕ) (there here : Line) : Type 0 where
   pub gap : ℕ
-  pub mark : Mark
-  pub close : mark.spaces ≤ 3
-  pub apart : (mark.spaced || not (byte_at (bytes_between t here.start here.end) 0 == 32)) ≡ true
+  pub front : List ℕ
+  pub flat : list_any (λ b. b == 9) front ≡ false
   pub number : there.number ≡ here.number
-  pub starts : there.start + length (mark_bytes mark) ≡ here.start + gap
+  pub counted : there.number < 2 ^ 64
+  pub starts : there.start + length front ≡ here.start + gap
   pub ends : there.end ≡ here.end + gap
   pub nexts : there.next ≡ here.next + gap
   pub order : here.start ≤ here.end
@@ -35,7 +34,7 @@ pub record LineOn (t q : List ℕ) (there here : Line) : Type 0 where
   pub short : here.next + gap + 12 < 2 ^ 64
   pub near : 2 * here.next + 9 < 2 ^ 64
   pub long : length (bytes_between t here.start here.end) ≡ here.end - here.start
-  pub front : bytes_between q there.start there.end ≡ mark_bytes mark ++ bytes_between t here.start here.end
+  pub words : bytes_between q there.start there.end ≡ front ++ bytes_between t here.start here.end
   pub plain : list_any (λ b. b == 9) (bytes_between t here.start here.end) ≡ false
   pub window : (i j : ℕ) → here.start ≤ i → j ≤ here.next → bytes_between q (i + gap) (j + gap) ≡ bytes_between t i j
   pub byte : (i : ℕ) → here.start ≤ i → i ≤ here.end → byte_at q (i + gap) ≡ byte_at t i
@@ -43,13 +42,14 @@ pub record LineOn (t q : List ℕ) (there here : Line) : Type 0 where
 -- the same with its columns
 pub record Beside (t q : List ℕ) (there here : Line) (shift : ℕ) (w r : List Cell) : Type 0 where
   pub line : LineOn t q there here
-  pub quoted : Quoted shift w r
+  pub fronted : Fronted shift w r
   pub wide : here.start + length r ≡ here.end
   pub placed : (c : ℕ) → cell_place w (shift + c) there.end ≡ cell_place r c here.end + line.gap
   pub begins : (c : ℕ) → here.start ≤ cell_place r c here.end
   pub stops : (c : ℕ) → cell_place r c here.end ≤ here.end
   pub whole_there : (c : ℕ) → is_split w (shift + c) ≡ false
   pub whole_here : (c : ℕ) → is_split r c ≡ false
+  pub first : ((length r ≡ 0) × (cell_byte r 0 ≡ 10)) ⊎ (cell_byte r 0 ≡ byte_at t here.start)
 
 -- no byte of a line without tabs takes two columns
 unsplit : (at : ℕ) (bs : List ℕ) (c : ℕ) → at + length bs + 3 < 2 ^ 64 → is_split (cells_at at [] bs) c ≡ false
@@ -72,44 +72,64 @@ unsplit at bs c fits = rw (length_kept at [] bs) (by (nat_lt 0 c) (nat_lt c (len
 place_as : (at : ℕ) (bs : List ℕ) (c end : ℕ) → at < 2 ^ 64 → cell_place (cells_at at [] bs) c end ≡ (if nat_lt c (length bs) then plus at c else end)
 place_as at bs c end h = place_kept at [] bs c end h
 
--- a marker has no tab
-marked_plain : (m : Mark) (bs : List ℕ) → list_any (λ b. b == 9) bs ≡ false → list_any (λ b. b == 9) (mark_bytes m ++ bs) ≡ false
-marked_plain m bs h = spaces m.spaces
+both_plain : (ms bs : List ℕ) → list_any (λ b. b == 9) ms ≡ false → list_any (λ b. b == 9) bs ≡ false → list_any (λ b. b == 9) (ms ++ bs) ≡ false
+both_plain [] bs h k = k
+both_plain (m ∷ ms) bs h k = let both = both_false (m == 9) (list_any (λ b. b == 9) ms) h in rw (both.0) (both_plain ms bs (both.1) k)
+
+-- the first byte of a part
+take_first : (k from : ℕ) (xs : List ℕ) → (take k (drop from xs) ≡ []) ⊎ (byte_at (take k (drop from xs)) 0 ≡ byte_at xs from)
+take_first zero from xs = inl refl
+take_first (suc k) zero [] = inl refl
+take_first (suc k) zero (x ∷ xs) = inr refl
+take_first (suc k) (suc from) [] = inl refl
+take_first (suc k) (suc from) (x ∷ xs) = take_first (suc k) from xs
+
+pub between_first : (xs : List ℕ) (from to : ℕ) → (bytes_between xs from to ≡ []) ⊎ (byte_at (bytes_between xs from to) 0 ≡ byte_at xs from)
+between_first xs from to = by (nat_le from to && nat_le to (length xs))
   where
-    more : (k : Bool) → list_any (λ b. b == 9) ((62 ∷ space_if k) ++ bs) ≡ false
-    more true = h
-    more false = h
+    by : (k : Bool) → ((if k then take (to - from) (drop from xs) else []) ≡ []) ⊎ (byte_at (if k then take (to - from) (drop from xs) else []) 0 ≡ byte_at xs from)
+    by true = take_first (to - from) from xs
+    by false = inl refl
 
-    spaces : (s : ℕ) → list_any (λ b. b == 9) ((replicate s 32 ++ (62 ∷ space_if m.spaced)) ++ bs) ≡ false
-    spaces zero = more m.spaced
-    spaces (suc s) = spaces s
-
-pub beside : (t q : List ℕ) (there here : Line) (h : LineOn t q there here) → Beside t q there here (length (mark_bytes h.mark)) (cells_of [] there.start (bytes_between q there.start there.end)) (cells_of [] here.start (bytes_between t here.start here.end))
+-- a line of both texts with its columns
+pub beside : (t q : List ℕ) (there here : Line) (h : LineOn t q there here)
+    → (both : Beside t q there here (length h.front) (cells_of [] there.start (bytes_between q there.start there.end)) (cells_of [] here.start (bytes_between t here.start here.end))) × (both.fronted.front ≡ h.front)
 beside t q there here h =
-    rw (h.front, plain_cells here.start bs h.plain, plain_cells there.start (marks ++ bs) (marked_plain h.mark bs h.plain))
-    (record {
-      line = h;
-      quoted = record {
-        mark = h.mark;
-        near = h.close;
-        apart = ap (λ b. h.mark.spaced || not (b == 32)) (byte_asked (cells_at here.start [] bs) 0 ∙ ap (λ (xs : List ℕ). byte_at xs 0) (bytes_kept here.start [] bs)) ∙ h.apart;
-        long = refl;
-        bytes = bytes_kept there.start [] (marks ++ bs) ∙ sym (ap (λ xs. marks ++ xs) (bytes_kept here.start [] bs));
-        fits = omega (arith, length_kept here.start [] bs, h.long, h.order, h.onto, h.short, h.starts);
-      };
-      wide = omega (arith, length_kept here.start [] bs, h.long, h.order);
-      placed = λ c. placed c;
-      begins = λ c. begins c;
-      stops = λ c. stops c;
-      whole_there = λ c. unsplit there.start (marks ++ bs) (shift + c) (omega (arith, long, h.long, h.order, h.onto, h.short, h.starts));
-      whole_here = λ c. unsplit here.start bs c (omega (arith, h.long, h.order, h.onto, h.short));
-    })
+    rw (h.words, plain_cells here.start bs h.plain, plain_cells there.start (marks ++ bs) (both_plain marks bs h.flat h.plain)) (
+      record {
+        line = h;
+        first = begins_with;
+        fronted = record {
+          front = marks;
+          long = refl;
+          bytes = bytes_kept there.start [] (marks ++ bs) ∙ sym (ap (λ xs. marks ++ xs) (bytes_kept here.start [] bs));
+          fits = omega (arith, length_kept here.start [] bs, h.long, h.order, h.onto, h.short, h.starts);
+        };
+        wide = omega (arith, length_kept here.start [] bs, h.long, h.order);
+        placed = λ c. placed c;
+        begins = λ c. begins c;
+        stops = λ c. stops c;
+        whole_there = λ c. unsplit there.start (marks ++ bs) (shift + c) (omega (arith, long, h.long, h.order, h.onto, h.short, h.starts));
+        whole_here = λ c. unsplit here.start bs c (omega (arith, h.long, h.order, h.onto, h.short));
+      },
+      refl,
+    )
   where
     bs : List ℕ
     bs = bytes_between t here.start here.end
 
     marks : List ℕ
-    marks = mark_bytes h.mark
+    marks = h.front
+
+    begins_with : ((length (cells_at here.start [] bs) ≡ 0) × (cell_byte (cells_at here.start [] bs) 0 ≡ 10)) ⊎ (cell_byte (cells_at here.start [] bs) 0 ≡ byte_at t here.start)
+    begins_with = by (between_first t here.start here.end)
+      where
+        word : cell_byte (cells_at here.start [] bs) 0 ≡ byte_at bs 0
+        word = byte_asked (cells_at here.start [] bs) 0 ∙ ap (λ (xs : List ℕ). byte_at xs 0) (bytes_kept here.start [] bs)
+
+        by : (bs ≡ []) ⊎ (byte_at bs 0 ≡ byte_at t here.start) → ((length (cells_at here.start [] bs) ≡ 0) × (cell_byte (cells_at here.start [] bs) 0 ≡ 10)) ⊎ (cell_byte (cells_at here.start [] bs) 0 ≡ byte_at t here.start)
+        by (inl e) = inl (length_kept here.start [] bs ∙ ap length e, word ∙ ap (λ (xs : List ℕ). byte_at xs 0) e)
+        by (inr e) = inr (word ∙ e)
 
     shift : ℕ
     shift = length marks
@@ -184,7 +204,7 @@ heading_piece_two t q there here shift w r x h =
     rw (h.placed x.to, h.placed x.from)
     (placed_piece t q there here h.line (cell_place r x.from here.end) (cell_place r x.from here.end + h.line.gap) (cell_place r x.from here.end) (cell_place r x.to here.end) (cell_place r x.to here.end) (h.begins x.from) (h.stops x.from) (omega (arith, h.stops x.to, h.line.onto)) (omega (arith, h.stops x.to, h.line.onto)))
 
-pub keeps_two : (shift : ℕ) (w r : List Cell) (c : ℕ) (k : Leaf) → Quoted shift w r → In r c → keeps_line w (shift + c) k ≡ keeps_line r c k
+pub keeps_two : (shift : ℕ) (w r : List Cell) (c : ℕ) (k : Leaf) → Fronted shift w r → In r c → keeps_line w (shift + c) k ≡ keeps_line r c k
 unfolding keeps_line
 keeps_two shift w r c leaf.Indented h low = rw (ink_two shift w r c h low, length_on shift w r h) (lt_shift shift (ink_from r c) (length r))
 keeps_two shift w r c leaf.Nothing h low = refl

@@ -19,7 +19,7 @@ use Rattle.tocmark_text_laws.proofs.Pairs.{Pairs, pairs_take, pairs_drop, After,
 use Rattle.tocmark_text_laws.proofs.QuotedContainers.{OpenedOn, IsOuter}
 use Rattle.tocmark_text_laws.proofs.QuotedPieces.{PieceOn}
 use Rattle.tocmark_text_laws.proofs.QuotedPages.{Shape, shape_of, shape_on, BlockOn, IsFirst, Inside, inside_more, one_fewer, leaf_closed_two, closed_two}
-use Rattle.tocmark_text_laws.proofs.QuotedLines.{LinesOn, quoted_lines, some_line}
+use Rattle.tocmark_text_laws.proofs.QuotedLines.{LinesOn, IsMarked, quoted_lines, some_line}
 use Rattle.tocmark_text_laws.proofs.QuotedTrees.{one_tree}
 use Rattle.tocmark_text_laws.proofs.QuotedTurns.{line_two, first_two}
 
@@ -29,31 +29,31 @@ use Rattle.tocmark_text_laws.proofs.QuotedTurns.{line_two, first_two}
 abbrev Reaches : List ℕ → List ℕ → State → State → Type 0
 Reaches t q there here = (n : ℕ) × Inside t q n there here
 
-run_two : (t q : List ℕ) (n : ℕ) (ls' ls : List Line) (there here : State) → LinesOn t q n ls' ls → 2 * n + 9 < 2 ^ 64 → Inside t q (2 * n) there here
+run_two : (t q : List ℕ) (n before : ℕ) (ls' ls : List Line) (there here : State) → LinesOn IsMarked t q before n ls' ls → 2 * n + 9 < 2 ^ 64 → Inside t q (2 * n) there here
     → Reaches t q (fold (line_taken_in core_known q) there ls') (fold (line_taken_in core_known t) here ls)
-run_two t q n [] [] there here h few g = (2 * n, g)
-run_two t q n [] (l ∷ ls) there here h few g = absurd h
-run_two t q n (l' ∷ ls') [] there here h few g = absurd h
-run_two t q n (l' ∷ ls') (l ∷ ls) there here (low, line, rest) few g =
-    run_two t q l.next ls' ls (line_taken_in core_known q there l') (line_taken_in core_known t here l) rest line.near
-    (inside_more t q (2 * n + 2 * (l.end - l.start)) (2 * l.next) (line_taken_in core_known q there l') (line_taken_in core_known t here l) (omega (arith, low, line.order, line.onto)) (line_two t q (2 * n) l' l there here line few g))
+run_two t q n before [] [] there here h few g = (2 * n, g)
+run_two t q n before [] (l ∷ ls) there here h few g = absurd h
+run_two t q n before (l' ∷ ls') [] there here h few g = absurd h
+run_two t q n before (l' ∷ ls') (l ∷ ls) there here (row, rest) few g =
+    run_two t q l.next (before + 1) ls' ls (line_taken_in core_known q there l') (line_taken_in core_known t here l) rest row.line.near
+    (inside_more t q (2 * n + 2 * (l.end - l.start)) (2 * l.next) (line_taken_in core_known q there l') (line_taken_in core_known t here l) (omega (arith, row.low, row.line.order, row.line.onto)) (line_two t q (2 * n) before n l' l there here row few g))
 
-run_first : (t q : List ℕ) (ls' ls : List Line) → LinesOn t q 0 ls' ls → 0 < length ls → Reaches t q (fold (line_taken_in core_known q) first_page ls') (fold (line_taken_in core_known t) first_page ls)
+run_first : (t q : List ℕ) (ls' ls : List Line) → LinesOn IsMarked t q 0 0 ls' ls → 0 < length ls → Reaches t q (fold (line_taken_in core_known q) first_page ls') (fold (line_taken_in core_known t) first_page ls)
 run_first t q [] [] h some = absurd (omega (arith, some))
 run_first t q [] (l ∷ ls) h some = absurd h
 run_first t q (l' ∷ ls') [] h some = absurd h
-run_first t q (l' ∷ ls') (l ∷ ls) (low, line, rest) some =
-    run_two t q l.next ls' ls (line_taken_in core_known q first_page l') (line_taken_in core_known t first_page l) rest line.near
-    (inside_more t q (2 * (l.end - l.start)) (2 * l.next) (line_taken_in core_known q first_page l') (line_taken_in core_known t first_page l) (omega (arith, line.order, line.onto)) (first_two t q l' l line))
+run_first t q (l' ∷ ls') (l ∷ ls) (row, rest) some =
+    run_two t q l.next 1 ls' ls (line_taken_in core_known q first_page l') (line_taken_in core_known t first_page l) rest row.line.near
+    (inside_more t q (2 * (l.end - l.start)) (2 * l.next) (line_taken_in core_known q first_page l') (line_taken_in core_known t first_page l) (omega (arith, row.line.order, row.line.onto)) (first_two t q 0 0 l' l row))
 
 -- all containers end
 
-times_last : (k : ℕ) (s : State) → times one_closed (suc k) s ≡ one_closed (times one_closed k s)
+pub times_last : (k : ℕ) (s : State) → times one_closed (suc k) s ≡ one_closed (times one_closed k s)
 unfolding times
 times_last zero s = refl
 times_last (suc k) s = times_last k (one_closed s)
 
-times_fewer : (k : ℕ) (s : State) → k ≤ length s.opened → length (times one_closed k s).opened ≡ length s.opened - k
+pub times_fewer : (k : ℕ) (s : State) → k ≤ length s.opened → length (times one_closed k s).opened ≡ length s.opened - k
 unfolding times
 times_fewer zero s low = omega arith
 times_fewer (suc k) s low =
@@ -115,7 +115,7 @@ all_closed t q there here (n, h) = subst (λ u. Left t q u (closed_to t 0 here))
 
 -- blocks without their places
 
-lines_same : (t q : List ℕ) (xs ys : List Piece) → Pairs (PieceOn t q) xs ys → map (line_told q) xs ≡ map (line_told t) ys
+pub lines_same : (t q : List ℕ) (xs ys : List Piece) → Pairs (PieceOn t q) xs ys → map (line_told q) xs ≡ map (line_told t) ys
 lines_same t q [] [] h = refl
 lines_same t q [] (y ∷ ys) h = absurd h
 lines_same t q (x ∷ xs) [] h = absurd h
@@ -131,7 +131,7 @@ lines_same t q (x ∷ xs) (y ∷ ys) h = ap (λ l. l ∷ map (line_told q) xs) l
         ∙ ap (made y.spaces (bytes_between t y.start y.end)) (h.0).whole
 
 -- what a shape says of a block
-abbrev shown : List ℕ → List Piece → Shape → Told
+abbrev pub shown : List ℕ → List Piece → Shape → Told
 shown text pieces s = record { depth = s.depth; sort = s.sort; loose = s.loose; list = s.list; lines = map (line_told text) (drop s.first (take s.last pieces)) }
 
 block_same : (t q : List ℕ) (ps' ps : List Piece) (x y : Block) → Pairs (PieceOn t q) ps' ps → BlockOn t q x y → told q ps' x ≡ deeper (told t ps y)

@@ -1,11 +1,11 @@
 -- How a line after a block quote marker comes into a page.
-use Rattle.std.proofs.Common.{◌≡◌, ℕ, suc, ◌+◌, ◌-◌, ◌*◌, ◌^◌, ◌<◌, ◌≤◌, Bool, true, false, ◌&&◌, if◌then◌else◌, nat_le, List, [], ◌∷◌, length, map, refl, ap, sym, subst, subst₂, ◌∙◌, arith}
+use Rattle.std.proofs.Common.{◌≡◌, ◌⊎◌, inl, inr, ℕ, suc, ◌+◌, ◌-◌, ◌*◌, ◌^◌, ◌<◌, ◌≤◌, Bool, true, false, not, ◌==◌, ◌&&◌, ◌||◌, if◌then◌else◌, nat_le, List, [], ◌∷◌, length, map, refl, ap, sym, subst, subst₂, ◌∙◌, arith}
 use Rattle.std.specs.Prelude.{Some}
 use Rattle.tocmark_event.specs.declared.event.HeadingLevel.{HeadingLevel}
-use Rattle.tocmark_read_scan.specs.Basic.{bytes_between}
+use Rattle.tocmark_read_scan.specs.Basic.{byte_at, bytes_between}
 use Rattle.tocmark_read_scan.specs.Repeat.{repeated}
 use Rattle.tocmark_read_scan.specs.declared.syntax.TheConstants.{CORE}
-use Rattle.tocmark_read_lines.specs.Cells.{cells_of, first_cursor}
+use Rattle.tocmark_read_lines.specs.Cells.{cell_byte, cells_of, first_cursor}
 use Rattle.tocmark_read_lines.specs.Containers.{container_in, matched, touched_from, raised_at}
 use Rattle.tocmark_read_lines.specs.Marks.{is_rule, tail_of}
 use Rattle.tocmark_read_lines.specs.declared.cell.Cell.{Cell}
@@ -25,11 +25,11 @@ use Rattle.tocmark_read_blocks.specs.declared.leaf.LeafStart.{LeafStart}
 use Rattle.tocmark_read_blocks.specs.declared.leaf.LeafStart.TheVariants as start
 use Rattle.tocmark_read_blocks.specs.declared.leaf.Turn.{Turn}
 use Rattle.tocmark_read_blocks.specs.declared.leaf.Turn.TheVariants as turn
-use Rattle.tocmark_text_laws.specs.Quoted.{mark_bytes}
 use Rattle.tocmark_text_laws.proofs.Pairs.{after_length}
-use Rattle.tocmark_text_laws.proofs.QuotedCells.{le_suc, Quoted, cursor_on, length_on}
-use Rattle.tocmark_text_laws.proofs.QuotedContainers.{OpenedOn, IsOuter, Opens, InLine, column_in, front_in, front_place, front_long, front_cursor, front_after, front_begins, touched_two, MatchedOn, matched_two}
-use Rattle.tocmark_text_laws.proofs.QuotedPieces.{LineOn, Beside, beside}
+use Rattle.tocmark_text_laws.proofs.QuotedCells.{le_suc, cursor_on, length_on}
+use Rattle.tocmark_text_laws.proofs.QuotedContainers.{Quoted, OpenedOn, IsOuter, Opens, InLine, column_in, front_in, front_place, front_long, front_cursor, front_after, front_begins, touched_two, MatchedOn, matched_two}
+use Rattle.tocmark_text_laws.proofs.QuotedPieces.{Beside, beside}
+use Rattle.tocmark_text_laws.proofs.QuotedLines.{Row, IsMarked}
 use Rattle.tocmark_text_laws.proofs.QuotedPages.{Inside, Firm, firm, inside_more, quote_count, raised_count, settled_firm, finished_firm, closed_two, has_text_two}
 use Rattle.tocmark_text_laws.proofs.QuotedLeaves.{place_on, leaf_on, FineLeaf, LeafOn, leaf_at_two, rule_at_two, paragraph_open, turn_on, FineTurn, TurnOn, leaf_turn_two, code_taken_firm, indented_firm, fence_firm, html_firm, text_taken_firm, rule_firm, heading_firm, underlined_firm}
 use Rattle.tocmark_text_laws.proofs.QuotedBegun.{Went, directly_two, repeated_two}
@@ -49,7 +49,7 @@ rule_or_text_two t q n l' l shift w r p there here h i = by (is_rule r (tail_of 
 underline_two : (t q : List ℕ) (n : ℕ) (l' l : Line) (shift : ℕ) (w r : List Cell) (p : LineStart) (level : HeadingLevel) (there here : State) → Beside t q l' l shift w r → Firm t q n there here
     → Inside t q n (underline_taken_in core_known q w l' (tail_of w) (place_on shift p) level there) (underline_taken_in core_known t r l (tail_of r) p level here)
 unfolding underline_taken_in metadata_in metadata_or
-underline_two t q n l' l shift w r p level there here h f = rw (has_text_two t q n (settled q there) (settled t here) g, rule_at_two shift w r p.cursor.ink h.quoted) (by (has_text (settled t here)))
+underline_two t q n l' l shift w r p level there here h f = rw (has_text_two t q n (settled q there) (settled t here) g, rule_at_two shift w r p.cursor.ink h.fronted) (by (has_text (settled t here)))
   where
     g : Firm t q n (settled q there) (settled t here)
     g = settled_firm t q n there here f
@@ -85,7 +85,7 @@ core_at_two : (t q : List ℕ) (n : ℕ) (l' l : Line) (shift : ℕ) (w r : List
     → LeafOn shift r p.cursor (goes_directly p.depth here) (core_at q w l' (tail_of w) there (place_on shift p)) (core_at t r l (tail_of r) here p)
 core_at_two t q n l' l shift w r p there here h i g =
     rw (directly_two t q n p.depth there here g, g.leaf, rest)
-    (leaf_at_two shift w r (bytes_between t (start_of r p l) l.end) p.cursor (is_paragraph here.leaf) (goes_directly p.depth here) h.quoted i)
+    (leaf_at_two shift w r (bytes_between t (start_of r p l) l.end) p.cursor (is_paragraph here.leaf) (goes_directly p.depth here) h.fronted i)
   where
     rest : bytes_between q (start_of w (place_on shift p) l') l'.end ≡ bytes_between t (start_of r p l) l.end
     rest = ap (λ a. bytes_between q a l'.end) (h.placed p.cursor.ink) ∙ ap (bytes_between q (start_of r p l + h.line.gap)) h.line.ends ∙ h.line.window (start_of r p l) l.end (h.begins p.cursor.ink) h.line.onto
@@ -108,7 +108,7 @@ leaf_started_two : (t q : List ℕ) (n : ℕ) (l' l : Line) (shift : ℕ) (w r :
 unfolding leaf_started_in
 leaf_started_two t q n l' l shift w r p there here h i g =
     went_started t q (n + 2 * length r) l' l shift w r _ _ h
-    (repeated_two t q n l' l shift w r (length w) (length r) p there here h (omega (arith, length_on shift w r h.quoted)) (omega arith) i g)
+    (repeated_two t q n l' l shift w r (length w) (length r) p there here h (omega (arith, length_on shift w r h.fronted)) (omega arith) i g)
 
 ended_two : (t q : List ℕ) (n : ℕ) (l' l : Line) (there here : State) → l'.number ≡ l.number → Firm t q n there here → Inside t q n (leaf_ended l' there) (leaf_ended l here)
 unfolding leaf_ended
@@ -138,7 +138,7 @@ turn_of_two t q n l' l shift w r p there here h i g = rw (after_length IsOuter O
     less = le_suc (length here.opened) p.depth
 
     by : (b : Bool) → TurnOn shift r here.leaf (if b then leaf_turn q w l' (cursor_on shift p.cursor) here.leaf else turn.Passes) (if b then leaf_turn t r l p.cursor here.leaf else turn.Passes)
-    by true = leaf_turn_two t q l' l shift w r p.cursor here.leaf g.core h.quoted i
+    by true = leaf_turn_two t q l' l shift w r p.cursor here.leaf g.core h.fronted i
     by false = (refl, tt)
 
 taken_at_two : (t q : List ℕ) (n : ℕ) (l' l : Line) (shift : ℕ) (w r : List Cell) (p : LineStart) (there here : State) → Beside t q l' l shift w r → InLine r p.cursor → Inside t q (n + 2 * p.cursor.column) there here
@@ -151,7 +151,7 @@ taken_at_two t q n l' l shift w r p there here h i g =
     found : TurnOn shift r here.leaf (turn_of q w l' (place_on shift p) there) (turn_of t r l p here)
     found = turn_of_two t q (n + 2 * p.cursor.column) l' l shift w r p there here h i g
 
-touched_count : (count end line : ℕ) (qs : List ℕ) (os : List Opened) → quote_count (touched_from count end line qs os) ≡ quote_count os
+pub touched_count : (count end line : ℕ) (qs : List ℕ) (os : List Opened) → quote_count (touched_from count end line qs os) ≡ quote_count os
 touched_count count end line [] os = refl
 touched_count count end line (x ∷ qs) os = by (nat_le count x) (touched_count count end line qs (raised_at os x end line))
   where
@@ -180,13 +180,25 @@ touched_inside t q n l' l depth there here number h = record {
         (subst (λ m. Opens n (touched_from (suc depth) l'.end m (0 ∷ map suc here.quotes) there.opened) (touched_from depth l.end l.number here.quotes here.opened)) (sym number)
         (touched_two n depth l'.end l.end l.number here.quotes there.opened here.opened h.opened))
 
-cells_two : (t q : List ℕ) (n : ℕ) (l' l : Line) (shift : ℕ) (w r : List Cell) (there here : State) → Beside t q l' l shift w r → n + 9 < 2 ^ 64 → Inside t q n there here
+-- the columns in front are the marker
+marked_front : (t q : List ℕ) (l' l : Line) (shift : ℕ) (w r : List Cell) (n : ℕ) (h : Beside t q l' l shift w r) → IsMarked n h.fronted.front (byte_at t l.start) → Quoted shift w r
+marked_front t q l' l shift w r n h (mark, e, (near, apart)) = record { fronted = h.fronted; mark = mark; near = near; apart = by h.first; whole = e }
+  where
+    spaced : (k : Bool) → (k || true) ≡ true
+    spaced true = refl
+    spaced false = refl
+
+    by : ((length r ≡ 0) × (cell_byte r 0 ≡ 10)) ⊎ (cell_byte r 0 ≡ byte_at t l.start) → (mark.spaced || not (cell_byte r 0 == 32)) ≡ true
+    by (inl g) = ap (λ b. mark.spaced || not (b == 32)) (g.1) ∙ spaced mark.spaced
+    by (inr g) = ap (λ b. mark.spaced || not (b == 32)) g ∙ apart
+
+cells_two : (t q : List ℕ) (n : ℕ) (l' l : Line) (shift : ℕ) (w r : List Cell) (there here : State) → Beside t q l' l shift w r → Quoted shift w r → n + 9 < 2 ^ 64 → Inside t q n there here
     → Inside t q (n + 2 * length r) (cells_taken_in core_known q w l' there) (cells_taken_in core_known t r l here)
 unfolding cells_taken_in
-cells_two t q n l' l shift w r there here h few g = by (matched w there.opened there.quotes) (matched r here.opened here.quotes) found
+cells_two t q n l' l shift w r there here h m few g = by (matched w there.opened there.quotes) (matched r here.opened here.quotes) found
   where
     found : MatchedOn shift r (matched w there.opened there.quotes) (matched r here.opened here.quotes)
-    found = subst (λ (qs : List ℕ). MatchedOn shift r (matched w there.opened qs) (matched r here.opened here.quotes)) (sym g.quotes) (matched_two n shift w r there.opened here.opened here.quotes h.quoted few g.opened)
+    found = subst (λ (qs : List ℕ). MatchedOn shift r (matched w there.opened qs) (matched r here.opened here.quotes)) (sym g.quotes) (matched_two n shift w r there.opened here.opened here.quotes m few g.opened)
 
     by : (a b : ℕ × Cursor) → MatchedOn shift r a b
         → Inside t q (n + 2 * length r) (taken_at_in core_known q w l' (record { cursor = a.1; depth = a.0 }) (touched l' (a.0) there)) (taken_at_in core_known t r l (record { cursor = b.1; depth = b.0 }) (touched l (b.0) here))
@@ -194,11 +206,10 @@ cells_two t q n l' l shift w r there here h few g = by (matched w there.opened t
         (inside_more t q n (n + 2 * cursor.column) (touched l' (suc depth) there) (touched l depth here) (omega arith) (touched_inside t q n l' l depth there here h.line.number g)))
 
 -- a line after the first one
-pub line_two : (t q : List ℕ) (n : ℕ) (l' l : Line) (there here : State) → LineOn t q l' l → n + 9 < 2 ^ 64 → Inside t q n there here
+pub line_two : (t q : List ℕ) (n before m : ℕ) (l' l : Line) (there here : State) → Row IsMarked t q before m l' l → n + 9 < 2 ^ 64 → Inside t q n there here
     → Inside t q (n + 2 * (l.end - l.start)) (line_taken_in core_known q there l') (line_taken_in core_known t here l)
 unfolding line_taken_in
-line_two t q n l' l there here h few g =
-    inside_more t q (n + 2 * length r) (n + 2 * (l.end - l.start)) _ _ (omega (arith, both.wide)) (cells_two t q n l' l shift w r there here both few g)
+line_two t q n before m l' l there here h few g = by (beside t q l' l h.line)
   where
     w : List Cell
     w = cells_of [] l'.start (bytes_between q l'.start l'.end)
@@ -207,10 +218,12 @@ line_two t q n l' l there here h few g =
     r = cells_of [] l.start (bytes_between t l.start l.end)
 
     shift : ℕ
-    shift = length (mark_bytes h.mark)
+    shift = length h.line.front
 
-    both : Beside t q l' l shift w r
-    both = beside t q l' l h
+    by : (both : Beside t q l' l shift w r) × (both.fronted.front ≡ h.line.front) → Inside t q (n + 2 * (l.end - l.start)) (cells_taken_in core_known q w l' there) (cells_taken_in core_known t r l here)
+    by (both, same) =
+        inside_more t q (n + 2 * length r) (n + 2 * (l.end - l.start)) _ _ (omega (arith, both.wide))
+        (cells_two t q n l' l shift w r there here both (marked_front t q l' l shift w r before both (subst (λ xs. IsMarked before xs (byte_at t l.start)) (sym same) h.kind)) few g)
 
 -- the first line
 
@@ -221,7 +234,7 @@ unfolding repeated container_once_in
 opened_first q w l' n p e = rw e refl
 
 -- on a page without blocks, a line begins containers, and then a leaf
-first_taken : (t : List ℕ) (cs : List Cell) (line : Line) (c : Cursor) → first_cursor cs ≡ c → cells_taken_in core_known t cs line first_page ≡ started_at_in core_known t cs line (tail_of cs) (containers_opened_in CORE t cs line (tail_of cs) (record { cursor = c; depth = 0 }) first_page)
+pub first_taken : (t : List ℕ) (cs : List Cell) (line : Line) (c : Cursor) → first_cursor cs ≡ c → cells_taken_in core_known t cs line first_page ≡ started_at_in core_known t cs line (tail_of cs) (containers_opened_in CORE t cs line (tail_of cs) (record { cursor = c; depth = 0 }) first_page)
 unfolding cells_taken_in touched turn_in turn_of leaf_turn passed_in leaf_started_in
 first_taken t cs line c e = ap (λ x. started_at_in core_known t cs line (tail_of cs) (containers_opened_in CORE t cs line (tail_of cs) (record { cursor = x; depth = 0 }) first_page)) e
 
@@ -245,31 +258,28 @@ quoted_place : (q : List ℕ) (shift : ℕ) (w r : List Cell) (l' : Line) (h : Q
 unfolding quote_opened closed_to leaf_closed times list_left is_list list_of is_apart loosened had_marked begun opened_with is_quote
 quoted_place q shift w r l' h = ap (λ c. record { cursor = c; depth = 1 }) (front_after shift w r h)
 
-first_went : (t q : List ℕ) (l' l : Line) (shift : ℕ) (w r : List Cell) (h : Beside t q l' l shift w r)
-    → Went t q (0 + 2 * length r) shift r (containers_opened_in CORE q w l' (tail_of w) (record { cursor = front_place h.quoted.mark.spaces; depth = 0 }) first_page) (containers_opened_in CORE t r l (tail_of r) (record { cursor = first_cursor r; depth = 0 }) first_page)
-first_went t q l' l shift w r h =
+first_went : (t q : List ℕ) (l' l : Line) (shift : ℕ) (w r : List Cell) (h : Beside t q l' l shift w r) (m : Quoted shift w r)
+    → Went t q (0 + 2 * length r) shift r (containers_opened_in CORE q w l' (tail_of w) (record { cursor = front_place m.mark.spaces; depth = 0 }) first_page) (containers_opened_in CORE t r l (tail_of r) (record { cursor = first_cursor r; depth = 0 }) first_page)
+first_went t q l' l shift w r h m =
     subst (λ n. Went t q (0 + 2 * length r) shift r (repeated (container_once_in CORE q w l' (tail_of w)) n front first_page) (repeated (container_once_in CORE t r l (tail_of r)) (length r) place first_page)) (sym long)
     (subst (λ x. Went t q (0 + 2 * length r) shift r x (repeated (container_once_in CORE t r l (tail_of r)) (length r) place first_page)) (sym more)
-    (repeated_two t q 0 l' l shift w r (shift - 1 + length r) (length r) place ((quote_opened q w l' front first_page).0) first_page h (omega arith) (omega arith) (front_in r (omega (arith, h.quoted.fits))) (inside_more t q 0 (0 + 2 * place.cursor.column) ((quote_opened q w l' front first_page).0) first_page (omega arith) (quoted_page t q w l' h.quoted.mark.spaces))))
+    (repeated_two t q 0 l' l shift w r (shift - 1 + length r) (length r) place ((quote_opened q w l' front first_page).0) first_page h (omega arith) (omega arith) (front_in r (omega (arith, h.fronted.fits))) (inside_more t q 0 (0 + 2 * place.cursor.column) ((quote_opened q w l' front first_page).0) first_page (omega arith) (quoted_page t q w l' m.mark.spaces))))
   where
     front : LineStart
-    front = record { cursor = front_place h.quoted.mark.spaces; depth = 0 }
+    front = record { cursor = front_place m.mark.spaces; depth = 0 }
 
     place : LineStart
     place = record { cursor = first_cursor r; depth = 0 }
 
     long : length w ≡ suc (shift - 1 + length r)
-    long = omega (arith, length_on shift w r h.quoted, front_long shift w r h.quoted)
+    long = omega (arith, length_on shift w r h.fronted, front_long shift w r m)
 
     more : repeated (container_once_in CORE q w l' (tail_of w)) (suc (shift - 1 + length r)) front first_page ≡ repeated (container_once_in CORE q w l' (tail_of w)) (shift - 1 + length r) (place_on shift place) ((quote_opened q w l' front first_page).0)
-    more = opened_first q w l' (shift - 1 + length r) front (front_begins shift w r (goes_directly 0 first_page) h.quoted) ∙ ap (λ d. repeated (container_once_in CORE q w l' (tail_of w)) (shift - 1 + length r) d ((quote_opened q w l' front first_page).0)) (quoted_place q shift w r l' h.quoted)
+    more = opened_first q w l' (shift - 1 + length r) front (front_begins shift w r (goes_directly 0 first_page) m) ∙ ap (λ d. repeated (container_once_in CORE q w l' (tail_of w)) (shift - 1 + length r) d ((quote_opened q w l' front first_page).0)) (quoted_place q shift w r l' m)
 
-pub first_two : (t q : List ℕ) (l' l : Line) → LineOn t q l' l → Inside t q (2 * (l.end - l.start)) (line_taken_in core_known q first_page l') (line_taken_in core_known t first_page l)
+pub first_two : (t q : List ℕ) (before m : ℕ) (l' l : Line) → Row IsMarked t q before m l' l → Inside t q (2 * (l.end - l.start)) (line_taken_in core_known q first_page l') (line_taken_in core_known t first_page l)
 unfolding line_taken_in
-first_two t q l' l h =
-    inside_more t q (0 + 2 * length r) (2 * (l.end - l.start)) _ _ (omega (arith, both.wide))
-    (subst₂ (λ x y. Inside t q (0 + 2 * length r) x y) (sym (first_taken q w l' (front_place both.quoted.mark.spaces) (front_cursor shift w r both.quoted))) (sym (first_taken t r l (first_cursor r) refl))
-    (went_started t q (0 + 2 * length r) l' l shift w r _ _ both (first_went t q l' l shift w r both)))
+first_two t q before m l' l h = by (beside t q l' l h.line)
   where
     w : List Cell
     w = cells_of [] l'.start (bytes_between q l'.start l'.end)
@@ -278,7 +288,11 @@ first_two t q l' l h =
     r = cells_of [] l.start (bytes_between t l.start l.end)
 
     shift : ℕ
-    shift = length (mark_bytes h.mark)
+    shift = length h.line.front
 
-    both : Beside t q l' l shift w r
-    both = beside t q l' l h
+    by : (both : Beside t q l' l shift w r) × (both.fronted.front ≡ h.line.front) → Inside t q (2 * (l.end - l.start)) (cells_taken_in core_known q w l' first_page) (cells_taken_in core_known t r l first_page)
+    by (both, same) =
+        let front : Quoted shift w r = marked_front t q l' l shift w r before both (subst (λ xs. IsMarked before xs (byte_at t l.start)) (sym same) h.kind) in
+        inside_more t q (0 + 2 * length r) (2 * (l.end - l.start)) _ _ (omega (arith, both.wide))
+        (subst₂ (λ x y. Inside t q (0 + 2 * length r) x y) (sym (first_taken q w l' (front_place front.mark.spaces) (front_cursor shift w r front))) (sym (first_taken t r l (first_cursor r) refl))
+        (went_started t q (0 + 2 * length r) l' l shift w r _ _ both (first_went t q l' l shift w r both front)))

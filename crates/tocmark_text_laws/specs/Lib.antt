@@ -11,3 +11,4 @@ pub mod Proper
 pub mod Kept
 pub mod Quoted
 pub mod Sequence
+pub mod Items
