@@ -60,13 +60,13 @@ fn touch(one: (usize, usize), other: (usize, usize)) -> bool {
 
 /// The actions so far, as JSON.
 #[derive(Drop)]
-struct Actions<'a, F> {
+struct ActionList<'a, F> {
     workspace: &'a Workspace<'a, F>,
     asking: &'a Asking<'a, F>,
     json: String,
 }
 
-impl<F: Files> Actions<'_, F> {
+impl<F: Files> ActionList<'_, F> {
     /// Adds what makes these edits, unless there are none.
     fn add(&mut self, title: &str, kind: &str, edits: &[Edit]) -> Result<(), AllocError> {
         if edits.is_empty() {
@@ -167,13 +167,13 @@ impl<F: Files> Actions<'_, F> {
 }
 
 /// What the server offers to do with a document, as JSON.
-pub(crate) fn actions<F: Files>(
+pub(crate) fn offered<F: Files>(
     workspace: &Workspace<'_, F>,
     asking: &Asking<'_, F>,
     configured: &Result<Configured, Unknown>,
     call: Call<'_>,
 ) -> Result<String, Fault> {
-    let mut actions = Actions {
+    let mut actions = ActionList {
         workspace,
         asking,
         json: String::from_str(asking.gathering.alloc, "[")?,
@@ -187,7 +187,7 @@ pub(crate) fn actions<F: Files>(
     if is_wanted(call, CONTENTS) {
         actions.add_contents()?;
     }
-    let Actions { mut json, .. } = actions;
+    let ActionList { mut json, .. } = actions;
     json.push(']')?;
     Ok(json)
 }

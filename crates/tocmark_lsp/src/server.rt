@@ -1,6 +1,6 @@
 //! The server: what it keeps, and what it answers to each message.
 
-use crate::actions::actions;
+use crate::actions::offered;
 use crate::checking::problems;
 use crate::completion::completions;
 use crate::configured::{Configured, Lookup, Unknown};
@@ -528,7 +528,7 @@ impl Server {
                         return Ok(String::from_str(self.alloc, "[]")?);
                     }
                     let workspace = self.workspace(files, terms);
-                    return actions(&workspace, &asking, &configured, call);
+                    return offered(&workspace, &asking, &configured, call);
                 }
                 self.answer_about_links(files, request, call, &asking)
             }
