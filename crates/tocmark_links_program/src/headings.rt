@@ -103,9 +103,11 @@ fn indented_line(text: &str) -> Option<usize> {
 
 /// Why the table of contents of a file can't be filled.
 fn contents_fault(file: String, text: &str, fault: changed::Fault) -> Fault {
-    if let changed::Fault::Misread { .. } = &fault
-        && let Some(line) = indented_line(text)
-    {
+    let is_of_place = matches!(
+        &fault,
+        changed::Fault::Misread { .. } | changed::Fault::NoContents
+    );
+    if is_of_place && let Some(line) = indented_line(text) {
         return Fault::Indented(file, line);
     }
     fault_of(file, fault)

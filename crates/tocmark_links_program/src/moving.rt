@@ -42,13 +42,14 @@ fn moved_last(alloc: Global, edits: Vec<Edit>, old: &str) -> Result<Vec<Edit>, A
 }
 
 impl Site {
-    /// The path in the tree that a moved path gets by a word of the command line: below it, if a folder is there. It fails if
-    /// something has that path.
+    /// The path in the tree that a moved path gets by a word of the command line: below it, if a folder is there, or if a file is
+    /// moved and the word ends with a slash. It fails if something has that path.
     fn new_path(&self, rt: &HostRuntime, old: &str, word: &str) -> Result<String, Fault> {
         let path = self.root.inner(rt, word)?;
         let full = self.root.full(rt.alloc(), path.as_str())?;
         let is_folder = fs::symlink_metadata(rt, full.as_str()).is_ok_and(|found| found.is_dir());
-        let new = if is_folder {
+        let means_folder = word.ends_with('/') && !self.tree.has_folder(old);
+        let new = if is_folder || means_folder {
             joined(rt.alloc(), path.as_str(), folder_and_name(old).1)?
         } else {
             path
