@@ -52,21 +52,21 @@ run_in item first t q n before (l' ∷ ls') (l ∷ ls) there here (row, rest) la
     (inside_more item t q (2 * n + 2 * (l.end - l.start)) (2 * l.next) (line_taken_in core_known q there l') (line_taken_in core_known t here l) (omega (arith, row.low, row.line.order, row.line.onto)) (line_in item first t q (2 * n) before n l' l there here row late (one.0) wide few g))
 
 -- what is known of the text
-record Fits (m : ItemMark) (t : List ℕ) : Type 0 where
-  kind : IsItemMark m
-  begins : BeginsItem m t
-  break : is_break (marker_bytes m ++ first_line t) ≡ false
+pub record Fits (m : ItemMark) (t : List ℕ) : Type 0 where
+  pub kind : IsItemMark m
+  pub begins : BeginsItem m t
+  pub break : is_break (marker_bytes m ++ first_line t) ≡ false
 
 -- the spaces at the front of the first line
 gaps : (m : ItemMark) (t : List ℕ) → BeginsItem m t → Gaps m.after (spaces_of (first_line t)) × (spaces_of (first_line t) < length (first_line t))
 gaps m t (inl h) = (inl (ink_front t h).0, omega (arith, (ink_front t h).0, (ink_front t h).1))
 gaps m t (inr (e, h)) = (inr (e, (code_front 4 t h).0), (code_front 4 t h).1)
 
-line_begins : (m : ItemMark) (t : List ℕ) → BeginsItem m t → BeginsLine t
+pub line_begins : (m : ItemMark) (t : List ℕ) → BeginsItem m t → BeginsLine t
 line_begins m t (inl h) = ink_line t h
 line_begins m t (inr (e, h)) = code_line t h
 
-first_in : (m : ItemMark) (t q : List ℕ) (l' l : Line) → Fits m t → Row (IsInItem (item_front m) (item_of m).width) t q 0 0 l' l → l.start ≡ 0 → 0 < l.end → IsLine t l
+pub first_in : (m : ItemMark) (t q : List ℕ) (l' l : Line) → Fits m t → Row (IsInItem (item_front m) (item_of m).width) t q 0 0 l' l → l.start ≡ 0 → 0 < l.end → IsLine t l
     → Inside (item_of m) t q (2 * (l.end - l.start)) (line_taken_in core_known q first_page l') (line_taken_in core_known t first_page l)
 unfolding line_taken_in
 first_in m t q l' l f h start some one = by (beside t q l' l h.line)
@@ -220,6 +220,14 @@ all_same item t q ps' ps (x ∷ z ∷ xs) ys h u =
     ∙ ap (λ b. outer_list item.number x.loose ∷ b ∷ map (told q ps') xs) (ap (shown q ps') (u.1.0))
     ∙ ap (λ bs. outer_list item.number x.loose ∷ first_item ∷ bs) (blocks_same t q ps' ps xs ys h (u.1.1))
 
+-- such a text has a byte
+pub begins_some : (m : ItemMark) (t : List ℕ) → BeginsItem m t → 0 < length t
+begins_some m t h = by t (line_begins m t h)
+  where
+    by : (xs : List ℕ) → BeginsLine xs → 0 < length xs
+    by [] g = absurd g
+    by (x ∷ xs) g = omega arith
+
 pub item_blocks : MarksMakeAnItem
 unfolding blocks_in page_in known_of
 item_blocks m bare t ok starts plain break fits = record {
@@ -236,11 +244,7 @@ item_blocks m bare t ok starts plain break fits = record {
     line = line_begins m t starts
 
     some : 0 < length t
-    some = by t line
-      where
-        by : (xs : List ℕ) → BeginsLine xs → 0 < length xs
-        by [] h = absurd h
-        by (x ∷ xs) h = omega arith
+    some = begins_some m t starts
 
     left : Left (item_of m) t q (closed_to q 0 (fold (line_taken_in core_known q) first_page (lines_of q))) (closed_to t 0 (fold (line_taken_in core_known t) first_page (lines_of t)))
     left = all_closed (item_of m) t q _ _

@@ -83,3 +83,8 @@ pub mod ItemTrees
 pub mod ItemLines
 pub mod ItemRun
 pub mod ItemRows
+pub mod Tight
+pub mod TightWalk
+pub mod TightItem
+pub mod TightIdle
+pub mod LooseRows

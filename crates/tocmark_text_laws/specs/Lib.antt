@@ -12,3 +12,4 @@ pub mod Kept
 pub mod Quoted
 pub mod Sequence
 pub mod Items
+pub mod Loose
