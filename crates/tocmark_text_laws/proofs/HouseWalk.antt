@@ -260,7 +260,7 @@ begun_home t cs line place s (Some (begins.Item i)) k h = home_shut _ (item_shut
 begun_home t cs line place s (Some (begins.Footnote n)) k h = absurd cc
 begun_home t cs line place s (Some (begins.Definition d)) k h = absurd cc
 
-containers_home : (t : List ℕ) (cs : List Cell) (line : Line) (tail : Tail) (place : LineStart) (s : State) → Home s → Home ((containers_opened_in CORE t cs line tail place s).0)
+pub containers_home : (t : List ℕ) (cs : List Cell) (line : Line) (tail : Tail) (place : LineStart) (s : State) → Home s → Home ((containers_opened_in CORE t cs line tail place s).0)
 unfolding container_once_in
 containers_home t cs line tail place s h =
     repeated_keeps (λ (u : State). Home u) (container_once_in CORE t cs line tail)
@@ -281,7 +281,7 @@ turned_home t cs line place s (turn.Takes column) k h = code_home t cs column li
 turned_home t cs line place s turn.Passes k h = leaf_started_home t cs line place s h
 turned_home t cs line place s (turn.Row x) k h = absurd cc
 
-line_home : (t : List ℕ) (line : Line) (s : State) → is_core s.leaf ≡ true → Home s → Home (line_taken_in core_known t s line)
+pub line_home : (t : List ℕ) (line : Line) (s : State) → is_core s.leaf ≡ true → Home s → Home (line_taken_in core_known t s line)
 unfolding line_taken_in cells_taken_in touched turn_in
 line_home t line s c h = by (matched cells s.opened s.quotes)
   where
@@ -291,7 +291,7 @@ line_home t line s c h = by (matched cells s.opened s.quotes)
     by : (found : ℕ × Cursor) → Home (taken_at_in core_known t cells line (record { cursor = found.1; depth = found.0 }) (touched line (found.0) s))
     by (depth, cursor) = turned_home t cells line (record { cursor = cursor; depth = depth }) (touched line depth s) _ (turn_of_core t cells line (record { cursor = cursor; depth = depth }) (touched line depth s) c) (same_home s _ refl (touched_containers depth line.end line.number s.quotes s.opened) refl h)
 
-lines_home : (t : List ℕ) (ls : List Line) (s : State) → is_core s.leaf ≡ true → Home s → Home (fold (line_taken_in core_known t) s ls)
+pub lines_home : (t : List ℕ) (ls : List Line) (s : State) → is_core s.leaf ≡ true → Home s → Home (fold (line_taken_in core_known t) s ls)
 lines_home t [] s c h = h
 lines_home t (l ∷ ls) s c h = lines_home t ls (line_taken_in core_known t s l) (line_core t l s c) (line_home t l s c h)
 

@@ -80,7 +80,7 @@ in_list w [] = w
 in_list w (c ∷ cs) = in_list (lists c) cs
 
 -- items are in lists, and nothing else is
-abbrev Chain : Bool → List Container → Type 0
+abbrev pub Chain : Bool → List Container → Type 0
 Chain w [] = Unit
 Chain w (c ∷ cs) = (is_entry c ≡ w) × Chain (lists c) cs
 
@@ -249,7 +249,7 @@ leaf_closed_house t s h = by s.leaf
     by (leaf.Table x) = same_house s (table_finished x s) (same_numbers shape s.blocks x.block (λ (b : Block). record b { end = s.end }) (λ b. refl)) (raised_containers s.opened (length s.opened - 1) s.end s.line) h
 
 -- the innermost container ends
-one_containers : (s : State) → (shapes (one_closed s).blocks ≡ shapes s.blocks) × (containers (one_closed s).opened ≡ (if is_some (slice_get s.opened (length s.opened - 1)) then take (length s.opened - 1) (containers s.opened) else containers s.opened))
+pub one_containers : (s : State) → (shapes (one_closed s).blocks ≡ shapes s.blocks) × (containers (one_closed s).opened ≡ (if is_some (slice_get s.opened (length s.opened - 1)) then take (length s.opened - 1) (containers s.opened) else containers s.opened))
 unfolding one_closed ended
 one_containers s = by (slice_get s.opened (length s.opened - 1))
   where

@@ -72,6 +72,14 @@ pub mod SequenceTrees
 pub mod SequenceRun
 pub mod SequenceBlank
 pub mod SequenceRows
+pub mod ListEndsClosed
+pub mod ListEndsLine
+pub mod ListEndsBlank
+pub mod ListEndsWidths
+pub mod ListEndsLeaves
+pub mod ListEndsFirst
+pub mod ListEndsRun
+pub mod ListEndsRows
 pub mod ItemContainers
 pub mod ItemPages
 pub mod ItemLeaves

@@ -40,7 +40,7 @@ touched_none count end line (q ∷ qs) = by (nat_le count q) (touched_none count
     by true h = refl
     by false h = h
 
-passes_blank : (t : List ℕ) (l : Line) (c : Cursor) (k : Leaf) → ends_before_blank k ≡ true → leaf_turn t [] l c k ≡ turn.Passes
+pub passes_blank : (t : List ℕ) (l : Line) (c : Cursor) (k : Leaf) → ends_before_blank k ≡ true → leaf_turn t [] l c k ≡ turn.Passes
 unfolding leaf_turn
 passes_blank t l c leaf.Nothing h = refl
 passes_blank t l c leaf.Paragraph h = refl
@@ -105,7 +105,7 @@ blank_line t a b s h =
     ∙ empty_cells t (line a b b (b + 1)) s h
 
 -- the open quotes are known
-quotes_known : (c n : ℕ) (s : State) → Rests 0 n c n s → s.quotes ≡ quotes_of 0 (containers s.opened)
+pub quotes_known : (c n : ℕ) (s : State) → Rests 0 n c n s → s.quotes ≡ quotes_of 0 (containers s.opened)
 quotes_known c n s (calm e k) = (k.2).quotes
 quotes_known c n s (leafed w low fs b k) = (k.sorted).quotes
 
@@ -119,7 +119,7 @@ blank_page f there here p same qs known h = by there.opened here.opened refl p k
     by (x ∷ xs) (y ∷ ys) e p k h = quote_first x xs (quotes_of 1 (containers ys)) e (qs ∙ k ∙ ap (λ b. if b then 0 ∷ quotes_of 1 (containers ys) else quotes_of 1 (containers ys)) h)
 
 -- the lines of a text and of an empty line
-one_line : (q : List ℕ) (a b : ℕ) → lines_from q a b b (10 ∷ []) ≡ line a b b (b + 1) ∷ []
+pub one_line : (q : List ℕ) (a b : ℕ) → lines_from q a b b (10 ∷ []) ≡ line a b b (b + 1) ∷ []
 one_line q a b =
     ap (λ k. if k then line a b (line_stop q b 10 b) (b + 1) ∷ lines_from q (a + 1) (b + 1) (b + 1) [] else lines_from q a b (b + 1) []) (feed_ends q 10 b refl)
     ∙ ap (λ n. line a b n (b + 1) ∷ lines_from q (a + 1) (b + 1) (b + 1) []) (feed_stop q b)

@@ -75,7 +75,7 @@ past_self [] R = tt
 past_self (f ∷ fs) R = (refl, past_self fs R)
 
 -- the page after the first text, with all of it in front
-begin_onward : (t q : List ℕ) (s : State) (d : ℕ) → s.leaf ≡ leaf.Nothing → s.opened ≡ [] → s.quotes ≡ [] → length s.pieces + 1 < 2 ^ 64 - 1
+pub begin_onward : (t q : List ℕ) (s : State) (d : ℕ) → s.leaf ≡ leaf.Nothing → s.opened ≡ [] → s.quotes ≡ [] → length s.pieces + 1 < 2 ^ 64 - 1
     → Onward t q (record { blocks = s.blocks; pieces = s.pieces; definitions = s.definitions; lines = d }) 0 s first_page
 unfolding is_core is_shut
 begin_onward t q s d l o qs room = record {
@@ -137,7 +137,7 @@ block_later t q f n ps' ps x y h u =
     made : Option ℕ → Told
     made list = record { depth = y.depth; sort = sort_of t y.kind; loose = y.loose; list = list; lines = map (line_told t) (drop y.first (take y.last ps)) }
 
-blocks_later : (t q : List ℕ) (f : Earlier) (n : ℕ) (ps' ps : List Piece) (fs xs ys : List Block) → Past f.pieces (PieceOn t q) ps' ps → Past fs (BlockOn t q f n) xs ys → map (told q ps') xs ≡ map (told q ps') fs ++ map (later (length f.blocks)) (map (told t ps) ys)
+pub blocks_later : (t q : List ℕ) (f : Earlier) (n : ℕ) (ps' ps : List Piece) (fs xs ys : List Block) → Past f.pieces (PieceOn t q) ps' ps → Past fs (BlockOn t q f n) xs ys → map (told q ps') xs ≡ map (told q ps') fs ++ map (later (length f.blocks)) (map (told t ps) ys)
 blocks_later t q f n ps' ps [] [] [] h u = refl
 blocks_later t q f n ps' ps [] [] (y ∷ ys) h u = absurd u
 blocks_later t q f n ps' ps [] (x ∷ xs) [] h u = absurd u
@@ -157,7 +157,7 @@ no_lines zero (suc last) ps h = absurd (omega (arith, h))
 no_lines (suc first) (suc last) [] h = refl
 no_lines (suc first) (suc last) (p ∷ ps) h = no_lines first last ps (omega (arith, h))
 
-take_front : {B : Type 0} (R : Piece → B → Type 0) (n : ℕ) (fs xs : List Piece) (ys : List B) → n ≤ length fs → Past fs R xs ys → take n xs ≡ take n fs
+pub take_front : {B : Type 0} (R : Piece → B → Type 0) (n : ℕ) (fs xs : List Piece) (ys : List B) → n ≤ length fs → Past fs R xs ys → take n xs ≡ take n fs
 take_front R zero fs xs ys h k = refl
 take_front R (suc n) [] xs ys h k = absurd (omega (arith, h))
 take_front R (suc n) (f ∷ fs) [] ys h k = absurd k
@@ -221,11 +221,11 @@ blocks_front : (t : List ℕ) (c : ℕ) (ps : List Piece) (bs : List Block) → 
 blocks_front t c ps [] = refl
 blocks_front t c ps (b ∷ bs) = ap (λ z. z ∷ map (told (c ∷ t) (map piece_on ps)) (map block_on bs)) (block_front t c ps b) ∙ ap (λ zs. told t ps b ∷ zs) (blocks_front t c ps bs)
 
-record Same (t u : List ℕ) : Type 0 where
-  blocks : blocks_told t (blocks_in CORE t) ≡ blocks_told u (blocks_in CORE u)
-  definitions : (blocks_in CORE t).definitions ≡ (blocks_in CORE u).definitions
+pub record Same (t u : List ℕ) : Type 0 where
+  pub blocks : blocks_told t (blocks_in CORE t) ≡ blocks_told u (blocks_in CORE u)
+  pub definitions : (blocks_in CORE t).definitions ≡ (blocks_in CORE u).definitions
 
-same_after : (n : ℕ) (u : List ℕ) → n + length u + 3 < 2 ^ 64 → Same (replicate n 10 ++ u) u
+pub same_after : (n : ℕ) (u : List ℕ) → n + length u + 3 < 2 ^ 64 → Same (replicate n 10 ++ u) u
 same_after zero u small = record { blocks = refl; definitions = refl }
 same_after (suc n) u small = by (same_after n u (omega (arith, small)))
   where
@@ -243,7 +243,7 @@ same_after (suc n) u small = by (same_after n u (omega (arith, small)))
 
 -- the first block of a text is in no container
 
-outermost : (t : List ℕ) → Outermost (blocks_told t (blocks_in CORE t))
+pub outermost : (t : List ℕ) → Outermost (blocks_told t (blocks_in CORE t))
 outermost t = by (blocks_in CORE t).blocks (blocks_housed t)
   where
     by : (bs : List Block) → AreHoused [] bs → Outermost (map (told t (blocks_in CORE t).pieces) bs)
@@ -257,7 +257,7 @@ feed_end [] = refl
 feed_end (x ∷ []) = refl
 feed_end (x ∷ y ∷ ys) = feed_end (y ∷ ys)
 
-all_back : {A : Type 0} (P : A → Type 0) (xs ys : List A) → AllByRecursion P (xs ++ ys) → AllByRecursion P ys
+pub all_back : {A : Type 0} (P : A → Type 0) (xs ys : List A) → AllByRecursion P (xs ++ ys) → AllByRecursion P ys
 all_back P [] ys h = h
 all_back P (x ∷ xs) ys h = all_back P xs ys (h.1)
 
@@ -278,7 +278,7 @@ none_of [] e = refl
 none_of (o ∷ os) e = absurd (omega (arith, e))
 
 -- line feeds for all bytes of a text, and then another one
-abbrev blanked : List ℕ → List ℕ → List ℕ
+abbrev pub blanked : List ℕ → List ℕ → List ℕ
 blanked t u = replicate (length t) 10 ++ u
 
 -- the page of a text after all blocks end
@@ -288,9 +288,9 @@ whole_page t = closed_to t 0 (after_lines t)
 abbrev pub tell : List ℕ → State → List Told
 tell t s = map (told t s.pieces) s.blocks
 
-record Row (t u : List ℕ) : Type 0 where
-  blocks : tell (t ++ u) (whole_page (t ++ u)) ≡ tell t (whole_page t) ++ map (later (length (whole_page t).blocks)) (tell (blanked t u) (whole_page (blanked t u)))
-  definitions : (whole_page (t ++ u)).definitions ≡ (whole_page t).definitions ++ (whole_page (blanked t u)).definitions
+pub record Row (t u : List ℕ) : Type 0 where
+  pub blocks : tell (t ++ u) (whole_page (t ++ u)) ≡ tell t (whole_page t) ++ map (later (length (whole_page t).blocks)) (tell (blanked t u) (whole_page (blanked t u)))
+  pub definitions : (whole_page (t ++ u)).definitions ≡ (whole_page t).definitions ++ (whole_page (blanked t u)).definitions
 
 -- the page after the first text in both
 pub first_run : (t u : List ℕ) → 4 * (length t + length u) + 20 < 2 ^ 64 → Feed t → Splits t u (length t) (lines_of (t ++ u)) (lines_of t) → 0 < length t
@@ -300,11 +300,11 @@ first_run t u small feed split some =
     (shared_lines t (t ++ u) 0 (length t - 1) 0 (lines_of t) (omega (arith, small)) (omega arith) split.low (agrees_front t u some) (lines_ascend (Inside t) t (inside t)) (lines-end t (omega (arith, small))) (lines_low t (omega (arith, small))))
     (omega (arith, small, lines_few t 0 0 0 t)) (first_onward t (t ++ u))
 
-blanked_lines : (t u : List ℕ) → lines_of (blanked t u) ≡ blanks 0 (length t) ++ lines_from (blanked t u) (length t) (length t) (length t) u
+pub blanked_lines : (t u : List ℕ) → lines_of (blanked t u) ≡ blanks 0 (length t) ++ lines_from (blanked t u) (length t) (length t) (length t) u
 blanked_lines t u = blank_lines (blanked t u) u 0 (length t) ∙ ap (λ n. blanks 0 (length t) ++ lines_from (blanked t u) n n n u) (let z : 0 + length t ≡ length t = omega arith in z)
 
 -- the lines after it
-second_run : (t u : List ℕ) (count : ℕ) (f : Earlier) (s : State) → 4 * (length t + length u) + 20 < 2 ^ 64 → count ≤ length t → f.lines ≡ length t - count → length f.pieces ≤ length t + 1 → Onward (blanked t u) (t ++ u) f 0 s first_page
+pub second_run : (t u : List ℕ) (count : ℕ) (f : Earlier) (s : State) → 4 * (length t + length u) + 20 < 2 ^ 64 → count ≤ length t → f.lines ≡ length t - count → length f.pieces ≤ length t + 1 → Onward (blanked t u) (t ++ u) f 0 s first_page
     → Onward (blanked t u) (t ++ u) f (0 + length (lines_from (blanked t u) (length t) (length t) (length t) u)) (fold (line_taken_in core_known (t ++ u)) s (lines_from (t ++ u) count (length t) (length t) u)) (fold (line_taken_in core_known (blanked t u)) first_page (lines_from (blanked t u) (length t) (length t) (length t) u))
 second_run t u count f s small few shift pieces h =
     run_on v q f 0 (lines_from q count k k u) ls s first_page

@@ -13,3 +13,4 @@ pub mod Quoted
 pub mod Sequence
 pub mod Items
 pub mod Loose
+pub mod ListEnds
