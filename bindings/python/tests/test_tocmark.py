@@ -898,6 +898,46 @@ class Books(unittest.TestCase):
         done = subprocess.run(command, input=short.encode(), capture_output=True, check=True)
         self.assertEqual(json.loads(done.stdout)["items"][0]["Chapter"]["content"], "|a|b|\n|-|-|\n|1|\n\na.md html\n")
 
+    def run_once(self, script, given=None, status=0):
+        command = [sys.executable, "-m", "tocmark", "mdbook", "--once", "--", sys.executable, "-c", script]
+        done = subprocess.run(command, input=(given or self.given).encode(), capture_output=True, check=False,
+                              env={**os.environ, "TOCMARK_FILE": "x"})
+        self.assertEqual(done.returncode, status, done.stderr)
+        return done.stdout.decode(), done.stderr.decode()
+
+    def test_a_command_starts_once_for_all_chapters(self):
+        script = ("import json, os, sys\n"
+                  "lines = [json.loads(line) for line in sys.stdin]\n"
+                  "assert 'TOCMARK_FILE' not in os.environ\n"
+                  "for number, one in enumerate(lines):\n"
+                  "    words = f\"{number} {one['file']} {one['name']} {json.loads(os.environ['TOCMARK_MDBOOK'])['renderer']}\"\n"
+                  "    print(json.dumps([[event, None] for event in ({'Start': 'Paragraph'}, {'Text': words}, {'End': 'Paragraph'})]"
+                  " + one['events']))\n")
+        items = json.loads(self.run_once(script)[0])["sections"]
+        self.assertEqual(items[0]["Chapter"]["content"], "0 a.md a html\n\n# é\n\n\n*  a\n")
+        self.assertEqual(items[0]["Chapter"]["sub_items"][0]["Chapter"]["content"], "1 b.md b html\n\nb\n=\n")
+        self.assertEqual(items[3]["Chapter"]["content"], "2 d.md d html\n\n## d {#e}\n\n\n***\n")
+        same = "import json, sys; [print(json.dumps(json.loads(line)['events'])) for line in sys.stdin]"
+        self.assertEqual(self.run_once(same)[0], json.dumps(self.book, ensure_ascii=False))
+        self.assertEqual(json.loads(self.run_once(same, "[{}, {\"items\": []}]")[0]), {"items": []})
+
+    def test_what_a_command_for_all_chapters_does_wrong(self):
+        for script, said in (("print([])", "tocmark: the command has to write a line for each chapter: it wrote 1 for 3\n"),
+                             ("import sys; sys.exit(3)", "tocmark: Command "),
+                             ("import sys; [print(line, end='') for line in sys.stdin]", "tocmark: a.md: "),
+                             ("print('[]\\n[]\\n]')", "tocmark: d.md: ")):
+            written, heard = self.run_once(script, status=1)
+            self.assertEqual(written, "")
+            self.assertTrue(heard.startswith(said), heard)
+
+    def test_a_long_context_is_left_out(self):
+        given = json.dumps([{"x": "y" * 131_072}, {"items": [chapter("a", "a\n")]}])
+        script = "import os, sys; assert 'TOCMARK_MDBOOK' not in os.environ; sys.stdout.write(sys.stdin.read())"
+        command = [sys.executable, "-m", "tocmark", "mdbook", "--", sys.executable, "-c", script]
+        done = subprocess.run(command, input=given.encode(), capture_output=True, check=True)
+        self.assertEqual(json.loads(done.stdout), json.loads(given)[1])
+        self.assertEqual(done.stderr, b"tocmark: warning: TOCMARK_MDBOOK isn't set, because the book's context is too long for it\n")
+
     def test_renderers(self):
         self.assertEqual(self.run_main(["supports", "html"], ""), (0, "", ""))
 

@@ -4,12 +4,15 @@ import json
 import os
 import subprocess
 import sys
-from typing import Any, List, NoReturn, Optional
+from typing import Any, Dict, Iterator, List, NoReturn, Optional
 
 from . import Error, __version__, _mdbook, read, rewrite, write
 from ._files import read_file, replace_file
 from ._options import EXTENSIONS, SYNTAXES
 from ._program import program
+
+#: Linux starts no program with a variable of 131,072 bytes, its name and the byte after it among them.
+LONGEST_TOLD = 131_072 - len("TOCMARK_MDBOOK=") - 1
 
 
 def _syntax_of(words: argparse.Namespace) -> Any:
@@ -58,17 +61,50 @@ def _rewrite(words: argparse.Namespace) -> int:
     return 0
 
 
-def _filtered(chapter: _mdbook.Chapter, words: argparse.Namespace) -> str:
-    """Returns the text of a chapter whose events the command has changed."""
-    names = {"TOCMARK_FILE": chapter.path or "", "TOCMARK_MDBOOK": json.dumps(chapter.context)}
-    done = subprocess.run(words.command, input=_json_of(chapter.source, words).encode(), stdout=subprocess.PIPE, check=True,
-                          env={**os.environ, **names})
-    return rewrite(chapter.source, json.loads(done.stdout), **_syntax_of(words))
+class _Filter:
+    """A command that changes the events of chapters: it starts for each of them, or once for all."""
+
+    def __init__(self, words: argparse.Namespace) -> None:
+        self._words = words
+        #: What the command wrote for each chapter, in their order, if it starts once.
+        self._lines: Iterator[bytes] = iter(())
+        self._told: Dict[str, str] = {}
+
+    def begin(self, chapters: List[_mdbook.Chapter]) -> None:
+        """Makes what the command is told of the book. If the command starts once, it runs now."""
+        told = json.dumps(chapters[0].context) if chapters else ""
+        if len(told) <= LONGEST_TOLD:
+            self._told = {"TOCMARK_MDBOOK": told}
+        else:
+            print("tocmark: warning: TOCMARK_MDBOOK isn't set, because the book's context is too long for it", file=sys.stderr)
+        if self._words.once and chapters:
+            lines = self._run("".join(map(self._line_of, chapters)), {}).splitlines()
+            if len(lines) != len(chapters):
+                raise ValueError(f"the command has to write a line for each chapter: it wrote {len(lines)} for {len(chapters)}")
+            self._lines = iter(lines)
+
+    def _line_of(self, chapter: _mdbook.Chapter) -> str:
+        events = _json_of(chapter.source, self._words)
+        return f'{{"file":{json.dumps(chapter.path)},"name":{json.dumps(chapter.name)},"events":{events}}}\n'
+
+    def rewritten(self, chapter: _mdbook.Chapter) -> str:
+        """Returns the text of a chapter whose events the command has changed."""
+        if self._words.once:
+            answer = next(self._lines)
+        else:
+            answer = self._run(_json_of(chapter.source, self._words), {"TOCMARK_FILE": chapter.path or ""})
+        return rewrite(chapter.source, json.loads(answer), **_syntax_of(self._words))
+
+    def _run(self, given: str, names: Dict[str, str]) -> bytes:
+        environment = {name: value for name, value in os.environ.items() if name not in ("TOCMARK_FILE", "TOCMARK_MDBOOK")}
+        return subprocess.run(self._words.command, input=given.encode(), stdout=subprocess.PIPE, check=True,
+                              env={**environment, **self._told, **names}).stdout
 
 
 def _mdbook_by_command(words: argparse.Namespace) -> int:
     asked = words.command[-2:] if words.command[-2:-1] == ["supports"] else []
-    return _mdbook.preprocess(asked, lambda chapter: _filtered(chapter, words))
+    by_command = _Filter(words)
+    return _mdbook.preprocess(asked, by_command.rewritten, by_command.begin)
 
 
 def _add_syntax(parser: argparse.ArgumentParser, *extensions: str) -> None:
@@ -101,7 +137,10 @@ def _parser() -> argparse.ArgumentParser:
         _add_syntax(commands.choices[name])
 
     one = commands.add_parser("mdbook", help="be a preprocessor of mdBook: COMMAND changes the events of each chapter",
-                              usage="python -m tocmark mdbook [--syntax NAME] [--extension NAME].. -- COMMAND [ARG..]")
+                              usage="python -m tocmark mdbook [--once] [--syntax NAME] [--extension NAME].. -- COMMAND [ARG..]")
+    one.add_argument("--once", action="store_true",
+                     help="start COMMAND once for the book: it reads a line for each chapter, an object with file, name and events, "
+                          "and writes a line with the new events for each")
     one.set_defaults(run=_mdbook_by_command)
     _add_syntax(one, *_mdbook.EXTENSIONS)
     return parser

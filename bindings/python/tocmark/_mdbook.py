@@ -39,24 +39,32 @@ def chapters(book: Any) -> Iterator[Any]:
             stack.extend(reversed(chapter.get("sub_items", [])))
 
 
-def preprocess(words: List[str], rewritten: Callable[[Chapter], str]) -> int:
+def preprocess(words: List[str], rewritten: Callable[[Chapter], str],
+               begin: Callable[[List[Chapter]], None] = lambda given: None) -> int:
     """Answers mdBook, which starts a preprocessor with these arguments. Returns the status.
 
-    An error in a chapter is one line on standard error with the chapter's name. No book is written then.
+    `begin` gets all chapters before `rewritten` gets each. An error in a chapter is one line on standard error with the
+    chapter's name. No book is written then.
     """
     if words[:1] == ["supports"]:
         return 0
     try:
         context, book = json.load(sys.stdin.buffer)
         found = list(chapters(book))
-    except (ValueError, TypeError, AttributeError) as error:
+        given = [Chapter(chapter["content"], chapter.get("path"), chapter.get("name", ""), context) for chapter in found]
+    except (KeyError, ValueError, TypeError, AttributeError) as error:
         print(f"tocmark: standard input isn't a book of mdBook: {error}", file=sys.stderr)
         return 1
-    for chapter in found:
+    try:
+        begin(given)
+    except Exception as error:  # A filter may raise anything.
+        print(f"tocmark: {error}", file=sys.stderr)
+        return 1
+    for chapter, one in zip(found, given):
         try:
-            chapter["content"] = rewritten(Chapter(chapter["content"], chapter.get("path"), chapter.get("name", ""), context))
+            chapter["content"] = rewritten(one)
         except Exception as error:  # The chapter has to be named, whatever a filter raises.
-            print(f"tocmark: {chapter.get('path') or chapter.get('name')}: {error}", file=sys.stderr)
+            print(f"tocmark: {one.path or one.name}: {error}", file=sys.stderr)
             return 1
     sys.stdout.buffer.write(json.dumps(book, ensure_ascii=False).encode())
     sys.stdout.buffer.flush()
