@@ -40,14 +40,12 @@ use Rattle.tocmark_text_laws.proofs.Ranged.{LineIn, Ascend, lines_ascend}
 use Rattle.tocmark_text_laws.proofs.Sorted.{containers, quotes_of, raised_containers, quotes_closed}
 use Rattle.tocmark_text_laws.proofs.Houses.{Home, Chain, is_entry, in_list, settled_same}
 use Rattle.tocmark_text_laws.proofs.HouseWalk.{lines_home}
-use Rattle.tocmark_text_laws.proofs.NestRun.{After, all_lines, lines_few}
-use Rattle.tocmark_text_laws.proofs.Pairs.{Pairs, pairs_length}
+use Rattle.tocmark_text_laws.proofs.NestRun.{After, all_lines}
+use Rattle.tocmark_text_laws.proofs.Pairs.{Pairs}
 use Rattle.tocmark_text_laws.proofs.QuotedRun.{none_open}
-use Rattle.tocmark_text_laws.proofs.SequencePieces.{PieceOn}
-use Rattle.tocmark_text_laws.proofs.SequencePages.{Earlier, OpenedOn, BlockOn, Onward, closed_on}
-use Rattle.tocmark_text_laws.proofs.SequenceLines.{Inside, inside, Feed, Splits, split_lines, none_between, blanks_taken}
-use Rattle.tocmark_text_laws.proofs.SequenceTrees.{trees_in_a_row}
-use Rattle.tocmark_text_laws.proofs.SequenceRun.{alone, begin_onward, none_of, fold_both, feed_end, all_back, whole_page, tell, blanked, Row, first_run, blanked_lines, second_run, blocks_later, blocks_alone, take_front, Same, same_after, outermost}
+use Rattle.tocmark_text_laws.proofs.SequencePages.{Earlier, OpenedOn, Onward, closed_on}
+use Rattle.tocmark_text_laws.proofs.SequenceLines.{Inside, inside, Feed, Splits, split_lines, none_between}
+use Rattle.tocmark_text_laws.proofs.SequenceRun.{alone, none_of, fold_both, feed_end, all_back, whole_page, tell, first_run, blocks_alone, after_row, row_sequence}
 use Rattle.tocmark_text_laws.proofs.SequenceBlank.{quotes_known, one_line}
 use Rattle.tocmark_text_laws.proofs.ListEndsClosed.{closed_further, closed_containers, Lists}
 use Rattle.tocmark_text_laws.proofs.ListEndsLine.{IsWide, Behind, Waits, Yields, shut_yields, list_ends}
@@ -329,107 +327,8 @@ ended_list t mark c ends small = record {
             ap (closed_to q 0) (ap (fold (line_taken_in core_known q) first_page) e ∙ fold_both (line_taken_in core_known q) first_page (lines_of t) (line count (length t) (length t) (length t + 1) ∷ []) ∙ blank_cells q count (length t) there ∙ b.same)
             ∙ closed_further q 0 b.depth there (omega arith)
 
--- both texts, if the lines of the second one close what is open after the first one
-
-after_row : (t u : List ℕ) → Feed t → 0 < length t → 4 * (length t + length u) + 20 < 2 ^ 64 → (split : Splits t u (length t) (lines_of (t ++ u)) (lines_of t))
-    → fold (line_taken_in core_known (t ++ u)) (fold (line_taken_in core_known (t ++ u)) first_page (lines_of t)) (lines_from (t ++ u) split.count (length t) (length t) u)
-    ≡ fold (line_taken_in core_known (t ++ u)) (closed_to (t ++ u) 0 (fold (line_taken_in core_known (t ++ u)) first_page (lines_of t))) (lines_from (t ++ u) split.count (length t) (length t) u)
-    → After (after_lines t) → Row t u
-after_row t u feed some small split closes (a, m, r) = record { blocks = blocks; definitions = definitions }
-  where
-    k : ℕ
-    k = length t
-
-    q : List ℕ
-    q = t ++ u
-
-    v : List ℕ
-    v = blanked t u
-
-    here : State
-    here = closed_to t 0 (after_lines t)
-
-    last : State
-    last = fold (line_taken_in core_known q) first_page (lines_of t)
-
-    there : State
-    there = closed_to q 0 last
-
-    before : Onward t q alone (0 + length (lines_of t)) last (after_lines t)
-    before = first_run t u small feed split some
-
-    first : Onward t q alone (0 + length (lines_of t)) there here
-    first = closed_on t q alone (0 + length (lines_of t)) 0 last (after_lines t) before
-
-    none : there.opened ≡ []
-    none = none_of there.opened (none_open q last)
-
-    none_here : here.opened ≡ []
-    none_here = none_of here.opened (none_open t (after_lines t))
-
-    no_quotes : there.quotes ≡ []
-    no_quotes = first.quotes ∙ closed_known t 0 (after_lines t) (quotes_known a m (after_lines t) r) ∙ ap (λ os. quotes_of 0 (containers os)) none_here
-
-    f : Earlier
-    f = record { blocks = there.blocks; pieces = there.pieces; definitions = there.definitions; lines = k - split.count }
-
-    few : length there.pieces ≤ k + 1
-    few = omega (arith, pairs_length (PieceOn t q) there.pieces here.pieces first.pieces, first.few, lines_few t 0 0 0 t)
-
-    base : Onward v q f 0 there first_page
-    base = begin_onward v q there (k - split.count) (closed_shut q 0 last) none no_quotes (omega (arith, few, small))
-
-    end_there : State
-    end_there = closed_to q 0 (fold (line_taken_in core_known q) there (lines_from q split.count k k u))
-
-    end_here : State
-    end_here = closed_to v 0 (fold (line_taken_in core_known v) first_page (lines_from v k k k u))
-
-    n : ℕ
-    n = 0 + length (lines_from v k k k u)
-
-    done : Onward v q f n end_there end_here
-    done = closed_on v q f n 0 _ _ (second_run t u split.count f there small split.few refl few base)
-
-    there_is : whole_page q ≡ end_there
-    there_is = ap (closed_to q 0) (ap (fold (line_taken_in core_known q) first_page) split.lines ∙ fold_both (line_taken_in core_known q) first_page (lines_of t) (lines_from q split.count k k u) ∙ closes)
-
-    here_is : whole_page v ≡ end_here
-    here_is = ap (closed_to v 0) (ap (fold (line_taken_in core_known v) first_page) (blanked_lines t u) ∙ blanks_taken v 0 k (lines_from v k k k u))
-
-    count : length there.blocks ≡ length here.blocks
-    count = pairs_length (BlockOn t q alone (0 + length (lines_of t))) there.blocks here.blocks first.blocks
-
-    in_front : map (told q end_there.pieces) there.blocks ≡ tell t here
-    in_front = blocks_alone t q (0 + length (lines_of t)) here.kept end_there.pieces there.pieces here.pieces there.blocks here.blocks first.pieces (λ i e. take_front (PieceOn v q) i there.pieces end_there.pieces end_here.pieces e done.pieces) first.lasts first.blocks
-
-    told_row : tell q end_there ≡ tell t here ++ map (later (length here.blocks)) (tell v end_here)
-    told_row =
-        blocks_later v q f n end_there.pieces end_here.pieces there.blocks end_there.blocks end_here.blocks done.pieces done.blocks
-        ∙ ap (λ bs. bs ++ map (later (length there.blocks)) (tell v end_here)) in_front
-        ∙ ap (λ m. tell t here ++ map (later m) (tell v end_here)) count
-
-    blocks : tell q (whole_page q) ≡ tell t (whole_page t) ++ map (later (length (whole_page t).blocks)) (tell v (whole_page v))
-    blocks = ap (tell q) there_is ∙ told_row ∙ ap (λ (s : State). tell t (whole_page t) ++ map (later (length (whole_page t).blocks)) (tell v s)) (sym here_is)
-
-    definitions : (whole_page q).definitions ≡ (whole_page t).definitions ++ (whole_page v).definitions
-    definitions =
-        ap (λ (s : State). s.definitions) there_is ∙ done.definitions ∙ ap (λ (ds : List DefinitionView). ds ++ end_here.definitions) first.definitions
-        ∙ ap (λ (s : State). (whole_page t).definitions ++ s.definitions) (sym here_is)
-
-row_sequence : (t u : List ℕ) → Row t u → 4 * (length t + length u) + 20 < 2 ^ 64 → IsSequence (t ++ u) t u
-unfolding blocks_in page_in known_of
-row_sequence t u r small = record {
-  trees = ap tree_told blocks ∙ trees_in_a_row (length (blocks_in CORE t).blocks) (blocks_told t (blocks_in CORE t)) (blocks_told u (blocks_in CORE u)) (outermost u);
-  blocks = blocks;
-  definitions = r.definitions ∙ ap (λ (ds : List DefinitionView). (blocks_in CORE t).definitions ++ ds) same.definitions;
-}
-  where
-    same : Same (blanked t u) u
-    same = same_after (length t) u (omega (arith, small))
-
-    blocks : blocks_told (t ++ u) (blocks_in CORE (t ++ u)) ≡ blocks_told t (blocks_in CORE t) ++ map (later (length (blocks_in CORE t).blocks)) (blocks_told u (blocks_in CORE u))
-    blocks = r.blocks ∙ ap (λ (bs : List Told). blocks_told t (blocks_in CORE t) ++ map (later (length (blocks_in CORE t).blocks)) bs) same.blocks
+quotes_after : (t : List ℕ) → After (after_lines t) → (closed_to t 0 (after_lines t)).quotes ≡ []
+quotes_after t (a, m, r) = closed_known t 0 (after_lines t) (quotes_known a m (after_lines t) r) ∙ ap (λ os. quotes_of 0 (containers os)) (none_of (closed_to t 0 (after_lines t)).opened (none_open t (after_lines t)))
 
 -- the first line of the second text ends the list
 
@@ -534,7 +433,7 @@ list_between t u mark c ends ink other small = subst (λ xs. IsSequence xs t u) 
     shut = ap (λ (x : State). x.leaf) left.page ∙ closed_shut (q ++ u) left.depth before
 
     s : IsSequence (q ++ u) q u
-    s = row_sequence q u (after_row q u feed (omega (arith, long)) few split (rest_closes q u mark page waits (λ l b n. shut_yields (q ++ u) (cells_of [] l.start (first_line u)) l page shut) ink other few split) (all_lines q (omega (arith, few)))) few
+    s = row_sequence q u (after_row q u feed (omega (arith, long)) few split (rest_closes q u mark page waits (λ l b n. shut_yields (q ++ u) (cells_of [] l.start (first_line u)) l page shut) ink other few split) (quotes_after q (all_lines q (omega (arith, few))))) few
 
     blocks : blocks_told q (blocks_in CORE q) ≡ blocks_told t (blocks_in CORE t)
     blocks = e.blocks
@@ -588,7 +487,7 @@ list_at_once t u mark c ink other free small =
     row_sequence t u
     (after_row t u feed some small split
     (rest_closes t u mark s waits (λ l b n. list_yields q u mark l s holds.lists deep (ap (λ k. is_paragraph k && goes_on u) first.leaf ∙ free) ink b n) ink other small split)
-    (all_lines t (omega (arith, small))))
+    (quotes_after t (all_lines t (omega (arith, small)))))
     small
   where
     q : List ℕ

@@ -22,10 +22,12 @@ use Rattle.tocmark_text_laws.specs.Further.{piece_on, kind_on, block_on, view_on
 use Rattle.tocmark_text_laws.specs.Lines.{IsLine}
 use Rattle.tocmark_text_laws.specs.Quoted.{sort_of, LineTold, line_told, Told, told, blocks_told, tree_told}
 use Rattle.tocmark_text_laws.specs.Housed.{AreHoused}
-use Rattle.tocmark_text_laws.specs.Sequence.{after_lines, IsClosed, later, TextsInARow}
+use Rattle.tocmark_text_laws.specs.Sequence.{after_lines, IsClosed, later, IsSequence, TextsInARow}
 use Rattle.tocmark_text_laws.proofs.LinesFurther.{between_on}
 use Rattle.tocmark_text_laws.proofs.Moved.{copies_length}
 use Rattle.tocmark_text_laws.proofs.Front.{front}
+use Rattle.tocmark_text_laws.proofs.Shut.{closed_shut}
+use Rattle.tocmark_text_laws.proofs.QuotedRun.{none_open}
 use Rattle.tocmark_text_laws.proofs.Endings.{lines-end}
 use Rattle.tocmark_text_laws.proofs.Low.{LowLine, lines_low}
 use Rattle.tocmark_text_laws.proofs.Placed.{is_worded}
@@ -75,7 +77,7 @@ past_self [] R = tt
 past_self (f ∷ fs) R = (refl, past_self fs R)
 
 -- the page after the first text, with all of it in front
-pub begin_onward : (t q : List ℕ) (s : State) (d : ℕ) → s.leaf ≡ leaf.Nothing → s.opened ≡ [] → s.quotes ≡ [] → length s.pieces + 1 < 2 ^ 64 - 1
+begin_onward : (t q : List ℕ) (s : State) (d : ℕ) → s.leaf ≡ leaf.Nothing → s.opened ≡ [] → s.quotes ≡ [] → length s.pieces + 1 < 2 ^ 64 - 1
     → Onward t q (record { blocks = s.blocks; pieces = s.pieces; definitions = s.definitions; lines = d }) 0 s first_page
 unfolding is_core is_shut
 begin_onward t q s d l o qs room = record {
@@ -137,7 +139,7 @@ block_later t q f n ps' ps x y h u =
     made : Option ℕ → Told
     made list = record { depth = y.depth; sort = sort_of t y.kind; loose = y.loose; list = list; lines = map (line_told t) (drop y.first (take y.last ps)) }
 
-pub blocks_later : (t q : List ℕ) (f : Earlier) (n : ℕ) (ps' ps : List Piece) (fs xs ys : List Block) → Past f.pieces (PieceOn t q) ps' ps → Past fs (BlockOn t q f n) xs ys → map (told q ps') xs ≡ map (told q ps') fs ++ map (later (length f.blocks)) (map (told t ps) ys)
+blocks_later : (t q : List ℕ) (f : Earlier) (n : ℕ) (ps' ps : List Piece) (fs xs ys : List Block) → Past f.pieces (PieceOn t q) ps' ps → Past fs (BlockOn t q f n) xs ys → map (told q ps') xs ≡ map (told q ps') fs ++ map (later (length f.blocks)) (map (told t ps) ys)
 blocks_later t q f n ps' ps [] [] [] h u = refl
 blocks_later t q f n ps' ps [] [] (y ∷ ys) h u = absurd u
 blocks_later t q f n ps' ps [] (x ∷ xs) [] h u = absurd u
@@ -157,7 +159,7 @@ no_lines zero (suc last) ps h = absurd (omega (arith, h))
 no_lines (suc first) (suc last) [] h = refl
 no_lines (suc first) (suc last) (p ∷ ps) h = no_lines first last ps (omega (arith, h))
 
-pub take_front : {B : Type 0} (R : Piece → B → Type 0) (n : ℕ) (fs xs : List Piece) (ys : List B) → n ≤ length fs → Past fs R xs ys → take n xs ≡ take n fs
+take_front : {B : Type 0} (R : Piece → B → Type 0) (n : ℕ) (fs xs : List Piece) (ys : List B) → n ≤ length fs → Past fs R xs ys → take n xs ≡ take n fs
 take_front R zero fs xs ys h k = refl
 take_front R (suc n) [] xs ys h k = absurd (omega (arith, h))
 take_front R (suc n) (f ∷ fs) [] ys h k = absurd k
@@ -221,11 +223,11 @@ blocks_front : (t : List ℕ) (c : ℕ) (ps : List Piece) (bs : List Block) → 
 blocks_front t c ps [] = refl
 blocks_front t c ps (b ∷ bs) = ap (λ z. z ∷ map (told (c ∷ t) (map piece_on ps)) (map block_on bs)) (block_front t c ps b) ∙ ap (λ zs. told t ps b ∷ zs) (blocks_front t c ps bs)
 
-pub record Same (t u : List ℕ) : Type 0 where
-  pub blocks : blocks_told t (blocks_in CORE t) ≡ blocks_told u (blocks_in CORE u)
-  pub definitions : (blocks_in CORE t).definitions ≡ (blocks_in CORE u).definitions
+record Same (t u : List ℕ) : Type 0 where
+  blocks : blocks_told t (blocks_in CORE t) ≡ blocks_told u (blocks_in CORE u)
+  definitions : (blocks_in CORE t).definitions ≡ (blocks_in CORE u).definitions
 
-pub same_after : (n : ℕ) (u : List ℕ) → n + length u + 3 < 2 ^ 64 → Same (replicate n 10 ++ u) u
+same_after : (n : ℕ) (u : List ℕ) → n + length u + 3 < 2 ^ 64 → Same (replicate n 10 ++ u) u
 same_after zero u small = record { blocks = refl; definitions = refl }
 same_after (suc n) u small = by (same_after n u (omega (arith, small)))
   where
@@ -243,7 +245,7 @@ same_after (suc n) u small = by (same_after n u (omega (arith, small)))
 
 -- the first block of a text is in no container
 
-pub outermost : (t : List ℕ) → Outermost (blocks_told t (blocks_in CORE t))
+outermost : (t : List ℕ) → Outermost (blocks_told t (blocks_in CORE t))
 outermost t = by (blocks_in CORE t).blocks (blocks_housed t)
   where
     by : (bs : List Block) → AreHoused [] bs → Outermost (map (told t (blocks_in CORE t).pieces) bs)
@@ -300,11 +302,11 @@ first_run t u small feed split some =
     (shared_lines t (t ++ u) 0 (length t - 1) 0 (lines_of t) (omega (arith, small)) (omega arith) split.low (agrees_front t u some) (lines_ascend (Inside t) t (inside t)) (lines-end t (omega (arith, small))) (lines_low t (omega (arith, small))))
     (omega (arith, small, lines_few t 0 0 0 t)) (first_onward t (t ++ u))
 
-pub blanked_lines : (t u : List ℕ) → lines_of (blanked t u) ≡ blanks 0 (length t) ++ lines_from (blanked t u) (length t) (length t) (length t) u
+blanked_lines : (t u : List ℕ) → lines_of (blanked t u) ≡ blanks 0 (length t) ++ lines_from (blanked t u) (length t) (length t) (length t) u
 blanked_lines t u = blank_lines (blanked t u) u 0 (length t) ∙ ap (λ n. blanks 0 (length t) ++ lines_from (blanked t u) n n n u) (let z : 0 + length t ≡ length t = omega arith in z)
 
 -- the lines after it
-pub second_run : (t u : List ℕ) (count : ℕ) (f : Earlier) (s : State) → 4 * (length t + length u) + 20 < 2 ^ 64 → count ≤ length t → f.lines ≡ length t - count → length f.pieces ≤ length t + 1 → Onward (blanked t u) (t ++ u) f 0 s first_page
+second_run : (t u : List ℕ) (count : ℕ) (f : Earlier) (s : State) → 4 * (length t + length u) + 20 < 2 ^ 64 → count ≤ length t → f.lines ≡ length t - count → length f.pieces ≤ length t + 1 → Onward (blanked t u) (t ++ u) f 0 s first_page
     → Onward (blanked t u) (t ++ u) f (0 + length (lines_from (blanked t u) (length t) (length t) (length t) u)) (fold (line_taken_in core_known (t ++ u)) s (lines_from (t ++ u) count (length t) (length t) u)) (fold (line_taken_in core_known (blanked t u)) first_page (lines_from (blanked t u) (length t) (length t) (length t) u))
 second_run t u count f s small few shift pieces h =
     run_on v q f 0 (lines_from q count k k u) ls s first_page
@@ -338,8 +340,13 @@ second_run t u count f s small few shift pieces h =
     ascend : Ascend (Inside v) v k ls
     ascend = from_ascends (Inside v) v k k k k u (inside v) rest (omega arith) (omega arith) (omega (arith, long))
 
-row : (t u : List ℕ) → IsClosed t → 4 * (length t + length u) + 20 < 2 ^ 64 → Row t u
-row t u c small = record { blocks = blocks; definitions = definitions }
+-- both texts, if the lines of the second one close what is open after the first one
+
+pub after_row : (t u : List ℕ) → Feed t → 0 < length t → 4 * (length t + length u) + 20 < 2 ^ 64 → (split : Splits t u (length t) (lines_of (t ++ u)) (lines_of t))
+    → fold (line_taken_in core_known (t ++ u)) (fold (line_taken_in core_known (t ++ u)) first_page (lines_of t)) (lines_from (t ++ u) split.count (length t) (length t) u)
+    ≡ fold (line_taken_in core_known (t ++ u)) (closed_to (t ++ u) 0 (fold (line_taken_in core_known (t ++ u)) first_page (lines_of t))) (lines_from (t ++ u) split.count (length t) (length t) u)
+    → (closed_to t 0 (after_lines t)).quotes ≡ [] → Row t u
+after_row t u feed some small split closes quotes = record { blocks = blocks; definitions = definitions }
   where
     k : ℕ
     k = length t
@@ -350,26 +357,26 @@ row t u c small = record { blocks = blocks; definitions = definitions }
     v : List ℕ
     v = blanked t u
 
-    feed : Feed t
-    feed = subst (λ xs. Feed xs) (sym ((c.line).1)) (feed_end ((c.line).0))
-
-    some : 0 < length t
-    some = omega (arith, ap length ((c.line).1), length-append ((c.line).0) (10 ∷ []))
-
-    split : Splits t u k (lines_of q) (lines_of t)
-    split = split_lines t u (omega (arith, small)) feed
-
     here : State
-    here = after_lines t
+    here = closed_to t 0 (after_lines t)
+
+    last : State
+    last = fold (line_taken_in core_known q) first_page (lines_of t)
 
     there : State
-    there = fold (line_taken_in core_known q) first_page (lines_of t)
+    there = closed_to q 0 last
+
+    before : Onward t q alone (0 + length (lines_of t)) last (after_lines t)
+    before = first_run t u small feed split some
 
     first : Onward t q alone (0 + length (lines_of t)) there here
-    first = first_run t u small feed split some
+    first = closed_on t q alone (0 + length (lines_of t)) 0 last (after_lines t) before
 
-    no_quotes : After here → here.quotes ≡ []
-    no_quotes (a, n, r) = quotes_none a n here r c.leaf c.opened
+    none : there.opened ≡ []
+    none = none_of there.opened (none_open q last)
+
+    no_quotes : there.quotes ≡ []
+    no_quotes = first.quotes ∙ quotes
 
     f : Earlier
     f = record { blocks = there.blocks; pieces = there.pieces; definitions = there.definitions; lines = k - split.count }
@@ -378,7 +385,7 @@ row t u c small = record { blocks = blocks; definitions = definitions }
     few = omega (arith, pairs_length (PieceOn t q) there.pieces here.pieces first.pieces, first.few, lines_few t 0 0 0 t)
 
     base : Onward v q f 0 there first_page
-    base = begin_onward v q there (k - split.count) (first.leaf ∙ c.leaf) (none_of there.opened (pairs_length (OpenedOn alone) there.opened here.opened first.opened ∙ ap length c.opened)) (first.quotes ∙ no_quotes (all_lines t (omega (arith, small)))) (omega (arith, few, small))
+    base = begin_onward v q there (k - split.count) (closed_shut q 0 last) none no_quotes (omega (arith, few, small))
 
     end_there : State
     end_there = closed_to q 0 (fold (line_taken_in core_known q) there (lines_from q split.count k k u))
@@ -393,13 +400,10 @@ row t u c small = record { blocks = blocks; definitions = definitions }
     done = closed_on v q f n 0 _ _ (second_run t u split.count f there small split.few refl few base)
 
     there_is : whole_page q ≡ end_there
-    there_is = ap (closed_to q 0) (ap (fold (line_taken_in core_known q) first_page) split.lines ∙ fold_both (line_taken_in core_known q) first_page (lines_of t) (lines_from q split.count k k u))
+    there_is = ap (closed_to q 0) (ap (fold (line_taken_in core_known q) first_page) split.lines ∙ fold_both (line_taken_in core_known q) first_page (lines_of t) (lines_from q split.count k k u) ∙ closes)
 
     here_is : whole_page v ≡ end_here
     here_is = ap (closed_to v 0) (ap (fold (line_taken_in core_known v) first_page) (blanked_lines t u) ∙ blanks_taken v 0 k (lines_from v k k k u))
-
-    first_is : whole_page t ≡ here
-    first_is = closed_already t here c.leaf c.opened
 
     count : length there.blocks ≡ length here.blocks
     count = pairs_length (BlockOn t q alone (0 + length (lines_of t))) there.blocks here.blocks first.blocks
@@ -414,26 +418,60 @@ row t u c small = record { blocks = blocks; definitions = definitions }
         ∙ ap (λ m. tell t here ++ map (later m) (tell v end_here)) count
 
     blocks : tell q (whole_page q) ≡ tell t (whole_page t) ++ map (later (length (whole_page t).blocks)) (tell v (whole_page v))
-    blocks = ap (tell q) there_is ∙ told_row ∙ ap (λ (s : State). tell t s ++ map (later (length s.blocks)) (tell v end_here)) (sym first_is) ∙ ap (λ (s : State). tell t (whole_page t) ++ map (later (length (whole_page t).blocks)) (tell v s)) (sym here_is)
+    blocks = ap (tell q) there_is ∙ told_row ∙ ap (λ (s : State). tell t (whole_page t) ++ map (later (length (whole_page t).blocks)) (tell v s)) (sym here_is)
 
     definitions : (whole_page q).definitions ≡ (whole_page t).definitions ++ (whole_page v).definitions
     definitions =
         ap (λ (s : State). s.definitions) there_is ∙ done.definitions ∙ ap (λ (ds : List DefinitionView). ds ++ end_here.definitions) first.definitions
-        ∙ ap (λ (s : State). s.definitions ++ end_here.definitions) (sym first_is) ∙ ap (λ (s : State). (whole_page t).definitions ++ s.definitions) (sym here_is)
+        ∙ ap (λ (s : State). (whole_page t).definitions ++ s.definitions) (sym here_is)
 
-pub texts_row : TextsInARow
+-- so it is if nothing is open after the first text
+row : (t u : List ℕ) → IsClosed t → 4 * (length t + length u) + 20 < 2 ^ 64 → Row t u
+row t u c small = after_row t u feed some small split (ap (λ (s : State). fold (line_taken_in core_known q) s (lines_from q split.count (length t) (length t) u)) (sym (closed_already q there (first.leaf ∙ c.leaf) none))) quotes
+  where
+    q : List ℕ
+    q = t ++ u
+
+    feed : Feed t
+    feed = subst (λ xs. Feed xs) (sym ((c.line).1)) (feed_end ((c.line).0))
+
+    some : 0 < length t
+    some = omega (arith, ap length ((c.line).1), length-append ((c.line).0) (10 ∷ []))
+
+    split : Splits t u (length t) (lines_of q) (lines_of t)
+    split = split_lines t u (omega (arith, small)) feed
+
+    here : State
+    here = after_lines t
+
+    there : State
+    there = fold (line_taken_in core_known q) first_page (lines_of t)
+
+    first : Onward t q alone (0 + length (lines_of t)) there here
+    first = first_run t u small feed split some
+
+    none : there.opened ≡ []
+    none = none_of there.opened (pairs_length (OpenedOn alone) there.opened here.opened first.opened ∙ ap length c.opened)
+
+    no_quotes : After here → here.quotes ≡ []
+    no_quotes (a, n, r) = quotes_none a n here r c.leaf c.opened
+
+    quotes : (closed_to t 0 here).quotes ≡ []
+    quotes = ap (λ (s : State). s.quotes) (closed_already t here c.leaf c.opened) ∙ no_quotes (all_lines t (omega (arith, small)))
+
+pub row_sequence : (t u : List ℕ) → Row t u → 4 * (length t + length u) + 20 < 2 ^ 64 → IsSequence (t ++ u) t u
 unfolding blocks_in page_in known_of
-texts_row t u c small = record {
+row_sequence t u r small = record {
   trees = ap tree_told blocks ∙ trees_in_a_row (length (blocks_in CORE t).blocks) (blocks_told t (blocks_in CORE t)) (blocks_told u (blocks_in CORE u)) (outermost u);
   blocks = blocks;
   definitions = r.definitions ∙ ap (λ (ds : List DefinitionView). (blocks_in CORE t).definitions ++ ds) same.definitions;
 }
   where
-    r : Row t u
-    r = row t u c small
-
     same : Same (blanked t u) u
     same = same_after (length t) u (omega (arith, small))
 
     blocks : blocks_told (t ++ u) (blocks_in CORE (t ++ u)) ≡ blocks_told t (blocks_in CORE t) ++ map (later (length (blocks_in CORE t).blocks)) (blocks_told u (blocks_in CORE u))
     blocks = r.blocks ∙ ap (λ (bs : List Told). blocks_told t (blocks_in CORE t) ++ map (later (length (blocks_in CORE t).blocks)) bs) same.blocks
+
+pub texts_row : TextsInARow
+texts_row t u c small = row_sequence t u (row t u c small) small
