@@ -3,3 +3,9 @@ pub mod Spots
 pub mod TreesSpelled
 pub mod DocumentsLaidOut
 pub mod LayoutExamples
+pub mod ReadBackTexts
+pub mod ReadBackBare
+pub mod ReadBackLines
+pub mod ReadBackRows
+pub mod ReadBackBlocks
+pub mod ReadBackPlain

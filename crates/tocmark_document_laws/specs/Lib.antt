@@ -1,3 +1,4 @@
 pub mod Blocks
 pub mod DocumentLines
 pub mod LaidOut
+pub mod ReadBack
