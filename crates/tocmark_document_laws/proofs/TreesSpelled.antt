@@ -519,7 +519,7 @@ module _ (o : OptionsView) (reading : List ℕ → ParserOptions → ReadingView
         lines = codes_feedless ls h.lines;
       }
 
-  -- each block stands as it is; items are directly in lists, and nothing else is
+  -- items are directly in lists, and nothing else is
   abbrev pub AllStand : Bool → Blocks → Type 0
   AllStand items Nothing = Unit {0}
   AllStand true (PlainThen b f) = ⊥

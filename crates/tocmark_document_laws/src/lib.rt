@@ -1,4 +1,5 @@
-//! Laws of whole documents: what is handed for trees of blocks, and which blocks are read in it without lists.
+//! Laws of whole documents: how the writer lays them out (`documents`), and which blocks the reader finds in that layout
+//! (`read_back`).
 #![tactic(auto)]
 
 pub mod documents;
