@@ -214,32 +214,43 @@ fn is_wide(bytes: &[u8], from: usize, to: usize) -> bool {
     ends_between(bytes, from, first) > 1 && ends_between(bytes, past, to) > 1
 }
 
+/// Whether there is text in a gap of the source, from one to another.
+fn have_text(source: &str, between: Between<'_>, first: usize, last: usize) -> bool {
+    for number in first..last.saturating_add(1) {
+        let (from, to) = gap(source, between.blocks, number);
+        if has_text(source.as_bytes(), from, to) {
+            return true;
+        }
+    }
+    false
+}
+
 /// The stretch of the source that is before the block at a place as it is in the source, if there is one:
-/// if no block was taken out before it, the gap before it; else, if there is no text, a gap with a blank line.
+/// if no block was taken out before it, the gap before it; else, if there is no text, a gap with a blank line. If a new tree is
+/// in the place of these blocks, it has the gap before them, and the one after them is here.
 fn stretch_before(
     source: &str,
     between: Between<'_>,
-    next: usize,
+    last: Last,
     place: usize,
     is_loose: bool,
 ) -> Option<(usize, usize)> {
     let bytes = source.as_bytes();
     let (from, to) = gap(source, between.blocks, place);
-    if next == place {
+    if last.next == place {
         return if !is_loose || is_wide(bytes, from, to) {
             Some((from, to))
         } else {
             None
         };
     }
-    for number in next..place.saturating_add(1) {
-        let (from, to) = gap(source, between.blocks, number);
-        if has_text(bytes, from, to) {
-            return None;
-        }
+    if have_text(source, between, last.next, place) {
+        return None;
     }
-    let (start, past) = gap(source, between.blocks, next);
-    if next == 0 && !is_loose || is_wide(bytes, start, past) {
+    let (start, past) = gap(source, between.blocks, last.next);
+    if last.replaces && is_wide(bytes, from, to) {
+        Some((from, to))
+    } else if last.next == 0 && !is_loose || is_wide(bytes, start, past) {
         Some((start, past))
     } else if is_wide(bytes, from, to) {
         Some((from, to))
@@ -248,25 +259,54 @@ fn stretch_before(
     }
 }
 
-/// What is before a block.
-fn put_before(
+/// The gap before the blocks whose place a new tree takes, if it can be before that tree: it has a blank line or is the front
+/// of the source, and has no text.
+fn replaced_gap(source: &str, between: Between<'_>, next: usize) -> Option<(usize, usize)> {
+    let (from, to) = gap(source, between.blocks, next);
+    let bytes = source.as_bytes();
+    if !has_text(bytes, from, to) && (next == 0 || is_wide(bytes, from, to)) {
+        Some((from, to))
+    } else {
+        None
+    }
+}
+
+/// What is before a new tree.
+fn put_before_new(
     source: &str,
     between: Between<'_>,
     next: usize,
-    stands_for: Option<usize>,
-    is_loose: bool,
+    replaces: bool,
     output: &mut Output,
 ) -> Result<(), AllocError>
     requires { Builds source.now output.old }
     ensures { OnOk result (Builds source.now output.new) }
 {
-    let Some(place) = stands_for else {
-        return separate(source, between.line_end(next), output);
-    };
-    if let Some((from, to)) = stretch_before(source, between, next, place, is_loose) {
+    if replaces && let Some((from, to)) = replaced_gap(source, between, next) {
         return copy_stretch(source, between.in_gaps, from, to, output);
     }
-    put_gaps(source, between, next, place.saturating_add(1), output)?;
+    separate(source, between.line_end(next), output)
+}
+
+/// What is before a tree.
+fn put_before(
+    source: &str,
+    between: Between<'_>,
+    last: Last,
+    joint: &Joint,
+    output: &mut Output,
+) -> Result<(), AllocError>
+    requires { Builds source.now output.old }
+    ensures { OnOk result (Builds source.now output.new) }
+{
+    let Some(place) = joint.plan.stands_for else {
+        return put_before_new(source, between, last.next, joint.replaces, output);
+    };
+    let is_loose = last.is_loose(joint.plan.kept.is_some());
+    if let Some((from, to)) = stretch_before(source, between, last, place, is_loose) {
+        return copy_stretch(source, between.in_gaps, from, to, output);
+    }
+    put_gaps(source, between, last.next, place.saturating_add(1), output)?;
     separate(source, between.line_end(place), output)
 }
 
@@ -311,8 +351,7 @@ fn put_block(
 fn put_tail(
     source: &str,
     between: Between<'_>,
-    next: usize,
-    is_loose: bool,
+    last: Last,
     output: &mut Output,
 ) -> Result<(), AllocError>
     requires { Builds source.now output.old }
@@ -320,15 +359,14 @@ fn put_tail(
 {
     let count = between.blocks.len();
     let (from, to) = gap(source, between.blocks, count);
-    let bytes = source.as_bytes();
-    if next == count && (!is_loose || !has_text(bytes, from, to) || output.text.is_empty()) {
+    if last.keeps_tail(source, between, output.text.is_empty()) {
         return copy_stretch(source, between.in_gaps, from, to, output);
     }
-    put_gaps(source, between, next, count.saturating_add(1), output)?;
+    put_gaps(source, between, last.next, count.saturating_add(1), output)?;
     if output.text.is_empty() {
         return Ok(());
     }
-    output.put_str(source, between.line_end(next).as_str())
+    output.put_str(source, between.line_end(last.next).as_str())
 }
 
 /// A line end, if a text has none at its end.
@@ -365,6 +403,8 @@ struct Last {
     /// Whether a tree is before that is new, and whether one that was kept, or none.
     is_new: bool,
     is_kept: bool,
+    /// Whether that tree is in the place of blocks that were taken out.
+    replaces: bool,
 }
 
 impl Last {
@@ -373,12 +413,25 @@ impl Last {
         self.is_new || self.manner.apart && !(self.is_kept && is_kept)
     }
 
-    fn with(self, plan: &Plan) -> Last {
+    /// Whether the source's end is as it was: no text comes after a new tree, and no block was taken out unless that tree is in
+    /// its place.
+    fn keeps_tail(self, source: &str, between: Between<'_>, is_first: bool) -> bool {
+        let count = between.blocks.len();
+        if self.next == count {
+            !self.is_new || is_first || !have_text(source, between, count, count)
+        } else {
+            self.replaces && !have_text(source, between, self.next, count)
+        }
+    }
+
+    fn with(self, joint: &Joint) -> Last {
+        let plan = &joint.plan;
         Last {
             manner: self.manner,
             next: behind(self.next, plan),
             is_new: plan.stands_for.is_none(),
             is_kept: plan.kept.is_some(),
+            replaces: joint.replaces,
         }
     }
 }
@@ -399,15 +452,7 @@ fn put_tree(
     if joint.needs_divider {
         put_divider(source, between, last.next, output)?;
     } else {
-        let is_loose = last.is_loose(plan.kept.is_some());
-        put_before(
-            source,
-            between,
-            last.next,
-            plan.stands_for,
-            is_loose,
-            output,
-        )?;
+        put_before(source, between, last, joint, output)?;
     }
     let number = behind(last.next, plan);
     put_block(
@@ -431,7 +476,7 @@ fn put_end(
     requires { Builds source.now output.old }
     ensures { OnOk result (Builds source.now output.new) }
 {
-    put_tail(source, between, last.next, last.is_new, output)?;
+    put_tail(source, between, last, output)?;
     let line_end = between.line_end(between.blocks.len());
     if last.manner.apart && !last.is_kept {
         end_line(source, line_end, output)?;
@@ -471,10 +516,11 @@ pub(crate) fn joined(
         next: 0,
         is_new: false,
         is_kept: true,
+        replaces: false,
     };
     for (joint, piece) in joints.iter().zip(written.pieces) {
         put_tree(source, between, last, joint, piece, &mut output)?;
-        last = last.with(&joint.plan);
+        last = last.with(joint);
     }
     put_end(source, between, last, written.definitions, &mut output)?;
     Ok(output)

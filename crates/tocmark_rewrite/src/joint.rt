@@ -18,6 +18,8 @@ pub(crate) struct Joint {
     pub(crate) mark: Option<char>,
     /// Whether a definition has to be before it.
     pub(crate) needs_divider: bool,
+    /// Whether it alone takes the place of blocks that were taken out.
+    pub(crate) replaces: bool,
 }
 
 /// The byte after the digits that begin at a place.
@@ -177,6 +179,24 @@ impl<'e> Row<'_, 'e> {
         }
     }
 
+    /// Whether a new tree takes the place of blocks that were taken out: those up to the one that the tree after it stands for. Of
+    /// several new trees in a row, none does.
+    fn replaces(self, next: usize, last: Option<Joint>, behind: Option<&Plan>) -> bool {
+        if let Some(joint) = last
+            && joint.plan.stands_for.is_none()
+        {
+            return false;
+        }
+        let place = match behind {
+            Some(plan) => plan.stands_for,
+            None => Some(self.blocks.len()),
+        };
+        match place {
+            Some(place) => place > next,
+            None => false,
+        }
+    }
+
     /// How each tree is after the one before it.
     pub(crate) fn joints(
         self,
@@ -190,17 +210,14 @@ impl<'e> Row<'_, 'e> {
             let plan = self.plans[at];
             let is_divided = self.is_divided(next, &plan);
             next = behind(next, &plan);
-            let follows = self.mark_behind(
-                options,
-                &plan,
-                next,
-                self.plans.get(at.saturating_add(1)),
-            );
+            let after = self.plans.get(at.saturating_add(1));
+            let follows = self.mark_behind(options, &plan, next, after);
             let before = if is_divided { None } else { last };
             let joint = Joint {
                 plan,
                 mark: chosen_mark(self.own_mark(options, &plan), before, follows),
                 needs_divider: self.meets_code(before, &plan),
+                replaces: plan.stands_for.is_none() && self.replaces(next, last, after),
             };
             last = Some(joint);
             joints.push(joint)?;
