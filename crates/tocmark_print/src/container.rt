@@ -44,6 +44,8 @@ fn number_in(digits: &str) -> u32 {
 struct ItemColumns {
     indent: usize,
     pad: usize,
+    /// Whether it begins with indented code: more than one column after the marker would be code.
+    begins_code: bool,
     content: usize,
     column: usize,
 }
@@ -78,8 +80,8 @@ impl Printer<'_> {
     fn open_list(&mut self, part: &Part, at: usize, is_ordered: bool) -> Result<(), AllocError> {
         let (start, end) = part.range(at);
         let digits = digits_in(self.source.slice(start, end));
-        let behind = start.saturating_add(digits);
-        let own = self.source.byte(behind);
+        let after = start.saturating_add(digits);
+        let own = self.source.byte(after);
         let wanted = if is_ordered {
             self.look.delimiter
         } else {
@@ -95,7 +97,7 @@ impl Printer<'_> {
             marker
         };
         if is_ordered {
-            frame.number = Some(number_in(self.source.slice(start, behind)));
+            frame.number = number_in(self.source.slice(start, after));
         }
         frame.is_tight = !part.is_loose(at);
         frame.is_close = part.is_loose_by_definitions(at);
@@ -104,27 +106,30 @@ impl Printer<'_> {
     }
 
     /// What an item has in the source whose marker ends at a place.
-    fn item_columns(&self, start: usize, behind: usize) -> ItemColumns {
+    fn item_columns(&self, start: usize, after: usize) -> ItemColumns {
         let source = self.source;
         let front = self.page.front(source, start);
         let front_column = front.column.saturating_add(front.spare);
         let marker = source.column_at(front_column, front.at.min(start), start);
         let indent = marker.saturating_sub(front.column);
-        let marker_end = source.column_at(marker, start, behind);
-        let content = source.past_blanks(behind);
-        let column = source.column_at(marker_end, behind, content);
+        let marker_end = source.column_at(marker, start, after);
+        let content = source.past_blanks(after);
+        let column = source.column_at(marker_end, after, content);
         let pad = column.saturating_sub(marker_end);
-        if pad > 4 || source.byte(content) == b'\n' {
+        let is_empty = source.byte(content) == b'\n';
+        if pad > 4 || is_empty {
             return ItemColumns {
                 indent,
                 pad: 1,
-                content: behind.saturating_add(1).min(content),
+                begins_code: !is_empty,
+                content: after.saturating_add(1).min(content),
                 column: marker_end.saturating_add(1),
             };
         }
         ItemColumns {
             indent,
             pad: pad.max(1),
+            begins_code: false,
             content,
             column,
         }
@@ -134,14 +139,15 @@ impl Printer<'_> {
     fn push_marker(&mut self, text: &mut String, own: &str) -> Result<(), AllocError> {
         let list = self.page.top();
         let marker = char::from(list.marker);
-        if let Some(number) = list.number {
+        let number = list.number;
+        if list.is_numbered() {
             let mut digits = format!(in self.alloc; "{number}")?;
             if self.look.numbering == Numbering::Source || digits.len() > DIGITS {
                 digits = String::from_str(self.alloc, own)?;
             }
             text.push_str(digits.as_str())?;
             if self.look.numbering == Numbering::Increment {
-                self.page.top_mut().number = Some(number.saturating_add(1));
+                self.page.top_mut().number = number.saturating_add(1);
             }
         }
         text.push(marker)
@@ -156,6 +162,7 @@ impl Printer<'_> {
         self.push_marker(&mut first, own)?;
         let pad = match self.look.list_indent {
             ListIndent::Source => columns.pad,
+            ListIndent::Four if columns.begins_code => 1,
             ListIndent::Marker => 1,
             ListIndent::Four => 4usize.saturating_sub(first.len()).max(1),
         };
@@ -167,12 +174,12 @@ impl Printer<'_> {
         let (start, end) = range;
         let own = self.source.slice(start, end);
         let digits = digits_in(own);
-        let behind = start.saturating_add(digits).saturating_add(1);
-        let columns = self.item_columns(start, behind);
+        let after = start.saturating_add(digits).saturating_add(1);
+        let columns = self.item_columns(start, after);
         let sign = self.item_sign(own.get(..digits).unwrap_or(""), columns)?;
         let before = columns
             .indent
-            .saturating_add(behind.saturating_sub(start))
+            .saturating_add(after.saturating_sub(start))
             .saturating_add(columns.pad);
         let list = self.page.top();
         let mut frame = Frame::new(Kind::Item, columns.content, end).at_columns(
@@ -197,10 +204,10 @@ impl Printer<'_> {
             Some(at) => at.saturating_add(2),
             None => 0,
         };
-        let behind = start.saturating_add(label);
-        let mut sign = String::from_str(self.alloc, self.source.slice(start, behind))?;
+        let after = start.saturating_add(label);
+        let mut sign = String::from_str(self.alloc, self.source.slice(start, after))?;
         sign.push(' ')?;
-        let content = self.source.past_blanks(behind);
+        let content = self.source.past_blanks(after);
         let column = self.column_of(start, content);
         let frame = Frame::new(Kind::Footnote, content, end).at_columns(column, 4);
         self.page.open(frame, sign.as_str())

@@ -3,7 +3,7 @@
 use crate::page::{Kind, Place};
 use crate::part::{Mark, Part};
 use crate::printer::Printer;
-use crate::style::Wrap;
+use crate::style::{ListIndent, Wrap};
 use std::alloc::AllocError;
 
 /// What begins a line that another dialect takes for more than text.
@@ -30,11 +30,13 @@ const BLOCK_OPENERS: [&str; 9] = [
 /// How many bytes beside the end of a list are looked at.
 const NEAR: usize = 64;
 
-/// A block of another dialect: how many containers are open round it, and the column where it begins in the innermost one.
+/// A block of another dialect: how many containers are open round it, the column where it begins in the innermost one, and how
+/// many blanks its lines lose.
 #[derive(Clone, Copy)]
 pub(crate) struct Foreign {
     depth: usize,
     column: usize,
+    shift: usize,
 }
 
 /// Whether a text begins with one of some words.
@@ -348,6 +350,25 @@ impl Printer<'_> {
         false
     }
 
+    /// Whether a paragraph goes on on a lazy line below one that could be the delimiter row of a table. To GitHub the table
+    /// ends before the lazy line, which would be a row after the prefixes of the containers.
+    fn has_lazy_row(&self, start: usize, end: usize) -> bool {
+        let source = self.source;
+        let second = source.line_of(start).saturating_add(1);
+        let last = source.line_of(end.saturating_sub(1));
+        let mut is_below_row = false;
+        for line in second..=last {
+            if is_below_row {
+                if !self.page.stripped(source, source.start_of(line)).is_met {
+                    return true;
+                }
+            } else {
+                is_below_row = is_delimiter_row(self.bare_line(line)) && self.could_be_row(line);
+            }
+        }
+        false
+    }
+
     /// Whether fenced code is after a tab that a list cuts with two columns or more left over. `cmark-gfm` puts blanks in
     /// front of such code.
     fn has_cut_tab(&self, start: usize) -> bool {
@@ -407,10 +428,16 @@ impl Printer<'_> {
     /// Whether other programs read a block in a container otherwise, so that the block at the top has to keep its lines.
     fn is_misread(&self, kind: Kind, start: usize, end: usize) -> bool {
         match kind {
-            Kind::Paragraph => self.has_lazy_tag(start, end),
-            Kind::Code => self.has_cut_tab(start),
+            Kind::Paragraph => self.has_lazy_tag(start, end) || self.has_lazy_row(start, end),
+            Kind::Code => self.has_cut_tab(start) || self.would_move(start),
+            Kind::Html => self.would_move(start),
             _ => false,
         }
+    }
+
+    /// Whether a block of which each blank counts is below one of another dialect whose lines lose some: it can't go with them.
+    fn would_move(&self, start: usize) -> bool {
+        self.is_below_foreign(start) && self.shift_of(start) > 0
     }
 
     /// Whether a line with text follows, in the same container, on a list, a quote or a footnote that ends with the box of a
@@ -546,12 +573,39 @@ impl Printer<'_> {
         }
     }
 
+    /// How many blanks the lines of a block lose that keeps its lines, if items are indented by four columns: as many as the
+    /// content of its containers moves to the right, so that the block stays in its column. Python-Markdown reads blocks in
+    /// items at each fourth column alone.
+    fn shift_at(&self, start: usize) -> usize {
+        if !matches!(self.look.list_indent, ListIndent::Four) {
+            return 0;
+        }
+        let place = self.page.front(self.source, start);
+        let (_, printed) = self.page.prefix_columns();
+        printed
+            .saturating_sub(place.column)
+            .min(self.indent_behind(place))
+    }
+
+    /// The same of a block that is or isn't of another dialect: all of such a block lose as many.
+    pub(crate) fn shift_of(&self, start: usize) -> usize {
+        match self.foreign {
+            Some(above) if above.depth == self.page.depth() => above.shift,
+            _ => self.shift_at(start),
+        }
+    }
+
     /// Begins a block of another dialect, unless it belongs to the one above.
     pub(crate) fn begin_foreign(&mut self, start: usize) {
         if !self.is_below_foreign(start) {
             let depth = self.page.depth();
             let column = self.column_in_container(start);
-            self.foreign = Some(Foreign { depth, column });
+            let shift = self.shift_at(start);
+            self.foreign = Some(Foreign {
+                depth,
+                column,
+                shift,
+            });
         }
     }
 

@@ -74,29 +74,39 @@ fn comment_at(part: &Part, at: usize) -> Option<&str> {
     }
 }
 
+/// A text without the spaces in front, of which it loses so many at most.
+fn without_spaces(text: &str, count: usize) -> &str {
+    let spaces = text
+        .len()
+        .saturating_sub(text.trim_start_matches(' ').len());
+    text.get(spaces.min(count)..).unwrap_or(text)
+}
+
 impl Printer<'_> {
-    /// Prints a line of the source up to a place, after the blanks that a tab leaves over. A lazy line that would begin a
-    /// block after the prefixes gets four blanks.
-    fn print_rest(&mut self, place: Place, to: usize) -> Result<(), AllocError> {
+    /// Prints a line of the source up to a place, after the blanks that a tab leaves over, without so many blanks. A lazy line
+    /// that would begin a block after the prefixes gets four blanks.
+    fn print_rest(&mut self, place: Place, to: usize, shift: usize) -> Result<(), AllocError> {
         let text = self.source.slice(place.at, to);
         let is_lazy_hazard = !place.is_met && is_hazard(text.trim_start_matches(&[' ', '\t']));
-        let front = if is_lazy_hazard {
-            INDENT
-        } else {
-            blanks(place.spare)
-        };
+        if is_lazy_hazard {
+            return self.page.line_with(INDENT, text);
+        }
+        let front = blanks(place.spare.saturating_sub(shift));
+        let text = without_spaces(text, shift.saturating_sub(place.spare));
         self.page.line_with(front, text)
     }
 
-    /// Prints the source's lines from one place to another, unchanged but for the prefixes of the open containers.
+    /// Prints the source's lines from one place to another, unchanged but for the prefixes of the open containers, and for the
+    /// blanks that `shift_of` takes away.
     pub(crate) fn print_lines(&mut self, start: usize, end: usize) -> Result<(), AllocError> {
         let source = self.source;
+        let shift = self.shift_of(start);
         let base = source.line_start(start);
         let top = self.page.top();
         let first_end = end.min(source.line_end(start));
         if top.content() <= base && !top.owes_sign() {
             let place = self.page.stripped(source, base);
-            self.print_rest(place, first_end.max(place.at))?;
+            self.print_rest(place, first_end.max(place.at), shift)?;
         } else {
             self.page.line(source.slice(start, first_end))?;
         }
@@ -107,7 +117,7 @@ impl Printer<'_> {
             }
             let place = self.page.stripped(source, at);
             let line_end = source.line_end(place.at);
-            self.print_rest(place, end.max(place.at).min(line_end))?;
+            self.print_rest(place, end.max(place.at).min(line_end), shift)?;
             at = line_end.saturating_add(1);
         }
         Ok(())

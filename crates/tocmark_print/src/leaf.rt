@@ -399,15 +399,37 @@ impl<'d> Printer<'d> {
         Ok(fence)
     }
 
-    /// Prints code between fences, the first one with what is after it.
-    fn print_fenced(&mut self, text: &str, fence: &str, info: &str) -> Result<(), AllocError> {
+    /// Prints code between fences, the first one with what is after it. A fence that is open at the end stays so if a line
+    /// ends there that no line feed ends: of code, or a blank one that no event has.
+    fn print_fenced(
+        &mut self,
+        text: &str,
+        fence: &str,
+        info: &str,
+        has_open_line: bool,
+    ) -> Result<(), AllocError> {
         self.page.line_with(fence, info)?;
         self.print_raw(text)?;
         if self.is_cut {
-            Ok(())
-        } else {
-            self.page.line(fence)
+            return Ok(());
         }
+        if has_open_line {
+            self.is_cut = true;
+            return self.page.bare_line();
+        }
+        self.page.line(fence)
+    }
+
+    /// Whether fenced code ends with a blank line without a line feed, at the end of the source. To GitHub that is a line of
+    /// the code.
+    fn has_open_line(&self, range: (usize, usize)) -> bool {
+        let source = self.source;
+        let (start, end) = range;
+        let last = source.line_start(end);
+        if end < source.text.len() || last <= start || last == end {
+            return false;
+        }
+        source.past_blanks(self.page.stripped(source, last).at) >= end
     }
 
     pub(crate) fn print_code(
@@ -427,7 +449,14 @@ impl<'d> Printer<'d> {
         let fence = self.fence_of(head, text)?;
         let own = run(head, head.as_bytes().first().copied().unwrap_or(b'`'));
         let info = without_blanks(head.get(own..).unwrap_or(""));
-        self.print_fenced(text, fence.as_str(), info)
+        let has_open_line = self.has_open_line((start, end));
+        let is_whole = text.is_empty() || text.ends_with('\n');
+        if has_open_line && is_whole && self.page.depth() == 0 {
+            // the blanks of that line are none of the code only with the fence's indent
+            self.is_cut = true;
+            return self.print_lines(start, end);
+        }
+        self.print_fenced(text, fence.as_str(), info, has_open_line)
     }
 
     pub(crate) fn print_html(&mut self, part: &Part, at: usize) -> Result<(), AllocError> {
@@ -450,7 +479,8 @@ impl<'d> Printer<'d> {
             Rule::Dashes => "---",
         };
         let sign = if top.kind == Kind::Item && !top.is_used {
-            self.page.sign().as_bytes().first().copied()
+            let sign = self.page.sign().trim_start_matches(' ');
+            sign.as_bytes().first().copied()
         } else {
             None
         };

@@ -45,9 +45,8 @@ enum Lead {
 /// A container that is open. Its numbers are short, because one line may open a container for each two bytes.
 #[derive(Clone, Copy)]
 pub(crate) struct Frame {
-    /// Where its sign begins among those of the page, and how long it is. It is before its first line, if that has something
-    /// else there than the others.
-    sign: u32,
+    /// How long its sign is among those of the page. It is before its first line, if that has something else there than the
+    /// others.
     sign_length: u32,
     /// How many columns an item, a footnote or a definition has before each of its lines in the source.
     columns: u32,
@@ -58,7 +57,7 @@ pub(crate) struct Frame {
     /// The place in the source after what is printed of it.
     at: u32,
     /// Of a list with numbers, that of its next item.
-    pub(crate) number: Option<u32>,
+    pub(crate) number: u32,
     pub(crate) kind: Kind,
     pub(crate) is_tight: bool,
     /// Whether blank lines are only beside definitions of links, in a list and in its items.
@@ -79,14 +78,13 @@ impl Frame {
     /// A container whose content begins at a place, and which has no sign and no columns.
     pub(crate) fn new(kind: Kind, content: usize, end: usize) -> Frame {
         Frame {
-            sign: 0,
             sign_length: 0,
             columns: 0,
             content: short(content),
             column: 0,
             end: short(end),
             at: short(content),
-            number: None,
+            number: 0,
             kind,
             is_tight: false,
             is_close: false,
@@ -132,12 +130,18 @@ impl Frame {
         !self.is_used && (self.sign_length > 0 || self.kind == Kind::Quote)
     }
 
-    /// Its sign among those of the page.
-    fn sign<'s>(&self, signs: &'s str) -> &'s str {
-        let from = self.sign as usize;
-        signs
-            .get(from..from.saturating_add(self.sign_length as usize))
-            .unwrap_or("")
+    /// Whether it is a list with numbers.
+    pub(crate) fn is_numbered(&self) -> bool {
+        matches!(self.marker, b'.' | b')')
+    }
+
+    /// Its sign and those after it, of signs that begin with its own.
+    fn split_sign<'s>(&self, signs: &'s str) -> (&'s str, &'s str) {
+        let length = self.sign_length as usize;
+        (
+            signs.get(..length).unwrap_or(""),
+            signs.get(length..).unwrap_or(""),
+        )
     }
 
     /// What is before its lines, but for the sign before the first one.
@@ -150,19 +154,19 @@ impl Frame {
         }
     }
 
-    /// Puts after a text what is before its next line; it is given the signs of the page.
-    fn push_prefix(&mut self, text: &mut String, signs: &str) -> Result<(), AllocError> {
+    /// Puts after a text what is before its next line; it is given its sign.
+    fn push_prefix(&mut self, text: &mut String, sign: &str) -> Result<(), AllocError> {
         let is_first = !self.is_used && self.sign_length > 0;
         self.is_used = true;
         if is_first {
-            text.push_str(self.sign(signs))
+            text.push_str(sign)
         } else {
             push_lead(text, self.lead())
         }
     }
 
-    /// How many columns are before its next line, and before each line after it; it is given the signs of the page.
-    fn prefix_columns(&self, signs: &str) -> (usize, usize) {
+    /// How many columns are before its next line, and before each line after it; it is given its sign.
+    fn prefix_columns(&self, sign: &str) -> (usize, usize) {
         let others = match self.lead() {
             Lead::Nothing => 0,
             Lead::Quote => 2,
@@ -171,7 +175,7 @@ impl Frame {
         if self.is_used || self.sign_length == 0 {
             (others, others)
         } else {
-            (width(self.sign(signs)), others)
+            (width(sign), others)
         }
     }
 
@@ -322,7 +326,14 @@ impl Page {
 
     /// The sign of the innermost container.
     pub(crate) fn sign(&self) -> &str {
-        self.top.sign(self.signs.as_str())
+        let from = self.start_of_sign();
+        self.signs.as_str().get(from..).unwrap_or("")
+    }
+
+    /// Where the sign of the innermost container begins: it is the last one.
+    fn start_of_sign(&self) -> usize {
+        let length = self.top.sign_length as usize;
+        self.signs.len().saturating_sub(length)
     }
 
     /// How many containers are open in the document.
@@ -337,11 +348,9 @@ impl Page {
 
     /// Opens a container with a sign, or with an empty one.
     pub(crate) fn open(&mut self, frame: Frame, sign: &str) -> Result<(), AllocError> {
-        let from = self.signs.len();
         self.signs.push_str(sign)?;
         self.outer.push(self.top)?;
         self.top = Frame {
-            sign: short(from),
             sign_length: short(sign.len()),
             ..frame
         };
@@ -350,8 +359,9 @@ impl Page {
 
     /// Closes the innermost container, unless it is the document.
     pub(crate) fn close(&mut self) {
+        let start = self.start_of_sign();
         if let Some(outer) = self.outer.pop() {
-            cut(&mut self.signs, self.top.sign as usize);
+            cut(&mut self.signs, start);
             self.top = outer;
         }
     }
@@ -379,22 +389,46 @@ impl Page {
 
     /// How many columns the containers have before the next line, and before each line after it.
     pub(crate) fn prefix_columns(&self) -> (usize, usize) {
-        let signs = self.signs.as_str();
-        let (mut first, mut others) = self.top.prefix_columns(signs);
+        let mut signs = self.signs.as_str();
+        let (mut first, mut others) = self.top.prefix_columns(self.sign());
         for frame in self.outer.iter() {
-            let (next, behind) = frame.prefix_columns(signs);
+            let (sign, rest) = frame.split_sign(signs);
+            signs = rest;
+            let (next, after) = frame.prefix_columns(sign);
             first = first.saturating_add(next);
-            others = others.saturating_add(behind);
+            others = others.saturating_add(after);
         }
         (first, others)
     }
 
-    /// Starts a line: what the containers have before it. From here on their first lines are printed.
-    fn start_line(&mut self) -> Result<(), AllocError> {
+    /// Puts after the text what the containers have before the next line. From here on their first lines are printed.
+    fn push_prefixes(&mut self) -> Result<(), AllocError> {
+        let mut signs = self.signs.as_str();
         for frame in self.outer.iter_mut() {
-            frame.push_prefix(&mut self.text, self.signs.as_str())?;
+            let (sign, rest) = frame.split_sign(signs);
+            signs = rest;
+            frame.push_prefix(&mut self.text, sign)?;
         }
-        self.top.push_prefix(&mut self.text, self.signs.as_str())
+        self.top.push_prefix(&mut self.text, signs)
+    }
+
+    /// Starts a line; how many bytes the containers have before it.
+    fn start_line(&mut self) -> Result<usize, AllocError> {
+        let start = self.text.len();
+        self.push_prefixes()?;
+        let prefix = self.text.len().saturating_sub(start);
+        self.is_over = prefix > self.budget;
+        self.budget = self.budget.saturating_sub(prefix);
+        Ok(prefix)
+    }
+
+    /// Prints a line of what the containers have before it alone, with the blanks at its end.
+    pub(crate) fn bare_line(&mut self) -> Result<(), AllocError> {
+        if self.is_over {
+            return Ok(());
+        }
+        self.start_line()?;
+        self.text.push('\n')
     }
 
     /// Prints a line after what the containers have before it; no blanks are at the end of one without a text.
@@ -407,11 +441,7 @@ impl Page {
         if self.is_over {
             return Ok(());
         }
-        let start = self.text.len();
-        self.start_line()?;
-        let prefix = self.text.len().saturating_sub(start);
-        self.is_over = prefix > self.budget;
-        self.budget = self.budget.saturating_sub(prefix);
+        let prefix = self.start_line()?;
         if line.is_empty() && tail.is_empty() {
             cut_blanks(&mut self.text, prefix);
         }
@@ -454,7 +484,7 @@ impl Page {
     /// Where on the line of a place a block begins that begins there: after the markers on it, or after its prefixes.
     pub(crate) fn front(&self, source: &Source<'_>, at: usize) -> Place {
         let base = source.line_start(at);
-        match self.content_behind(base) {
+        match self.content_after(base) {
             Some((content, column)) => Place {
                 at: content,
                 column,
@@ -466,7 +496,7 @@ impl Page {
     }
 
     /// Where the content of the innermost container that begins after a place begins, with its column; lists don't count.
-    fn content_behind(&self, place: usize) -> Option<(usize, usize)> {
+    fn content_after(&self, place: usize) -> Option<(usize, usize)> {
         if self.top.kind != Kind::List && self.top.content() > place {
             return Some((self.top.content(), self.top.column as usize));
         }

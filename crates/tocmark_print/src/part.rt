@@ -143,8 +143,8 @@ struct Node {
     end: u32,
 }
 
-/// A number in four bytes. In a document of more than 4 GiB the largest one stands for those that don't fit. What is printed
-/// then reads otherwise, so the document stays as it is.
+/// A number in four bytes: the largest one in place of those that don't fit, in a document of more than 4 GiB. What is
+/// printed then reads otherwise, so the document stays as it is.
 pub(crate) fn short(number: usize) -> u32 {
     if number > 0xffff_ffff {
         0xffff_ffff
@@ -184,7 +184,7 @@ struct Share {
 #[derive(Clone, Copy)]
 enum Role {
     /// A list, with its number.
-    List(usize),
+    List(u32),
     Item,
     /// Code or HTML, whose texts are kept.
     Raw,
@@ -197,14 +197,14 @@ enum Role {
 /// So many open containers have room from tree to tree.
 const FEW: usize = 64;
 
-/// A container that is open.
+/// A container that is open. Its numbers are short, as those of a `Node`.
 #[derive(Clone, Copy)]
 struct OpenContainer {
     /// The place of its Start.
-    at: usize,
+    at: u32,
     role: Role,
-    /// The end in the source of the last block in it, if there is one.
-    last: Option<usize>,
+    /// The end in the source of the last block in it; 0 if there is none.
+    last: u32,
 }
 
 /// Some trees at the top of a document, to which events are added one by one.
@@ -344,7 +344,7 @@ impl Part {
         let outer = self.open.len().checked_sub(2)?;
         match self.open.get(outer) {
             Some(container) => match container.role {
-                Role::List(list) => Some(list),
+                Role::List(list) => Some(list as usize),
                 _ => None,
             },
             None => None,
@@ -358,7 +358,7 @@ impl Part {
             return;
         };
         let list = match container.role {
-            Role::List(list) => Some(list),
+            Role::List(list) => Some(list as usize),
             Role::Item => self.list_round_item(),
             _ => None,
         };
@@ -375,9 +375,9 @@ impl Part {
                 _ => {}
             }
         }
-        if let Some(last) = container.last
+        if container.last > 0
             && !is_inline
-            && source.has_blank_line(last, start)
+            && source.has_blank_line(container.last as usize, start)
         {
             self.tell(list, Spread::Loose);
             self.note_gap(list);
@@ -392,7 +392,7 @@ impl Part {
             spread: Spread::Unknown,
             has_gap: false,
         })?;
-        Ok(Role::List(list))
+        Ok(Role::List(short(list)))
     }
 
     /// Notes a block of code or HTML that begins here; its role.
@@ -412,9 +412,9 @@ impl Part {
             _ => Role::Block,
         };
         self.open.push(OpenContainer {
-            at,
+            at: short(at),
             role,
-            last: None,
+            last: 0,
         })?;
         if !is_inline_opening(opening) {
             self.deepest = self.deepest.max(self.open.len());
@@ -441,14 +441,14 @@ impl Part {
         let Some(container) = self.open.pop() else {
             return;
         };
-        if let Some(node) = self.nodes.get_mut(container.at) {
+        if let Some(node) = self.nodes.get_mut(container.at as usize) {
             node.end = short(at);
         }
         if let Role::Inline = container.role {
             return;
         }
         if let Some(outer) = self.open.last_mut() {
-            outer.last = Some(end);
+            outer.last = short(end);
         }
     }
 

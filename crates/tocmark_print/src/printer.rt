@@ -81,7 +81,11 @@ impl<'d> Printer<'d> {
         if top.is_tight || (is_joined && !is_beside) {
             if last == Kind::Quote && matches!(kind, Kind::Paragraph | Kind::Foreign) {
                 // else the text would go on with the quote's paragraph
-                return self.page.line(">");
+                return if top.keeps_gaps {
+                    self.page.blank()
+                } else {
+                    self.page.line(">")
+                };
             }
             return Ok(());
         }
