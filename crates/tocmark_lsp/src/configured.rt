@@ -1,12 +1,12 @@
 //! The settings of a document, as `tocmark-format` finds them: by the nearest `.tocmark.toml`, by files of EditorConfig if that
 //! asks for them, and by whether the document belongs to a site of MkDocs.
 
-use crate::message::{Code, Fault};
-use crate::tree::Files;
 use std::alloc::{AllocError, AllocFailed, Global};
 use std::fmt;
 use tocmark_files::rules::Entry;
 use tocmark_links::paths::folder_and_name;
+use tocmark_lsp_pages::message::{Code, Fault};
+use tocmark_lsp_pages::tree::Files;
 use tocmark_print::ListIndent;
 use tocmark_settings::{
     Asked, CONFIGURATION_FILE, Configuration, Document, EDITORCONFIG_FILE, EditorConfig, Location,
@@ -56,9 +56,10 @@ impl<T: Drop> From<AllocFailed<T>> for Unknown {
     }
 }
 
-impl From<Unknown> for Fault {
-    fn from(unknown: Unknown) -> Fault {
-        match unknown {
+impl Unknown {
+    /// Why a request isn't answered.
+    pub(crate) fn fault(&self) -> Fault {
+        match self {
             Unknown::OutOfMemory => Fault::OutOfMemory,
             Unknown::Wrong(_) => Fault::Refused(
                 Code::Failed,
@@ -162,9 +163,19 @@ impl<F: Files> Lookup<'_, F> {
             });
         };
         let configuration = self.parsed(&found)?;
+        self.settings_by(&configuration, path, is_of_site)
+    }
+
+    /// The settings of the document with a path by its configuration.
+    fn settings_by(
+        &self,
+        configuration: &Configuration,
+        path: &str,
+        is_of_site: bool,
+    ) -> Result<Configured, Unknown> {
         let said = match configuration.editorconfig {
             Asked::Nothing => Said::NOTHING,
-            _ => self.said_of(folder, path)?,
+            _ => self.said_of(folder_and_name(path).0, path)?,
         };
         let document = Document {
             path: Some(path),

@@ -4,18 +4,15 @@ ghost use Rattle.std.specs.Prelude.{IfOk, string_bytes};
 ghost use Rattle.tocmark_lsp.specs.Formatting.{IsFormatting};
 ghost use Rattle.tocmark_lsp_text.specs.Edits.{edited};
 
-use crate::edits::edits_json;
-use crate::message::{Code, Fault, range_in};
 use serde_json::Value;
 use std::alloc::{AllocError, Global};
 use tocmark_format::{Formatted, Lines, StyledLines, formatted_lines};
+use tocmark_lsp_pages::edits::edits_json;
+use tocmark_lsp_pages::message::{Code, Fault, range_in};
 use tocmark_lsp_text::edits::{Edit, EditError, line_edits};
 use tocmark_lsp_text::positions::Encoding;
 use tocmark_reader::{ExtendedReader, Names};
 use tocmark_settings::Settings;
-
-/// What reads texts.
-pub(crate) const READER: ExtendedReader = ExtendedReader { names: Names::All };
 
 /// Formats the blocks of a text that these lines touch, or all.
 pub(crate) fn formatted_as(

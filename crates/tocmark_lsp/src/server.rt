@@ -1,23 +1,22 @@
 //! The server: what it keeps, and what it answers to each message.
 
-use crate::actions::offered;
 use crate::checking::problems;
-use crate::completion::completions;
 use crate::configured::{Configured, Lookup, Unknown};
-use crate::documents::{Document, Documents};
 use crate::formatting;
-use crate::headings::{prepared, renamed};
-use crate::links::{Asking, Read};
-use crate::message::{
-    Call, Code, Fault, JsonText, answer_message, notice_message, question_message, refusal_message,
-};
-use crate::moves::moves_in;
-use crate::outline::{folding, headings, symbols};
+use crate::offers::offered;
 use crate::settings::Settings;
-use crate::tree::{Files, Gathering, Place, Terms, path_in};
-use crate::workspace::Workspace;
 use serde_json::Value;
 use std::alloc::{AllocError, Global};
+use tocmark_lsp_pages::client::Client;
+use tocmark_lsp_pages::documents::{Document, Documents};
+use tocmark_lsp_pages::links::Asking;
+use tocmark_lsp_pages::message::{
+    Call, Code, Fault, JsonText, answer_message, notice_message, question_message, refusal_message,
+};
+use tocmark_lsp_pages::moves::moves_in;
+use tocmark_lsp_pages::questions::{Question, answered};
+use tocmark_lsp_pages::tree::{Files, Gathering, Place, Terms, is_of_file, path_in};
+use tocmark_lsp_pages::workspace::Workspace;
 use tocmark_lsp_text::positions::Encoding;
 use tocmark_settings::named;
 
@@ -47,18 +46,11 @@ enum Request {
     Shutdown,
     Formatting,
     RangeFormatting,
-    Symbols,
-    Folding,
-    Links,
-    Definition,
-    References,
-    Hover,
     Actions,
-    PrepareRename,
-    Rename,
     WillRename,
-    Completion,
     Text,
+    /// One that no formatting needs.
+    About(Question),
 }
 
 /// The notifications that change something.
@@ -79,17 +71,35 @@ static REQUESTS: [(&str, Request); 16] = [
     ("shutdown", Request::Shutdown),
     ("textDocument/formatting", Request::Formatting),
     ("textDocument/rangeFormatting", Request::RangeFormatting),
-    ("textDocument/documentSymbol", Request::Symbols),
-    ("textDocument/foldingRange", Request::Folding),
-    ("textDocument/documentLink", Request::Links),
-    ("textDocument/definition", Request::Definition),
-    ("textDocument/references", Request::References),
-    ("textDocument/hover", Request::Hover),
+    (
+        "textDocument/documentSymbol",
+        Request::About(Question::Symbols),
+    ),
+    (
+        "textDocument/foldingRange",
+        Request::About(Question::Folding),
+    ),
+    ("textDocument/documentLink", Request::About(Question::Links)),
+    (
+        "textDocument/definition",
+        Request::About(Question::Definition),
+    ),
+    (
+        "textDocument/references",
+        Request::About(Question::References),
+    ),
+    ("textDocument/hover", Request::About(Question::Hover)),
     ("textDocument/codeAction", Request::Actions),
-    ("textDocument/prepareRename", Request::PrepareRename),
-    ("textDocument/rename", Request::Rename),
+    (
+        "textDocument/prepareRename",
+        Request::About(Question::PrepareRename),
+    ),
+    ("textDocument/rename", Request::About(Question::Rename)),
     ("workspace/willRenameFiles", Request::WillRename),
-    ("textDocument/completion", Request::Completion),
+    (
+        "textDocument/completion",
+        Request::About(Question::Completion),
+    ),
     // not of the protocol: the text as the server has it, for tests of clients
     ("tocmark/text", Request::Text),
 ];
@@ -124,53 +134,13 @@ const WATCHED: &str =
 pub struct Server {
     alloc: Global,
     phase: Phase,
-    encoding: Encoding,
+    client: Client,
     settings: Settings,
-    /// The path of the folder that the client has open; empty if it has none.
-    root: String,
     documents: Documents,
-    /// The paths of the Markdown files below the root, as they were when they were last listed.
+    /// The paths of the Markdown files below the client's folder, as they were when they were last listed.
     listed: Vec<String>,
     /// Whether a text was opened, closed or saved since, or a file changed.
     is_stale: bool,
-    /// Whether the client takes a version with the edits of a text.
-    is_versioned: bool,
-    /// Whether the client says which files change, if it is asked to.
-    is_watching: bool,
-    /// Whether the client takes actions that have their edits with them.
-    takes_actions: bool,
-}
-
-/// UTF-8 if the client can count so, and else UTF-16.
-fn encoding_of(call: Call<'_>) -> Encoding {
-    let offers = call
-        .at("/capabilities/general/positionEncodings")
-        .and_then(Value::as_array);
-    if let Some(offers) = offers {
-        for offer in offers {
-            if offer.as_str() == Some("utf-8") {
-                return Encoding::Utf8;
-            }
-        }
-    }
-    Encoding::Utf16
-}
-
-/// The path of the folder that a client has open; empty if it names none.
-fn root_of(alloc: Global, call: Call<'_>) -> Result<String, AllocError> {
-    for path in &["/workspaceFolders/0/uri", "/rootUri"] {
-        if let Some(uri) = call.at(*path).and_then(Value::as_str)
-            && let Some(root) = path_in(alloc, uri)?
-        {
-            return String::from_str(alloc, root.as_str().trim_end_matches('/'));
-        }
-    }
-    Ok(String::new(alloc))
-}
-
-/// Whether a client says that it can do what is at a path of its capabilities.
-fn is_able(call: Call<'_>, path: &str) -> bool {
-    call.at(path).and_then(Value::as_bool).unwrap_or(false)
 }
 
 impl Server {
@@ -179,15 +149,11 @@ impl Server {
         Server {
             alloc,
             phase: Phase::Begun,
-            encoding: Encoding::Utf16,
+            client: Client::new(alloc),
             settings: Settings::new(),
-            root: String::new(alloc),
             documents: Documents::new(alloc),
             listed: Vec::new(alloc),
             is_stale: true,
-            is_versioned: false,
-            is_watching: false,
-            takes_actions: false,
         }
     }
 
@@ -208,16 +174,33 @@ impl Server {
         message: &[u8],
         answers: &mut Vec<String>,
     ) -> Result<Next, AllocError> {
-        let message = match Value::from_slice(self.alloc, message) {
-            Ok(message) => message,
-            Err(error) if error.is_memory() => return Err(AllocError),
-            Err(_) => {
-                let why = "the message is not JSON";
-                answers.push(refusal_message(self.alloc, "null", Code::Parse, why)?)?;
-                return Ok(Next::GoOn);
-            }
-        };
-        match Call::of(&message) {
+        match Value::from_slice(self.alloc, message) {
+            Ok(message) => self.take_message(files, &message, answers),
+            Err(error) if error.is_memory() => Err(AllocError),
+            Err(_) => self.refuse(answers, "null", Code::Parse, "the message is not JSON"),
+        }
+    }
+
+    /// Adds the message that refuses a request.
+    fn refuse(
+        &self,
+        answers: &mut Vec<String>,
+        id: &str,
+        code: Code,
+        why: &str,
+    ) -> Result<Next, AllocError> {
+        answers.push(refusal_message(self.alloc, id, code, why)?)?;
+        Ok(Next::GoOn)
+    }
+
+    /// Takes a message that is JSON.
+    fn take_message<F: Files>(
+        &mut self,
+        files: &F,
+        message: &Value,
+        answers: &mut Vec<String>,
+    ) -> Result<Next, AllocError> {
+        match Call::of(message) {
             Ok(Some(call)) => self.take_call(files, call, answers),
             Ok(None) => Ok(Next::GoOn),
             Err(Fault::OutOfMemory) => Err(AllocError),
@@ -226,8 +209,7 @@ impl Server {
                     Some(id) => id.to_string(self.alloc)?,
                     None => String::from_str(self.alloc, "null")?,
                 };
-                answers.push(refusal_message(self.alloc, id.as_str(), code, why)?)?;
-                Ok(Next::GoOn)
+                self.refuse(answers, id.as_str(), code, why)
             }
         }
     }
@@ -289,7 +271,7 @@ impl Server {
 
     /// Asks the client to say which files change, if it can.
     fn watch(&self, answers: &mut Vec<String>) -> Result<(), AllocError> {
-        if self.is_watching {
+        if self.client.is_watching {
             let method = "client/registerCapability";
             answers.push(question_message(self.alloc, method, WATCHED)?)?;
         }
@@ -306,7 +288,7 @@ impl Server {
     ) -> Result<(), Fault> {
         match notice {
             Notice::Initialized => return Ok(self.watch(answers)?),
-            Notice::Change => return self.documents.change(self.encoding, call),
+            Notice::Change => return self.documents.change(self.client.encoding, call),
             _ => {}
         }
         self.is_stale = true;
@@ -332,10 +314,10 @@ impl Server {
     /// What is wrong in an open text, as JSON.
     fn problems_of<'x, F: Files>(&'x self, files: &'x F, uri: &'x str) -> Result<String, Fault> {
         let document = self.documents.document(uri)?;
-        if !uri.starts_with("file://") {
+        if !is_of_file(uri) {
             return Ok(String::from_str(self.alloc, "[]")?);
         }
-        let place = Place::of(self.alloc, self.root.as_str(), uri)?;
+        let place = Place::of(self.alloc, self.client.root.as_str(), uri)?;
         let configured = self.configured(files, uri);
         let asking = self.asking(files, &place, document, self.terms_by(&configured));
         Ok(problems(&asking, &configured)?)
@@ -379,12 +361,13 @@ impl Server {
     /// counts until a text is opened, closed or saved, or a file changes.
     fn list_for<F: Files>(&mut self, files: &F, request: Request) -> Result<(), AllocError> {
         let is_needed = match request {
-            Request::References | Request::Rename | Request::WillRename => true,
-            Request::Completion | Request::Actions => self.is_stale,
+            Request::WillRename => true,
+            Request::About(question) if question.is_of_all_pages() => true,
+            Request::About(Question::Completion) | Request::Actions => self.is_stale,
             _ => false,
         };
-        if is_needed && !self.root.is_empty() {
-            self.listed = files.pages(self.root.as_str())?;
+        if is_needed && !self.client.root.is_empty() {
+            self.listed = files.pages(self.client.root.as_str())?;
             self.is_stale = false;
         }
         Ok(())
@@ -399,7 +382,7 @@ impl Server {
     ) -> Result<String, Fault> {
         self.list_for(files, request)?;
         if let Request::WillRename = request {
-            let moves = moves_in(self.alloc, self.root.as_str(), call)?;
+            let moves = moves_in(self.alloc, self.client.root.as_str(), call)?;
             return self.workspace(files, self.terms()).moved(moves);
         }
         self.answer_about_text(files, request, call)
@@ -411,11 +394,11 @@ impl Server {
             alloc: self.alloc,
             files,
             documents: &self.documents,
-            root: self.root.as_str(),
+            root: self.client.root.as_str(),
             listed: &self.listed,
             terms,
-            encoding: self.encoding,
-            is_versioned: self.is_versioned,
+            encoding: self.client.encoding,
+            is_versioned: self.client.is_versioned,
         }
     }
 
@@ -438,7 +421,7 @@ impl Server {
             uri: document.uri.as_str(),
             text: document.text.as_str(),
             version: document.version,
-            encoding: self.encoding,
+            encoding: self.client.encoding,
         }
     }
 
@@ -483,16 +466,19 @@ impl Server {
         request: Request,
         call: Call<'_>,
         text: &str,
-        configured: Result<Configured, Unknown>,
+        configured: &Result<Configured, Unknown>,
     ) -> Result<String, Fault> {
         let Configured {
             settings,
             is_excluded,
-        } = configured?;
+        } = match configured {
+            Ok(configured) => *configured,
+            Err(unknown) => return Err(unknown.fault()),
+        };
         if is_excluded {
             return Ok(String::from_str(self.alloc, "[]")?);
         }
-        let (alloc, encoding) = (self.alloc, self.encoding);
+        let (alloc, encoding) = (self.alloc, self.client.encoding);
         if let Request::RangeFormatting = request {
             return formatting::part(alloc, encoding, settings, text, call.at("/range"));
         }
@@ -508,102 +494,26 @@ impl Server {
     ) -> Result<String, Fault> {
         let uri = call.uri()?;
         let document = self.documents.document(uri)?;
-        let text = document.text.as_str();
+        if let Request::Text = request {
+            let text = JsonText(document.text.as_str());
+            return Ok(format!(in self.alloc; "{text}")?);
+        }
         let configured = self.configured(files, uri);
+        if let Request::Formatting | Request::RangeFormatting = request {
+            return self.format(request, call, document.text.as_str(), &configured);
+        }
         let terms = self.terms_by(&configured);
+        let place = Place::of(self.alloc, self.client.root.as_str(), uri)?;
+        let asking = self.asking(files, &place, document, terms);
+        let workspace = self.workspace(files, terms);
         match request {
-            Request::Formatting | Request::RangeFormatting => {
-                self.format(request, call, text, configured)
-            }
-            Request::Symbols | Request::Folding => self.answer_about_blocks(request, text, terms),
-            Request::Text => {
-                let text = JsonText(text);
-                Ok(format!(in self.alloc; "{text}")?)
-            }
-            _ => {
-                let place = Place::of(self.alloc, self.root.as_str(), uri)?;
-                let asking = self.asking(files, &place, document, terms);
-                if let Request::Actions = request {
-                    if !self.takes_actions {
-                        return Ok(String::from_str(self.alloc, "[]")?);
-                    }
-                    let workspace = self.workspace(files, terms);
-                    return offered(&workspace, &asking, &configured, call);
-                }
-                self.answer_about_links(files, request, call, &asking)
-            }
-        }
-    }
-
-    /// The result of a request about the blocks of a text.
-    fn answer_about_blocks(
-        &self,
-        request: Request,
-        text: &str,
-        terms: Terms,
-    ) -> Result<String, Fault> {
-        let read = Read::of(self.alloc, text, self.encoding, terms)?;
-        let found = headings(self.alloc, text, &read.reading)?;
-        if let Request::Symbols = request {
-            return Ok(symbols(self.alloc, &read.lined, &found)?);
-        }
-        Ok(folding(self.alloc, &read.lined, &read.reading, &found)?)
-    }
-
-    /// The result of a request about the links of a text.
-    fn answer_about_links<F: Files>(
-        &self,
-        files: &F,
-        request: Request,
-        call: Call<'_>,
-        asking: &Asking<'_, F>,
-    ) -> Result<String, Fault> {
-        match request {
-            Request::Links => Ok(asking.document_links()?),
-            Request::Definition => Ok(asking.definition(call.position("/position")?)?),
-            Request::Hover => Ok(asking.hover(call.position("/position")?)?),
-            Request::References => self.references(files, call, asking),
-            Request::PrepareRename => Ok(prepared(asking, call.position("/position")?)?),
-            Request::Rename => {
-                let position = call.position("/position")?;
-                let name = call.text("/newName")?;
-                let workspace = self.workspace(files, asking.gathering.terms);
-                renamed(&workspace, asking, position, name)
-            }
-            Request::Completion => {
-                let position = call.position("/position")?;
-                let workspace = self.workspace(files, asking.gathering.terms);
-                Ok(completions(&workspace, asking, position)?)
-            }
+            Request::About(question) => answered(&workspace, &asking, question, call),
+            Request::Actions if !self.client.takes_actions => Ok(String::from_str(
+                self.alloc, "[]",
+            )?),
+            Request::Actions => offered(&workspace, &asking, &configured, call),
             _ => Err(Fault::Refused(Code::Method, "no such request is known")),
         }
-    }
-
-    /// The links by the label at a position, or those of all pages that lead to the heading there.
-    fn references<'x, F: Files>(
-        &'x self,
-        files: &'x F,
-        call: Call<'_>,
-        asking: &Asking<'_, F>,
-    ) -> Result<String, Fault> {
-        let position = call.position("/position")?;
-        let with_definition = is_able(call, "/context/includeDeclaration");
-        if let Some(json) = asking.label_references(position, with_definition)? {
-            return Ok(json);
-        }
-        let read = asking.read()?;
-        let page = asking.page()?;
-        let number = asking.heading_at(&read, &page, read.lined.byte(position))?;
-        let Some(heading) = number.and_then(|number| page.anchors.get(number)) else {
-            return Ok(String::from_str(self.alloc, "null")?);
-        };
-        let own = match heading.place {
-            Some(place) if with_definition => Some((asking.uri, read.lined.span(place))),
-            _ => None,
-        };
-        let place = asking.gathering.place;
-        let workspace = self.workspace(files, asking.gathering.terms);
-        Ok(workspace.links_to(place, &page, heading.name.as_str(), own)?)
     }
 
     /// Takes what a client can do and sets, and says what the server can do.
@@ -612,12 +522,12 @@ impl Server {
             None | Some(Value::Null) => Settings::new(),
             Some(options) => Settings::of(self.alloc, options)?,
         };
-        let encoding = encoding_of(call);
-        let name = match encoding {
+        let client = Client::of(self.alloc, call)?;
+        let name = match client.encoding {
             Encoding::Utf8 => "utf-8",
             Encoding::Utf16 => "utf-16",
         };
-        let renames = if is_able(call, "/capabilities/textDocument/rename/prepareSupport") {
+        let renames = if client.asks_for_names {
             "{\"prepareProvider\":true}"
         } else {
             "true"
@@ -625,20 +535,8 @@ impl Server {
         let answer = format!(in self.alloc;
             "{{\"capabilities\":{{\"positionEncoding\":\"{name}\",\"renameProvider\":{renames},{ABILITIES}}},\"serverInfo\":{{\"name\":\"tocmark-lsp\",\"version\":\"0.1.0\"}}}}"
         )?;
-        self.root = root_of(self.alloc, call)?;
-        self.is_versioned = is_able(
-            call,
-            "/capabilities/workspace/workspaceEdit/documentChanges",
-        );
-        self.is_watching = is_able(
-            call,
-            "/capabilities/workspace/didChangeWatchedFiles/dynamicRegistration",
-        );
-        self.takes_actions = call
-            .at("/capabilities/textDocument/codeAction/codeActionLiteralSupport")
-            .is_some();
         self.settings = settings;
-        self.encoding = encoding;
+        self.client = client;
         self.phase = Phase::Running;
         Ok(answer)
     }

@@ -1,9 +1,9 @@
 //! What a client sets when it starts the server: the kind of Markdown, where lines break, and how headings get their anchors.
 
-use crate::message::{Code, Fault};
 use serde_json::Value;
 use std::alloc::{AllocError, Global};
 use tocmark_links::slug::Slugs;
+use tocmark_lsp_pages::message::{Code, Fault};
 use tocmark_settings::{Key, named, set};
 
 /// What a client sets.

@@ -12,7 +12,8 @@ use std::{fmt, fs, io};
 use tocmark_command::options::{CommandOption, Takes, with_options};
 use tocmark_command::program::{Program, words_of};
 use tocmark_files::trust::{Caller, Distrust};
-use tocmark_lsp::{Files, Next, Server};
+use tocmark_lsp::{Next, Server};
+use tocmark_lsp_pages::tree::Files;
 use tocmark_lsp_text::frames::{FrameError, read_message, write_message};
 
 /// The command's name.

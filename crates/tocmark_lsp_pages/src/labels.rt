@@ -122,6 +122,34 @@ pub(crate) fn label_at(
     Ok(None)
 }
 
+impl WrittenLabel {
+    /// Adds the text between a byte and this label, and another label in its place. `false`: the place isn't found.
+    fn replace(
+        &self,
+        alloc: Global,
+        changed: &mut String,
+        (text, at): (&str, usize),
+        new: &str,
+    ) -> Result<bool, AllocError> {
+        let written = text.get(self.place.0..self.place.1).unwrap_or("");
+        let Some(kept) = text.get(at..self.replaced.0) else {
+            return Ok(false);
+        };
+        if folded(alloc, written)?.as_str() != self.name.as_str() {
+            return Ok(false);
+        }
+        changed.push_str(kept)?;
+        if !self.is_bare {
+            changed.push_str(new)?;
+            return Ok(true);
+        }
+        changed.push('[')?;
+        changed.push_str(new)?;
+        changed.push(']')?;
+        Ok(true)
+    }
+}
+
 /// The text in which another label is in place of one. `None`: a place isn't found.
 fn with_label(
     alloc: Global,
@@ -135,23 +163,12 @@ fn with_label(
     let mut changed = String::new(alloc);
     let mut at = 0usize;
     for label in &labels {
-        if label.name.as_str() != name {
-            continue;
+        if label.name.as_str() == name {
+            if !label.replace(alloc, &mut changed, (text, at), new)? {
+                return Ok(None);
+            }
+            at = label.replaced.1;
         }
-        let written = text.get(label.place.0..label.place.1).unwrap_or("");
-        let Some(kept) = text.get(at..label.replaced.0) else {
-            return Ok(None);
-        };
-        if folded(alloc, written)?.as_str() != name {
-            return Ok(None);
-        }
-        changed.push_str(kept)?;
-        if label.is_bare {
-            changed.push_str(format!(in alloc; "[{new}]")?.as_str())?;
-        } else {
-            changed.push_str(new)?;
-        }
-        at = label.replaced.1;
     }
     changed.push_str(text.get(at..).unwrap_or(""))?;
     Ok(Some(changed))
@@ -190,33 +207,27 @@ fn is_defined(alloc: Global, read: &Read<'_>, name: &str) -> Result<bool, AllocE
     Ok(false)
 }
 
-/// The text with another label, if it says the same but for how links name their definitions.
-fn relabelled<F: Files>(
-    asking: &Asking<'_, F>,
-    read: Read<'_>,
-    old: &str,
-    new: &str,
-) -> Result<String, Fault> {
-    let alloc = asking.gathering.alloc;
+/// The text with another label.
+fn relabelled(alloc: Global, read: &Read<'_>, old: &str, new: &str) -> Result<String, Fault> {
     let name = folded(alloc, new)?;
-    if name.as_str() != old && is_defined(alloc, &read, name.as_str())? {
+    if name.as_str() != old && is_defined(alloc, read, name.as_str())? {
         return Err(Fault::Refused(Code::Failed, "the label is defined already"));
     }
-    let Some(text) = with_label(alloc, &read, old, new)? else {
-        return Err(Fault::Refused(Code::Failed, "a place of the label isn't found"));
-    };
-    let Read { mut reading, .. } = read;
-    let mut found = asking.reading(text.as_str())?;
-    blank(&mut reading);
-    blank(&mut found);
-    if are_same(alloc, &reading.events, &found.events)? {
-        Ok(text)
-    } else {
-        Err(Fault::Refused(Code::Failed, MISREAD))
+    match with_label(alloc, read, old, new)? {
+        Some(text) => Ok(text),
+        None => Err(Fault::Refused(Code::Failed, "a place of the label isn't found")),
     }
 }
 
-/// The edits that put another label in place of one, in its definition and in all links by it, as JSON.
+/// Whether two texts say the same but for how links name their definitions.
+fn say_the_same(alloc: Global, mut one: Reading, mut other: Reading) -> Result<bool, AllocError> {
+    blank(&mut one);
+    blank(&mut other);
+    are_same(alloc, &one.events, &other.events)
+}
+
+/// The edits that put another label in place of one, in its definition and in all links by it, as JSON, if the text says the
+/// same then but for how links name their definitions.
 pub(crate) fn renamed_label<F: Files>(
     asking: &Asking<'_, F>,
     read: Read<'_>,
@@ -225,7 +236,12 @@ pub(crate) fn renamed_label<F: Files>(
     is_versioned: bool,
 ) -> Result<String, Fault> {
     let alloc = asking.gathering.alloc;
-    let text = relabelled(asking, read, label.name.as_str(), new.trim())?;
+    let text = relabelled(alloc, &read, label.name.as_str(), new.trim())?;
+    let found = asking.reading(text.as_str())?;
+    let Read { reading, .. } = read;
+    if !say_the_same(alloc, reading, found)? {
+        return Err(Fault::Refused(Code::Failed, MISREAD));
+    }
     let edits = word_edits(alloc, asking.encoding, asking.text, text.as_str())?;
     let mut edit = WorkspaceEdit::new(alloc, is_versioned);
     edit.add((asking.uri, asking.version), &edits)?;

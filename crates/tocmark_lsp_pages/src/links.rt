@@ -1,20 +1,22 @@
 //! Where links lead: the answers about links, labels and anchors.
 
-use crate::formatting::READER;
 use crate::lined::{Lined, Span, holds};
 use crate::message::JsonText;
 use crate::outline::headings;
-use crate::tree::{Files, Gathering, Place, Terms};
+use crate::tree::{Files, Gathering, Place, Terms, is_of_file};
 use std::alloc::{AllocError, Global};
 use std::fmt::Write;
 use tocmark_event::event::{Event, LinkType, Tag};
 use tocmark_event::reader::{Reader, Reading};
-use tocmark_links::anchors::AnchorKind;
+use tocmark_links::anchors::{Anchor, AnchorKind};
 use tocmark_links::destination::{decoded, encoded, is_local, parts};
-use tocmark_links::page::Page;
+use tocmark_links::page::{Link, Page};
 use tocmark_links::tree::{Led, Tree};
 use tocmark_lsp_text::positions::{Encoding, Position};
-use tocmark_reader::ReferenceDefinition;
+use tocmark_reader::{ExtendedReader, Names, ReferenceDefinition};
+
+/// What reads texts.
+const READER: ExtendedReader = ExtendedReader { names: Names::All };
 
 /// A link of a text, as it is found at a place.
 #[derive(Drop)]
@@ -58,6 +60,14 @@ pub(crate) fn label_of<'e>(event: &'e Event<'_>) -> Option<(LinkType, &'e str)> 
     } else {
         None
     }
+}
+
+/// Whether an event begins a link or an image.
+fn is_link(event: &Event<'_>) -> bool {
+    matches!(
+        event,
+        Event::Start(Tag::Link { .. }) | Event::Start(Tag::Image { .. })
+    )
 }
 
 /// A link with this destination, and a label if it is by one.
@@ -127,26 +137,32 @@ impl<'t> Read<'t> {
         })
     }
 
-    /// The innermost link or the definition at a byte.
-    fn found(&self, alloc: Global, at: usize) -> Result<Option<Found>, AllocError> {
-        let mut found = None;
-        for (event, place) in &self.reading.events {
-            if holds(*place, at)
-                && let Some(link) = link_of(alloc, event, *place)?
-            {
-                found = Some(link);
+    /// The event that begins the innermost link at a byte.
+    fn link_at(&self, at: usize) -> Option<&(Event<'static>, (usize, usize))> {
+        let mut last = None;
+        for (number, (event, place)) in self.reading.events.iter().enumerate() {
+            if holds(*place, at) && is_link(event) {
+                last = Some(number);
             }
         }
+        self.reading.events.get(last?)
+    }
+
+    /// The innermost link or the definition at a byte.
+    fn found(&self, alloc: Global, at: usize) -> Result<Option<Found>, AllocError> {
         for definition in &self.definitions {
             if holds(definition.place.whole, at) {
-                found = Some(Found {
+                return Ok(Some(Found {
                     place: definition.place.whole,
                     destination: definition.destination.clone()?,
                     label: String::new(alloc),
-                });
+                }));
             }
         }
-        Ok(found)
+        match self.link_at(at) {
+            Some((event, place)) => link_of(alloc, event, *place),
+            None => Ok(None),
+        }
     }
 
     /// Where a label is defined.
@@ -164,12 +180,15 @@ impl<'t> Read<'t> {
     fn label_at(&self, alloc: Global, at: usize) -> Result<Option<String>, AllocError> {
         for definition in &self.definitions {
             if holds(definition.place.whole, at) {
-                return Ok(Some(folded(alloc, definition.label.as_str())?));
+                return folded(alloc, definition.label.as_str()).map(Some);
             }
         }
-        match self.found(alloc, at)? {
-            Some(link) if !link.label.is_empty() => Ok(Some(folded(alloc, link.label.as_str())?)),
-            _ => Ok(None),
+        match self.link_at(at) {
+            Some((event, _)) => match label_of(event) {
+                Some((_, label)) => folded(alloc, label).map(Some),
+                None => Ok(None),
+            },
+            None => Ok(None),
         }
     }
 
@@ -177,8 +196,8 @@ impl<'t> Read<'t> {
     fn links_by(&self, alloc: Global, label: &str) -> Result<Vec<(usize, usize)>, AllocError> {
         let mut places = Vec::new(alloc);
         for (event, place) in &self.reading.events {
-            if let Some(link) = link_of(alloc, event, *place)?
-                && folded(alloc, link.label.as_str())?.as_str() == label
+            if let Some((_, written)) = label_of(event)
+                && folded(alloc, written)?.as_str() == label
             {
                 places.push(*place)?;
             }
@@ -197,7 +216,7 @@ pub(crate) fn add_location(json: &mut String, uri: &str, span: Span) -> Result<(
 }
 
 /// The range of a line's front; lines count from 1.
-pub(crate) fn front_of(line: usize) -> Span {
+pub fn front_of(line: usize) -> Span {
     let front = Position {
         line: line.saturating_sub(1),
         character: 0,
@@ -208,15 +227,22 @@ pub(crate) fn front_of(line: usize) -> Span {
     }
 }
 
+/// The anchor of the heading on a line; lines count from 1.
+fn anchor_in(page: &Page, line: usize) -> Option<&Anchor> {
+    page.anchors
+        .iter()
+        .find(|it| it.line == line && it.kind != AnchorKind::Html)
+}
+
 /// The answers about the links of one document.
 #[derive(Clone, Copy)]
-pub(crate) struct Asking<'a, F> {
-    pub(crate) gathering: Gathering<'a, F>,
-    pub(crate) uri: &'a str,
-    pub(crate) text: &'a str,
+pub struct Asking<'a, F> {
+    pub gathering: Gathering<'a, F>,
+    pub uri: &'a str,
+    pub text: &'a str,
     /// The number that the client gives this state of the text.
-    pub(crate) version: Option<i64>,
-    pub(crate) encoding: Encoding,
+    pub version: Option<i64>,
+    pub encoding: Encoding,
 }
 
 impl<'a, F: Files> Asking<'a, F> {
@@ -265,8 +291,8 @@ impl<'a, F: Files> Asking<'a, F> {
         self.place().uri(self.alloc(), path)
     }
 
-    /// The URI to which a destination leads, for a client that opens it. `None`: there is none, because it is empty, names a host
-    /// without a scheme, leads out of the tree, or names a file from a document that is none.
+    /// The URI to which a destination leads, for a client that opens it. `None`: there is none, because it is empty, names a
+    /// host without a scheme, leads out of the tree, or names a file from a document that is none of this host.
     fn target(&self, destination: &str) -> Result<Option<String>, AllocError> {
         let alloc = self.alloc();
         if destination.is_empty() || destination.starts_with("//") {
@@ -280,7 +306,7 @@ impl<'a, F: Files> Asking<'a, F> {
             String::from_str(alloc, self.uri)?
         } else {
             match self.place().resolved(alloc, parts.path)? {
-                Some(path) if self.uri.starts_with("file://") => self.uri_of(path.as_str())?,
+                Some(path) if is_of_file(self.uri) => self.uri_of(path.as_str())?,
                 _ => return Ok(None),
             }
         };
@@ -292,23 +318,33 @@ impl<'a, F: Files> Asking<'a, F> {
         Ok(Some(uri))
     }
 
+    /// Adds the destination of a link with where it leads, if a client can open that.
+    fn add_document_link(
+        &self,
+        json: &mut String,
+        lined: &Lined<'_>,
+        link: &Link,
+    ) -> Result<(), AllocError> {
+        let Some(place) = link.place else {
+            return Ok(());
+        };
+        let Some(target) = self.target(link.destination.as_str())? else {
+            return Ok(());
+        };
+        if json.ends_with('}') {
+            json.push(',')?;
+        }
+        let (span, target) = (lined.span(place), JsonText(target.as_str()));
+        write!(json, "{{\"range\":{span},\"target\":{target}}}")
+    }
+
     /// The destinations of the document's links that a client can open, with where they lead.
     pub(crate) fn document_links(&self) -> Result<String, AllocError> {
         let lined = Lined::new(self.alloc(), self.text, self.encoding)?;
         let mut json = String::from_str(self.alloc(), "[")?;
         let page = self.page()?;
         for link in &page.links {
-            let Some(place) = link.place else {
-                continue;
-            };
-            let Some(target) = self.target(link.destination.as_str())? else {
-                continue;
-            };
-            if json.ends_with('}') {
-                json.push(',')?;
-            }
-            let (span, target) = (lined.span(place), JsonText(target.as_str()));
-            write!(json, "{{\"range\":{span},\"target\":{target}}}")?;
+            self.add_document_link(&mut json, &lined, link)?;
         }
         json.push(']')?;
         Ok(json)
@@ -333,29 +369,38 @@ impl<'a, F: Files> Asking<'a, F> {
         Ok(1)
     }
 
-    /// Where a position leads: a label to its definition, a link to its file and heading.
-    pub(crate) fn definition(&self, position: Position) -> Result<String, AllocError> {
-        let read = self.read()?;
-        let mut json = String::from_str(self.alloc(), "[")?;
-        let Some(link) = read.found(self.alloc(), read.lined.byte(position))? else {
-            return String::from_str(self.alloc(), "null");
-        };
-        if !link.label.is_empty() {
-            if let Some(place) = read.definition(self.alloc(), link.label.as_str())? {
-                add_location(&mut json, self.uri, read.lined.span(place))?;
-            }
-            json.push(']')?;
-            return Ok(json);
-        }
+    /// Adds where a destination leads, if it leads to a file.
+    fn add_target(&self, json: &mut String, destination: &str) -> Result<(), AllocError> {
         let page = self.page()?;
-        let led = self.led_to(&page, link.destination.as_str())?;
+        let led = self.led_to(&page, destination)?;
         if let Led::To { path, anchor, .. } = &led {
             let uri = self.uri_of(path.as_str())?;
             let line = self.anchor_line(path.as_str(), anchor.as_str())?;
-            add_location(&mut json, uri.as_str(), front_of(line))?;
+            add_location(json, uri.as_str(), front_of(line))?;
+        }
+        Ok(())
+    }
+
+    /// Where a link leads: by a label to its definition, and else to its file and heading.
+    fn targets(&self, read: &Read<'_>, link: &Found) -> Result<String, AllocError> {
+        let mut json = String::from_str(self.alloc(), "[")?;
+        if link.label.is_empty() {
+            self.add_target(&mut json, link.destination.as_str())?;
+        } else if let Some(place) = read.definition(self.alloc(), link.label.as_str())? {
+            add_location(&mut json, self.uri, read.lined.span(place))?;
         }
         json.push(']')?;
         Ok(json)
+    }
+
+    /// Where a position leads: a label to its definition, a link to its file and heading.
+    pub(crate) fn definition(&self, position: Position) -> Result<String, AllocError> {
+        let read = self.read()?;
+        let link = read.found(self.alloc(), read.lined.byte(position))?;
+        match &link {
+            Some(link) => self.targets(&read, link),
+            None => String::from_str(self.alloc(), "null"),
+        }
     }
 
     /// What is said of where a link leads.
@@ -377,12 +422,8 @@ impl<'a, F: Files> Asking<'a, F> {
         }
     }
 
-    /// What a client shows for a link: where it leads.
-    pub(crate) fn hover(&self, position: Position) -> Result<String, AllocError> {
-        let read = self.read()?;
-        let Some(link) = read.found(self.alloc(), read.lined.byte(position))? else {
-            return String::from_str(self.alloc(), "null");
-        };
+    /// Where a link leads, as a client shows it.
+    fn shown(&self, read: &Read<'_>, link: &Found) -> Result<String, AllocError> {
         let said = self.said(link.destination.as_str())?;
         let (said, span) = (JsonText(said.as_str()), read.lined.span(link.place));
         format!(in self.alloc();
@@ -390,13 +431,23 @@ impl<'a, F: Files> Asking<'a, F> {
         )
     }
 
-    /// The heading in whose lines a byte is, by its number among the anchors of the page.
-    pub(crate) fn heading_at(
+    /// What a client shows for a position: where the link there leads.
+    pub(crate) fn hover(&self, position: Position) -> Result<String, AllocError> {
+        let read = self.read()?;
+        let link = read.found(self.alloc(), read.lined.byte(position))?;
+        match &link {
+            Some(link) => self.shown(&read, link),
+            None => String::from_str(self.alloc(), "null"),
+        }
+    }
+
+    /// The heading in whose lines a byte is, as an anchor of the page.
+    pub(crate) fn heading_at<'p>(
         &self,
         read: &Read<'_>,
-        page: &Page,
+        page: &'p Page,
         at: usize,
-    ) -> Result<Option<usize>, AllocError> {
+    ) -> Result<Option<&'p Anchor>, AllocError> {
         let headings = headings(self.alloc(), self.text, &read.reading)?;
         let Some(heading) = headings
             .iter()
@@ -405,11 +456,26 @@ impl<'a, F: Files> Asking<'a, F> {
             return Ok(None);
         };
         let line = read.lined.span(heading.place).start.line.saturating_add(1);
-        let found = page
-            .anchors
-            .iter()
-            .position(|it| it.line == line && it.kind != AnchorKind::Html);
-        Ok(found)
+        Ok(anchor_in(page, line))
+    }
+
+    /// The links by a label, as JSON, and its definition if that is wanted.
+    fn references_of(
+        &self,
+        read: &Read<'_>,
+        label: &str,
+        with_definition: bool,
+    ) -> Result<String, AllocError> {
+        let mut json = String::from_str(self.alloc(), "[")?;
+        if with_definition && let Some(place) = read.definition(self.alloc(), label)? {
+            add_location(&mut json, self.uri, read.lined.span(place))?;
+        }
+        let places = read.links_by(self.alloc(), label)?;
+        for place in &places {
+            add_location(&mut json, self.uri, read.lined.span(*place))?;
+        }
+        json.push(']')?;
+        Ok(json)
     }
 
     /// The links by the label at a position, as JSON, and its definition if that is wanted. `None`: there is no label.
@@ -419,19 +485,12 @@ impl<'a, F: Files> Asking<'a, F> {
         with_definition: bool,
     ) -> Result<Option<String>, AllocError> {
         let read = self.read()?;
-        let at = read.lined.byte(position);
-        let Some(label) = read.label_at(self.alloc(), at)? else {
-            return Ok(None);
-        };
-        let mut json = String::from_str(self.alloc(), "[")?;
-        if with_definition && let Some(place) = read.definition(self.alloc(), label.as_str())? {
-            add_location(&mut json, self.uri, read.lined.span(place))?;
+        let label = read.label_at(self.alloc(), read.lined.byte(position))?;
+        match &label {
+            Some(label) => self
+                .references_of(&read, label.as_str(), with_definition)
+                .map(Some),
+            None => Ok(None),
         }
-        let places = read.links_by(self.alloc(), label.as_str())?;
-        for place in &places {
-            add_location(&mut json, self.uri, read.lined.span(*place))?;
-        }
-        json.push(']')?;
-        Ok(Some(json))
     }
 }

@@ -10,17 +10,17 @@ use tocmark_lsp_text::positions::Encoding;
 
 /// A text that is open.
 #[derive(Drop)]
-pub(crate) struct Document {
+pub struct Document {
     /// The URI by which the client names it.
-    pub(crate) uri: String,
-    pub(crate) text: String,
+    pub uri: String,
+    pub text: String,
     /// The number that the client gives this state of the text.
-    pub(crate) version: Option<i64>,
+    pub version: Option<i64>,
 }
 
 /// The open texts, by their paths; by its URI, if a text is no file.
 #[derive(Drop)]
-pub(crate) struct Documents {
+pub struct Documents {
     alloc: Global,
     texts: HashMap<String, Document>,
 }
@@ -39,7 +39,7 @@ fn version_of(call: Call<'_>) -> Option<i64> {
 }
 
 impl Documents {
-    pub(crate) fn new(alloc: Global) -> Documents {
+    pub fn new(alloc: Global) -> Documents {
         Documents {
             alloc,
             texts: HashMap::new(alloc),
@@ -47,7 +47,7 @@ impl Documents {
     }
 
     /// The text with a URI, as the client has it.
-    pub(crate) fn document(&self, uri: &str) -> Result<&Document, Fault> {
+    pub fn document(&self, uri: &str) -> Result<&Document, Fault> {
         let key = key_of(self.alloc, uri)?;
         match self.at(key.as_str()) {
             Some(document) => Ok(document),
@@ -61,7 +61,7 @@ impl Documents {
     }
 
     /// All open texts.
-    pub(crate) fn all(&self) -> Result<Vec<&Document>, AllocError> {
+    pub fn all(&self) -> Result<Vec<&Document>, AllocError> {
         let mut all = Vec::new(self.alloc);
         for document in self.texts.values() {
             all.push(document)?;
@@ -70,7 +70,7 @@ impl Documents {
     }
 
     /// Whether one of the files that a call says are changed isn't open.
-    pub(crate) fn lack_one(&self, call: Call<'_>) -> Result<bool, AllocError> {
+    pub fn lack_one(&self, call: Call<'_>) -> Result<bool, AllocError> {
         let Some(changes) = call.at("/changes").and_then(Value::as_array) else {
             return Ok(false);
         };
@@ -85,7 +85,7 @@ impl Documents {
     }
 
     /// Takes a text that is opened.
-    pub(crate) fn open(&mut self, call: Call<'_>) -> Result<(), Fault> {
+    pub fn open(&mut self, call: Call<'_>) -> Result<(), Fault> {
         let text = String::from_str(self.alloc, call.text("/textDocument/text")?)?;
         self.put(call, text)
     }
@@ -104,7 +104,7 @@ impl Documents {
     }
 
     /// Forgets a text.
-    pub(crate) fn close(&mut self, call: Call<'_>) -> Result<(), Fault> {
+    pub fn close(&mut self, call: Call<'_>) -> Result<(), Fault> {
         let key = key_of(self.alloc, call.uri()?)?;
         let _ = self.texts.remove(key.as_str());
         Ok(())
@@ -112,7 +112,7 @@ impl Documents {
 
     /// Changes a text, in the order of the changes. If one of them is none, the text is forgotten, because the client has
     /// another one from then on.
-    pub(crate) fn change(&mut self, encoding: Encoding, call: Call<'_>) -> Result<(), Fault> {
+    pub fn change(&mut self, encoding: Encoding, call: Call<'_>) -> Result<(), Fault> {
         let changed = self.changed(encoding, call.uri()?, call);
         self.close(call)?;
         self.put(call, changed?)

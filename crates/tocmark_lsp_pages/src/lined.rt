@@ -9,9 +9,9 @@ const STRIDE: usize = 1024;
 
 /// What is between two positions.
 #[derive(Clone, Copy)]
-pub(crate) struct Span {
-    pub(crate) start: Position,
-    pub(crate) stop: Position,
+pub struct Span {
+    pub start: Position,
+    pub stop: Position,
 }
 
 impl fmt::Display for Span {
@@ -24,7 +24,7 @@ impl fmt::Display for Span {
 
 /// A text with the places where its lines begin.
 #[derive(Drop)]
-pub(crate) struct Lined<'t> {
+pub struct Lined<'t> {
     pub(crate) text: &'t str,
     encoding: Encoding,
     starts: Vec<usize>,
@@ -45,11 +45,7 @@ fn marks_of(alloc: Global, encoding: Encoding, text: &str) -> Result<Vec<usize>,
 }
 
 impl<'t> Lined<'t> {
-    pub(crate) fn new(
-        alloc: Global,
-        text: &'t str,
-        encoding: Encoding,
-    ) -> Result<Lined<'t>, AllocError> {
+    pub fn new(alloc: Global, text: &'t str, encoding: Encoding) -> Result<Lined<'t>, AllocError> {
         Ok(Lined {
             text,
             encoding,
@@ -88,7 +84,7 @@ impl<'t> Lined<'t> {
     }
 
     /// The range of some bytes.
-    pub(crate) fn span(&self, (from, to): (usize, usize)) -> Span {
+    pub fn span(&self, (from, to): (usize, usize)) -> Span {
         Span {
             start: self.position(from),
             stop: self.position(to),
@@ -101,7 +97,7 @@ impl<'t> Lined<'t> {
     }
 
     /// Where a line ends, before what ends it.
-    pub(crate) fn line_end(&self, line: usize) -> Position {
+    pub fn line_end(&self, line: usize) -> Position {
         let next = self.starts.get(line.saturating_add(1)).copied();
         let start = self.starts.get(line).copied().unwrap_or(self.text.len());
         let (_, end) = self.inked((start, next.unwrap_or(self.text.len())));

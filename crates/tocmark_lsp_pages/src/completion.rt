@@ -24,13 +24,16 @@ const ENDS: [char; 3] = [' ', ')', '<'];
 /// What is in no destination without angle brackets, and doesn't close one.
 const BREAKS: [char; 7] = [' ', '\t', '\n', '\r', '<', '>', '('];
 
+/// What a path must not have where no angle brackets are round it, and what an address would misread.
+const APART: [char; 10] = [' ', '(', ')', '<', '>', '\\', '#', '?', '%', '\t'];
+
+/// What is in no label, and doesn't close one.
+const LABEL_BREAKS: [char; 3] = ['[', '\n', '\r'];
+
 /// The numbers of kinds of items in the protocol.
 const FILE: u8 = 17;
 
 const REFERENCE: u8 = 18;
-
-/// What a path must not have where no angle brackets are round it, and what an address would misread.
-const APART: [char; 10] = [' ', '(', ')', '<', '>', '\\', '#', '?', '%', '\t'];
 
 /// What is written before a position.
 #[derive(Clone, Copy)]
@@ -66,19 +69,40 @@ fn front_in(before: &str) -> Front<'_> {
     }
 }
 
-/// How many bytes are from a position to what closes what is begun there; none if something else comes before that.
-fn tail(rest: &str, closing: &[char], apart: &[char]) -> usize {
+/// How many bytes are from a position to what closes what is begun there; none if what breaks it comes before that.
+fn tail(rest: &str, closing: &[char], breaks: &[char]) -> usize {
     let mut count = 0usize;
     for c in rest.chars() {
         if closing.contains(&c) {
             return count;
         }
-        if apart.contains(&c) {
+        if breaks.contains(&c) {
             return 0;
         }
         count = count.saturating_add(c.len_utf8());
     }
     0
+}
+
+impl<'t> Front<'t> {
+    /// What an item replaces of it.
+    fn replaced(self) -> &'t str {
+        match self {
+            Front::Destination(begun) => parts(begun).anchor.strip_prefix('#').unwrap_or(begun),
+            Front::Label(begun) => begun,
+            Front::Nothing => "",
+        }
+    }
+
+    /// How many bytes of the text after it an item replaces.
+    fn tail(self, rest: &str) -> usize {
+        match self {
+            Front::Destination(begun) if begun.contains('#') => tail(rest, &[')'], &BREAKS),
+            Front::Destination(_) => tail(rest, &[')', '#', '?'], &BREAKS),
+            Front::Label(_) => tail(rest, &[']'], &LABEL_BREAKS),
+            Front::Nothing => 0,
+        }
+    }
 }
 
 impl Items {
@@ -221,47 +245,49 @@ impl<F: Files> Asking<'_, F> {
     }
 }
 
+/// What is begun in front of a byte of a line.
+fn front_at<'t>(read: &Read<'t>, line: usize, at: usize) -> Front<'t> {
+    if is_in_code(read, at) {
+        return Front::Nothing;
+    }
+    let start = read.lined.line_start(line);
+    front_in(read.lined.text.get(start..at).unwrap_or(""))
+}
+
+/// Adds what can be written after a front.
+fn add_items<F: Files>(
+    workspace: &Workspace<'_, F>,
+    asking: &Asking<'_, F>,
+    items: &mut Items,
+    read: &Read<'_>,
+    front: Front<'_>,
+) -> Result<(), AllocError> {
+    match front {
+        Front::Destination(begun) if begun.contains('#') => {
+            asking.add_anchors(items, parts(begun).path)
+        }
+        Front::Destination(begun) => {
+            let own = asking.gathering.place.path.as_str();
+            workspace.add_paths(items, own, begun, true)?;
+            workspace.add_paths(items, own, begun, false)
+        }
+        Front::Label(_) => asking.add_labels(items, read),
+        Front::Nothing => Ok(()),
+    }
+}
+
 /// What can be written at a position, as JSON.
 pub(crate) fn completions<F: Files>(
     workspace: &Workspace<'_, F>,
     asking: &Asking<'_, F>,
     position: Position,
 ) -> Result<String, AllocError> {
-    let alloc = workspace.alloc;
     let read = asking.read()?;
     let at = read.lined.byte(position);
-    let start = read.lined.line_start(position.line);
-    let before = asking.text.get(start..at).unwrap_or("");
-    let front = if is_in_code(&read, at) {
-        Front::Nothing
-    } else {
-        front_in(before)
-    };
-    let replaced = match front {
-        Front::Destination(begun) => parts(begun).anchor.strip_prefix('#').unwrap_or(begun),
-        Front::Label(begun) => begun,
-        Front::Nothing => "",
-    };
-    let rest = asking.text.get(at..).unwrap_or("");
-    let tail = match front {
-        Front::Destination(begun) if begun.contains('#') => tail(rest, &[')'], &BREAKS),
-        Front::Destination(_) => tail(rest, &[')', '#', '?'], &BREAKS),
-        Front::Label(_) => tail(rest, &[']'], &['[', '\n', '\r']),
-        Front::Nothing => 0,
-    };
-    let span = read.lined.span((at.saturating_sub(replaced.len()), at.saturating_add(tail)));
-    let mut items = Items::new(alloc, span);
-    match front {
-        Front::Destination(begun) if begun.contains('#') => {
-            asking.add_anchors(&mut items, parts(begun).path)?;
-        }
-        Front::Destination(begun) => {
-            let own = asking.gathering.place.path.as_str();
-            workspace.add_paths(&mut items, own, begun, true)?;
-            workspace.add_paths(&mut items, own, begun, false)?;
-        }
-        Front::Label(_) => asking.add_labels(&mut items, &read)?,
-        Front::Nothing => {}
-    }
+    let front = front_at(&read, position.line, at);
+    let from = at.saturating_sub(front.replaced().len());
+    let to = at.saturating_add(front.tail(asking.text.get(at..).unwrap_or("")));
+    let mut items = Items::new(workspace.alloc, read.lined.span((from, to)));
+    add_items(workspace, asking, &mut items, &read, front)?;
     items.finish()
 }

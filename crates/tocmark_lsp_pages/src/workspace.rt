@@ -29,18 +29,18 @@ pub(crate) struct Site {
 
 /// What finds the pages of a workspace.
 #[derive(Clone, Copy)]
-pub(crate) struct Workspace<'w, F> {
-    pub(crate) alloc: Global,
-    pub(crate) files: &'w F,
-    pub(crate) documents: &'w Documents,
+pub struct Workspace<'w, F> {
+    pub alloc: Global,
+    pub files: &'w F,
+    pub documents: &'w Documents,
     /// The folder that the client has open; empty if it has none.
-    pub(crate) root: &'w str,
+    pub root: &'w str,
     /// The paths of the Markdown files below it.
-    pub(crate) listed: &'w [String],
-    pub(crate) terms: Terms,
-    pub(crate) encoding: Encoding,
+    pub listed: &'w [String],
+    pub terms: Terms,
+    pub encoding: Encoding,
     /// Whether the client takes a version with the edits of a text.
-    pub(crate) is_versioned: bool,
+    pub is_versioned: bool,
 }
 
 /// A page without links and anchors.
@@ -76,7 +76,8 @@ impl<F: Files> Workspace<'_, F> {
         Ok(())
     }
 
-    /// The tree with a root, and the paths of its pages: the files below the root, if the client has it open, and the open texts.
+    /// The tree with a root, and the paths of its pages: the files below the root, if the client has it open, and the open
+    /// texts.
     pub(crate) fn site(&self, root: &str) -> Result<(Site, Vec<String>), AllocError> {
         let mut site = Site {
             root: String::from_str(self.alloc, root)?,

@@ -90,7 +90,7 @@ impl<F: Files> Workspace<'_, F> {
 
     /// The edits by which all links lead where they led after files are moved, as JSON. A page that would say something else by
     /// them is left out.
-    pub(crate) fn moved(&self, moves: AllMoves) -> Result<String, Fault> {
+    pub fn moved(&self, moves: AllMoves) -> Result<String, Fault> {
         let (mut site, paths) = self.site(self.root)?;
         let reason = Reason::Moved(moves);
         let mut edit = WorkspaceEdit::new(self.alloc, self.is_versioned);

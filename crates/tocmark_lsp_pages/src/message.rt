@@ -9,7 +9,7 @@ use tocmark_lsp_text::positions::Position;
 
 /// What is wrong with a request, by the numbers of the protocol.
 #[derive(Clone, Copy, Drop)]
-pub(crate) enum Code {
+pub enum Code {
     Parse,
     Request,
     Method,
@@ -20,22 +20,22 @@ pub(crate) enum Code {
 
 /// Why a call isn't answered as it asks.
 #[derive(Drop)]
-pub(crate) enum Fault {
+pub enum Fault {
     OutOfMemory,
     Refused(Code, &'static str),
 }
 
 /// A request, or a notification, which has no id.
 #[derive(Clone, Copy)]
-pub(crate) struct Call<'m> {
-    pub(crate) method: &'m str,
-    pub(crate) id: Option<&'m Value>,
-    pub(crate) params: Option<&'m Value>,
+pub struct Call<'m> {
+    pub method: &'m str,
+    pub id: Option<&'m Value>,
+    pub params: Option<&'m Value>,
 }
 
 /// A text as a string of JSON.
 #[derive(Clone, Copy)]
-pub(crate) struct JsonText<'t>(pub(crate) &'t str);
+pub struct JsonText<'t>(pub &'t str);
 
 impl Code {
     fn number(self) -> i32 {
@@ -99,7 +99,7 @@ impl fmt::Display for JsonText<'_> {
 
 impl<'m> Call<'m> {
     /// The call that a message is. `None`: it is the client's answer to a question.
-    pub(crate) fn of(message: &'m Value) -> Result<Option<Call<'m>>, Fault> {
+    pub fn of(message: &'m Value) -> Result<Option<Call<'m>>, Fault> {
         let Some(method) = message.get("method") else {
             if message.get("result").is_some() || message.get("error").is_some() {
                 return Ok(None);
@@ -117,12 +117,12 @@ impl<'m> Call<'m> {
     }
 
     /// What is at a path in the parameters.
-    pub(crate) fn at(self, path: &str) -> Option<&'m Value> {
+    pub fn at(self, path: &str) -> Option<&'m Value> {
         self.params?.pointer(path)
     }
 
     /// The text at a path in the parameters.
-    pub(crate) fn text(self, path: &str) -> Result<&'m str, Fault> {
+    pub fn text(self, path: &str) -> Result<&'m str, Fault> {
         match self.at(path).and_then(Value::as_str) {
             Some(text) => Ok(text),
             None => Err(Fault::Refused(Code::Params, "a text is missing")),
@@ -130,12 +130,12 @@ impl<'m> Call<'m> {
     }
 
     /// The URI of the document that it is about.
-    pub(crate) fn uri(self) -> Result<&'m str, Fault> {
+    pub fn uri(self) -> Result<&'m str, Fault> {
         self.text("/textDocument/uri")
     }
 
     /// The position at a path in the parameters.
-    pub(crate) fn position(self, path: &str) -> Result<Position, Fault> {
+    pub fn position(self, path: &str) -> Result<Position, Fault> {
         match self.at(path).and_then(position_in) {
             Some(position) => Ok(position),
             None => Err(Fault::Refused(Code::Params, "a position is missing")),
@@ -144,7 +144,7 @@ impl<'m> Call<'m> {
 }
 
 /// The position that a value is.
-pub(crate) fn position_in(value: &Value) -> Option<Position> {
+fn position_in(value: &Value) -> Option<Position> {
     let line = value.get("line")?.as_u64()?;
     let character = value.get("character")?.as_u64()?;
     Some(Position {
@@ -154,7 +154,7 @@ pub(crate) fn position_in(value: &Value) -> Option<Position> {
 }
 
 /// The two positions of a range.
-pub(crate) fn range_in(value: &Value) -> Option<(Position, Position)> {
+pub fn range_in(value: &Value) -> Option<(Position, Position)> {
     let start = position_in(value.get("start")?)?;
     let stop = position_in(value.get("end")?)?;
     let is_reversed = stop.line < start.line
@@ -166,12 +166,12 @@ pub(crate) fn range_in(value: &Value) -> Option<(Position, Position)> {
 }
 
 /// The message that answers a request.
-pub(crate) fn answer_message(alloc: Global, id: &str, answer: &str) -> Result<String, AllocError> {
+pub fn answer_message(alloc: Global, id: &str, answer: &str) -> Result<String, AllocError> {
     format!(in alloc; "{{\"jsonrpc\":\"2.0\",\"id\":{id},\"result\":{answer}}}")
 }
 
 /// The message that refuses a request.
-pub(crate) fn refusal_message(
+pub fn refusal_message(
     alloc: Global,
     id: &str,
     code: Code,
@@ -184,21 +184,13 @@ pub(crate) fn refusal_message(
 }
 
 /// The message that asks the client for something. The server has one question, so its id is always the same.
-pub(crate) fn question_message(
-    alloc: Global,
-    method: &str,
-    params: &str,
-) -> Result<String, AllocError> {
+pub fn question_message(alloc: Global, method: &str, params: &str) -> Result<String, AllocError> {
     format!(in alloc;
         "{{\"jsonrpc\":\"2.0\",\"id\":\"tocmark-1\",\"method\":\"{method}\",\"params\":{params}}}"
     )
 }
 
 /// A message of the server's own.
-pub(crate) fn notice_message(
-    alloc: Global,
-    method: &str,
-    params: &str,
-) -> Result<String, AllocError> {
+pub fn notice_message(alloc: Global, method: &str, params: &str) -> Result<String, AllocError> {
     format!(in alloc; "{{\"jsonrpc\":\"2.0\",\"method\":\"{method}\",\"params\":{params}}}")
 }

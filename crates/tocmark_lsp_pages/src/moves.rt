@@ -21,7 +21,7 @@ fn file_of(led: &Led) -> Option<&str> {
 
 /// The moves of several files and folders, none of which is in another one.
 #[derive(Drop)]
-pub(crate) struct AllMoves {
+pub struct AllMoves {
     moves: Vec<Moves>,
     /// The number of each move, by the path that moves.
     numbers: HashMap<String, usize>,
@@ -129,7 +129,7 @@ fn path_below(
 }
 
 /// The moves below a root that a call names. Those from elsewhere, or to elsewhere, are left out.
-pub(crate) fn moves_in(alloc: Global, root: &str, call: Call<'_>) -> Result<AllMoves, AllocError> {
+pub fn moves_in(alloc: Global, root: &str, call: Call<'_>) -> Result<AllMoves, AllocError> {
     let mut moves = AllMoves::new(alloc);
     let Some(files) = call.at("/files").and_then(Value::as_array) else {
         return Ok(moves);

@@ -35,29 +35,34 @@ const FORMS: [&str; 4] = ["", ".md", "/README.md", "/index.md"];
 
 /// How pages are read.
 #[derive(Clone, Copy)]
-pub(crate) struct Terms {
-    pub(crate) flags: ParserOptions,
-    pub(crate) slugs: Slugs,
+pub struct Terms {
+    pub flags: ParserOptions,
+    pub slugs: Slugs,
 }
 
 /// Where a document is: the root of its tree, and its path from there on.
 #[derive(Drop)]
-pub(crate) struct Place {
-    pub(crate) root: String,
-    pub(crate) path: String,
+pub struct Place {
+    pub root: String,
+    pub path: String,
+}
+
+/// Whether a URI names a file of this host.
+pub fn is_of_file(uri: &str) -> bool {
+    uri.starts_with("file:///")
 }
 
 /// The path that a URI of a file names.
-pub(crate) fn path_in(alloc: Global, uri: &str) -> Result<Option<String>, AllocError> {
+pub fn path_in(alloc: Global, uri: &str) -> Result<Option<String>, AllocError> {
     match uri.strip_prefix("file://") {
-        Some(path) if path.starts_with('/') => Ok(Some(decoded(alloc, path)?)),
+        Some(path) if is_of_file(uri) => Ok(Some(decoded(alloc, path)?)),
         _ => Ok(None),
     }
 }
 
 impl Place {
     /// Where the document with a URI is, in the tree with this root or else in that of all files.
-    pub(crate) fn of(alloc: Global, root: &str, uri: &str) -> Result<Place, AllocError> {
+    pub fn of(alloc: Global, root: &str, uri: &str) -> Result<Place, AllocError> {
         let path = match path_in(alloc, uri)? {
             Some(path) => path,
             None => String::from_str(alloc, uri)?,
@@ -122,12 +127,12 @@ fn stem(path: &str) -> &str {
 
 /// What collects the files that links lead to.
 #[derive(Clone, Copy)]
-pub(crate) struct Gathering<'g, F> {
-    pub(crate) alloc: Global,
-    pub(crate) files: &'g F,
-    pub(crate) documents: &'g Documents,
-    pub(crate) place: &'g Place,
-    pub(crate) terms: Terms,
+pub struct Gathering<'g, F> {
+    pub alloc: Global,
+    pub files: &'g F,
+    pub documents: &'g Documents,
+    pub place: &'g Place,
+    pub terms: Terms,
 }
 
 impl<F: Files> Gathering<'_, F> {
