@@ -1,5 +1,6 @@
 pub mod Back
 pub mod Cutting
+pub mod Firsts
 pub mod Fronts
 pub mod Letters
 pub mod Moving

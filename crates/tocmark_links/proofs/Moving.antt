@@ -48,8 +48,8 @@ slash-ascii : (i : ℕ) → slice_index (47 ∷ []) i < 128
 slash-ascii zero = omega arith
 slash-ascii (suc i) = omega arith
 
-pub from-root : (kinds : List ℕ → Kind) (from text place new : List ℕ) → percent_decode text ≡ place → All IsPlain text → IsUtf8 place → IsFollowed (47 ∷ text) new → NamesItself kinds place → led_to kinds from new ≡ Some place
-from-root kinds from text place new e plain u f n =
+pub from-root : (is_book : Bool) (kinds : List ℕ → Kind) (from text place new : List ℕ) → percent_decode text ≡ place → All IsPlain text → IsUtf8 place → IsFollowed (47 ∷ text) new → NamesItself is_book kinds place → led_to is_book kinds from new ≡ Some place
+from-root is_book kinds from text place new e plain u f n =
     let rest : List ℕ = f.0 in
     let path : path_of new ≡ 47 ∷ text =
     ap path_of f.2 ∙ path-back (47 ∷ text) rest (All-cons IsPlain 47 text refl plain) f.1 in
@@ -60,19 +60,19 @@ from-root kinds from text place new e plain u f n =
     let bytes : decoded (47 ∷ text) ≡ 47 ∷ place =
     ap utf8_lossy (percent_decode_not_percent 47 text (λ q. omega (arith, q)) ∙ ap (λ xs. 47 ∷ xs) e) ∙ whole in
     let some : (length (47 ∷ text) == 0) ≡ false = grind (arith, nat_tests) in
-    ap (λ b. if b then led_by kinds from (path_of new) else None) (ap is_local f.2 ∙ local)
-    ∙ ap (led_by kinds from) path
-    ∙ ap (λ b. if b then Some from else option_and_then (named kinds) (resolved (folder_of from) (decoded (47 ∷ text)))) some
-    ∙ ap (λ xs. option_and_then (named kinds) (resolved (folder_of from) xs)) bytes
-    ∙ ap (option_and_then (named kinds)) (rooted (folder_of from) place n.0)
+    ap (λ b. if b then led_by is_book kinds from (path_of new) else None) (ap is_local f.2 ∙ local)
+    ∙ ap (led_by is_book kinds from) path
+    ∙ ap (λ b. if b then Some from else option_and_then (named is_book kinds) (resolved (folder_of from) (decoded (47 ∷ text)))) some
+    ∙ ap (λ xs. option_and_then (named is_book kinds) (resolved (folder_of from) xs)) bytes
+    ∙ ap (option_and_then (named is_book kinds)) (rooted (folder_of from) place n.0)
     ∙ n.1
 
 -- ---- a moved link
 
-pub follows : (tree : Tree) (moves : Moves) (from old path home place : List ℕ) (new : Option (String Global)) → Some path ≡ led_to (kind_at tree) from old → home ≡ placed moves from → place ≡ placed moves path → (NamesItself (after tree moves) place → LeadsAfter tree moves home (new_or new old) place) → Follows tree moves from old new
+pub follows : (tree : Tree) (moves : Moves) (from old path home place : List ℕ) (new : Option (String Global)) → Some path ≡ led_to tree.is_book (kind_at tree) from old → home ≡ placed moves from → place ≡ placed moves path → (NamesItself tree.is_book (after tree moves) place → LeadsAfter tree moves home (new_or new old) place) → Follows tree moves from old new
 follows tree moves from old path home place new led h p leads = λ found is names.
     let same : path ≡ found = ap (λ o. unwrap_or o path) (led ∙ is) in
     let target : place ≡ placed moves found = p ∙ ap (placed moves) same in
-    ap (λ f. led_to (after tree moves) f (new_or new old)) (sym h)
-    ∙ leads (subst (NamesItself (after tree moves)) (sym target) names)
+    ap (λ f. led_to tree.is_book (after tree moves) f (new_or new old)) (sym h)
+    ∙ leads (subst (NamesItself tree.is_book (after tree moves)) (sym target) names)
     ∙ ap Some target

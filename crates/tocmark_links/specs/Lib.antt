@@ -1,6 +1,7 @@
 pub mod Anchors
 pub mod Changed
 pub mod Destinations
+pub mod Headings
 pub mod Leading
 pub mod Naming
 pub mod Numbering

@@ -1,9 +1,9 @@
 -- What is at a path of a tree, before a move and after it, and what a path names.
-use Rattle.std.specs.Prelude.{ℕ, ◌==◌, List, ◌++◌, length, Option, None, Some, codes, string_bytes, if◌then◌else◌}
+use Rattle.std.specs.Prelude.{ℕ, ◌==◌, Bool, List, ◌++◌, length, Option, None, Some, codes, string_bytes, if◌then◌else◌}
 use Rattle.std.specs.Borrow.{Bor}
 use Rattle.std.specs.HashMap.{get_by_text}
 use Rattle.std.specs.Option.{is_some, option_and_then, option_map_or, option_or}
-use Rattle.tocmark_links.specs.Paths.{before, below, followed}
+use Rattle.tocmark_links.specs.Paths.{before, below, folder_before, followed}
 use Rattle.tocmark_links.specs.declared.moves.Moves.{Moves}
 use Rattle.tocmark_links.specs.declared.tree.Entry.{Entry}
 use Rattle.tocmark_links.specs.declared.tree.Entry.TheVariants.{Folder as FolderEntry, File as FileEntry, Page as PageEntry}
@@ -61,27 +61,34 @@ folder_page kinds folder =
 
 -- the page that a site makes `x/index.html` of, by `x`
 abbrev pub index_page : (List ℕ → Kind) → List ℕ → Option (List ℕ)
-index_page kinds stem =
-    option_or (page_at kinds (stem ++ codes ".md"))
-    (option_or (page_at kinds (followed stem (codes "README.md"))) (page_at kinds (followed stem (codes "index.md"))))
+index_page kinds stem = option_or (page_at kinds (stem ++ codes ".md")) (folder_page kinds stem)
+
+-- the page that mdBook calls `x/index.md`, by `x`
+abbrev pub readme_page : (List ℕ → Kind) → List ℕ → Option (List ℕ)
+readme_page kinds folder = page_at kinds (followed folder (codes "README.md"))
 
 -- the page that a site makes `x.html` of, by `x`
 abbrev pub html_page : (List ℕ → Kind) → List ℕ → Option (List ℕ)
 html_page kinds stem = page_at kinds (stem ++ codes ".md")
 
+-- the page that mdBook makes this path of, if the tree is a book
+abbrev pub book_page : Bool → (List ℕ → Kind) → List ℕ → Option (List ℕ)
+book_page is_book kinds path =
+    if is_book then option_and_then (readme_page kinds) (folder_before path (codes "index.md")) else None
+
 -- the page that a site makes this path of
-abbrev pub site_page : (List ℕ → Kind) → List ℕ → Option (List ℕ)
-site_page kinds path =
-    option_or (option_and_then (index_page kinds) (before path (codes "/index.html")))
-    (option_and_then (html_page kinds) (before path (codes ".html")))
+abbrev pub site_page : Bool → (List ℕ → Kind) → List ℕ → Option (List ℕ)
+site_page is_book kinds path =
+    option_or (option_and_then (index_page kinds) (folder_before path (codes "index.html")))
+    (option_or (option_and_then (html_page kinds) (before path (codes ".html"))) (book_page is_book kinds path))
 
 -- what a path names, by what is at it: the file, the page that a site makes this path of, the page of the folder, the folder,
 -- or the page `x.md` by `x`
-abbrev pub named_by : (List ℕ → Kind) → List ℕ → Kind → Option (List ℕ)
-named_by kinds path File = Some path
-named_by kinds path Page = Some path
-named_by kinds path Folder = option_or (site_page kinds path) (option_or (folder_page kinds path) (Some path))
-named_by kinds path Nothing = option_or (site_page kinds path) (page_at kinds (path ++ codes ".md"))
+abbrev pub named_by : Bool → (List ℕ → Kind) → List ℕ → Kind → Option (List ℕ)
+named_by is_book kinds path File = Some path
+named_by is_book kinds path Page = Some path
+named_by is_book kinds path Folder = option_or (site_page is_book kinds path) (option_or (folder_page kinds path) (Some path))
+named_by is_book kinds path Nothing = option_or (site_page is_book kinds path) (page_at kinds (path ++ codes ".md"))
 
-abbrev pub named : (List ℕ → Kind) → List ℕ → Option (List ℕ)
-named kinds path = named_by kinds path (kinds path)
+abbrev pub named : Bool → (List ℕ → Kind) → List ℕ → Option (List ℕ)
+named is_book kinds path = named_by is_book kinds path (kinds path)

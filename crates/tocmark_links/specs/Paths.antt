@@ -1,7 +1,7 @@
 -- Paths as lists of parts: where a path leads from a folder, and the path from a folder to a place.
 use Rattle.std.specs.Prelude.{ℕ, suc, ◌-◌, ◌==◌, Bool, true, false, ◌||◌, List, [], ◌∷◌, ◌++◌, length, take, drop, map, Option, None, Some, unwrap_or, codes, ◌≡◌, if◌then◌else◌}
 use Rattle.std.specs.List.{fold}
-use Rattle.std.specs.Option.{option_map, option_or}
+use Rattle.std.specs.Option.{option_and_then, option_map, option_or}
 use Rattle.std.specs.Str.{bytes_eq}
 
 -- a byte in front of the first part
@@ -117,3 +117,11 @@ below (a ∷ folder) (b ∷ path) = if a == b then below folder path else None
 abbrev pub before : List ℕ → List ℕ → Option (List ℕ)
 before path ending =
     if bytes_eq (drop (length path - length ending) path) ending then Some (take (length path - length ending) path) else None
+
+-- the folder of a path, by what is in front of its name
+abbrev pub folder_front : List ℕ → Option (List ℕ)
+folder_front front = if length front == 0 then Some front else before front (codes "/")
+
+-- the folder of a path whose name is this one
+abbrev pub folder_before : List ℕ → List ℕ → Option (List ℕ)
+folder_before path name = option_and_then folder_front (before path name)

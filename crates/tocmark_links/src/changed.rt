@@ -505,6 +505,22 @@ fn with_feeds_of(alloc: Global, text: &str, lines: String) -> Result<String, All
     }
 }
 
+/// The lines of a table of contents: a list of links to the headings of a text after a byte, between empty lines.
+fn contents_lines(
+    alloc: Global,
+    text: &str,
+    page: &Page,
+    after: usize,
+) -> Result<String, AllocError> {
+    let list = contents(alloc, page, after)?;
+    let lines = if list.is_empty() {
+        String::from_str(alloc, "\n")?
+    } else {
+        format!(in alloc; "\n{list}\n")?
+    };
+    with_feeds_of(alloc, text, lines)
+}
+
 /// The text with a list of links to the headings after it, between a line `<!-- toc -->` and a line `<!-- tocstop -->`. Without
 /// such headings, one empty line is between them.
 ///
@@ -526,13 +542,7 @@ pub fn with_contents(
         });
     }
     let page = Page::read(alloc, text, flags, slugs)?;
-    let list = contents(alloc, &page, end)?;
-    let lines = if list.is_empty() {
-        String::from_str(alloc, "\n")?
-    } else {
-        format!(in alloc; "\n{list}\n")?
-    };
-    let new = with_feeds_of(alloc, text, lines)?;
+    let new = contents_lines(alloc, text, &page, end)?;
     let length = new.len();
     let mut edits = Vec::new(alloc);
     edits.push(Edit {

@@ -4,7 +4,8 @@
 //! by `/`, and none of them is empty, `.` or `..`. The empty path is the root.
 //!
 //! `page` finds the links and anchors of a text. `tree` is the index of all files, and says where a link leads. `moved` says
-//! which destination a link needs after a move of `moves`. `renamed` says which anchors change with the words of headings.
+//! which destination a link needs after a move of `moves`. `renamed` says which anchors change with the words of headings, and
+//! `headings` which destination a link to one of them needs then.
 //! `changed` puts new destinations, words or contents into a text, and compares what the reader finds before and after. `paths`,
 //! `destination` and `slug` are the rules below them; `html` finds the attributes of HTML, `anchors` numbers headings, `edits`
 //! replaces bytes of a text.
@@ -14,6 +15,7 @@ pub mod anchors;
 pub mod changed;
 pub mod destination;
 mod edits;
+pub mod headings;
 mod html;
 pub mod moved;
 pub mod moves;

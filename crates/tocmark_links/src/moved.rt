@@ -1,6 +1,6 @@
 //! Which destination a link needs after a file or a folder has moved.
 
-ghost use Rattle.std.specs.Prelude.{◌≡◌, ℕ, List, IfOk, IfSome, IsTrue, None, Some, string_bytes};
+ghost use Rattle.std.specs.Prelude.{◌≡◌, ℕ, Bool, List, IfOk, IfSome, IsTrue, None, Some, string_bytes};
 ghost use Rattle.std.specs.Option.{option_map};
 ghost use Rattle.tocmark_links.specs.Destinations.{IsFollowed, IsRest};
 ghost use Rattle.tocmark_links.specs.Leading.{Follows, LeadsAfter, NamesItself, after, led_to, new_or};
@@ -9,13 +9,38 @@ ghost use Rattle.tocmark_links.specs.declared.tree.Kind.{Kind};
 
 use crate::destination::{decoded, encoded, is_local, parts};
 use crate::moves::Moves;
-use crate::paths::{folder_and_name, relative, resolved};
+use crate::paths::{folder_and_name, push_part, relative, resolved};
 use crate::tree::{Form, Tree};
 use std::alloc::{AllocError, Global};
 
+/// The name of a folder's page that mdBook makes `index.html` of.
+const README: &str = "README.md";
+
 /// Whether a page is that of its folder, by its name.
 fn is_index(name: &str) -> bool {
-    name == "README.md" || name == "index.md"
+    name == README || name == "index.md"
+}
+
+/// The path of a file in a folder.
+fn path_in(alloc: Global, folder: &str, name: &str) -> Result<String, AllocError> {
+    let mut path = String::from_str(alloc, folder)?;
+    push_part(&mut path, name)?;
+    Ok(path)
+}
+
+/// The form in which a link that had this form names a page after a move. mdBook makes no page of the path `x/README.md` and none
+/// of `x/README.html`. So in a book, a page that becomes the README.md of a folder is named by the folder, with a slash, or by
+/// `x/index.html`; and one that was it isn't named by `x/index.html` any more.
+fn form_after(tree: &Tree, form: Form, old: &str, new: &str) -> Form {
+    let was = folder_and_name(old).1 == README;
+    let is = folder_and_name(new).1 == README;
+    match form {
+        _ if !tree.is_book => form,
+        Form::Exact if is && !was => Form::Slash,
+        Form::Html if is => Form::Index,
+        Form::Index if !is_index(folder_and_name(new).1) => Form::Html,
+        _ => form,
+    }
 }
 
 /// A path of the form that another path had: the page that it names, as `.html`, without its ending, or as its folder. A page
@@ -25,11 +50,10 @@ fn in_form(alloc: Global, path: &str, form: Form) -> Result<String, AllocError> 
     let stem = path.strip_suffix(".md");
     match (form, stem) {
         (Form::Html, Some(stem)) => format!(in alloc; "{stem}.html"),
-        (Form::Index, _) if is_index(name) => {
-            let slash = if folder.is_empty() { "" } else { "/" };
-            format!(in alloc; "{folder}{slash}index.html")
-        }
+        (Form::Index, _) if is_index(name) => path_in(alloc, folder, "index.html"),
         (Form::Index, Some(stem)) => format!(in alloc; "{stem}/index.html"),
+        (Form::Book, _) if name == README => path_in(alloc, folder, "index.md"),
+        (Form::Slash, _) => format!(in alloc; "{folder}/"),
         (Form::Folder, _) if is_index(name) => String::from_str(alloc, folder),
         (Form::Bare, _) if is_index(name) => String::from_str(alloc, folder),
         (Form::Bare, Some(stem)) => String::from_str(alloc, stem),
@@ -44,15 +68,18 @@ fn needs_percent_signs(old: &str, new: &str) -> bool {
             || matches!(b, b'(' | b')' | b'<' | b'>' | b'#' | b'?' | b'%' | b'\\'))
 }
 
-/// The path from a folder to a target, spelled as the old path was: `/` or `./` in front, `/` at the end, percent signs.
+/// The path from a folder to a target, spelled as the old path was: `/` or `./` in front, percent signs. At its end is `/`, if the
+/// target has one, or the old path had one and the target is no page.
 fn spelled(alloc: Global, old: &str, folder: &str, target: &str) -> Result<String, AllocError> {
+    let has_slash = target.ends_with('/') || old.ends_with('/') && !target.ends_with(".md");
+    let target = target.strip_suffix('/').unwrap_or(target);
     let mut path = if old.starts_with('/') {
         format!(in alloc; "/{target}")?
     } else {
         relative(alloc, folder, target)?
     };
     let ends_with_slash = path.as_str().ends_with('/');
-    if old.ends_with('/') && !ends_with_slash && !target.ends_with(".md") {
+    if has_slash && !ends_with_slash {
         path.push('/')?;
     }
     let begins_with_dot = path.as_str().starts_with('.');
@@ -88,8 +115,9 @@ fn with_path(alloc: Global, destination: &str, path: &str) -> Result<String, All
 /// A destination that leads to a place from every page: the path from the root, with percent signs, and the query and anchor of
 /// another destination.
 fn from_root(alloc: Global, destination: &str, place: &str) -> Result<String, AllocError>
-    ensures { IfOk result (λ new. (kinds : List ℕ → Kind) (from : List ℕ)
-        → NamesItself kinds place.now → led_to kinds from (string_bytes new) ≡ Some place.now) }
+    ensures { IfOk result (λ new. (is_book : Bool) (kinds : List ℕ → Kind) (from : List ℕ)
+        → NamesItself is_book kinds place.now
+        → led_to is_book kinds from (string_bytes new) ≡ Some place.now) }
 {
     let text = encoded(alloc, place)?;
     let path = format!(in alloc; "/{text}")?;
@@ -98,7 +126,7 @@ fn from_root(alloc: Global, destination: &str, place: &str) -> Result<String, Al
 
 /// The file or folder that a destination leads to from a page, whatever its anchor, and how it names that; `None` if there is
 /// none. It is looked for in the tree, or in the tree after a move.
-fn target_of(
+pub(crate) fn target_of(
     alloc: Global,
     tree: &Tree,
     moves: Option<&Moves>,
@@ -106,7 +134,7 @@ fn target_of(
     destination: &str,
 ) -> Result<Option<(String, Form)>, AllocError>
     ensures { IfOk result (λ found. option_map (λ f. string_bytes f.0) found
-        ≡ led_to (kind_in tree.now moves.entry) from.now destination.now) }
+        ≡ led_to tree.now.is_book (kind_in tree.now moves.entry) from.now destination.now) }
 {
     if !is_local(destination) {
         return Ok(None);
@@ -176,7 +204,8 @@ impl Trip<'_> {
     /// the root with percent signs; `None` if not even that does.
     fn destination(&self, old: &str, form: Form) -> Result<Option<String>, AllocError>
         ensures { IfOk result (λ new.
-            NamesItself (after self.now.tree.now self.now.moves.now) self.now.place.now
+            NamesItself self.now.tree.now.is_book (after self.now.tree.now self.now.moves.now)
+            self.now.place.now
             → LeadsAfter self.now.tree.now self.now.moves.now
             self.now.home.now (new_or new old.now) self.now.place.now) }
     {
@@ -216,7 +245,8 @@ pub fn relocated(
 ) -> Result<Option<String>, AllocError>
     ensures leads { IfOk result (λ new. Follows tree.now moves.now from.now destination.now new) }
     ensures stays { IfOk result (λ new.
-        led_to (kind_at tree.now) from.now destination.now ≡ None → new ≡ None) }
+        led_to tree.now.is_book (kind_at tree.now) from.now destination.now ≡ None
+        → new ≡ None) }
 {
     let Some((path, form)) = target_of(alloc, tree, None, from, destination)? else {
         return Ok(None);
@@ -230,5 +260,6 @@ pub fn relocated(
         home: home.as_str(),
         place: place.as_str(),
     };
+    let form = form_after(tree, form, path.as_str(), place.as_str());
     trip.destination(destination, form)
 }

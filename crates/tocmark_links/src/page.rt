@@ -7,6 +7,7 @@ use crate::anchors::{Anchor, AnchorKind, number};
 use crate::html::{Value, values};
 use crate::slug::Slugs;
 use std::alloc::{AllocError, Global};
+use std::mem;
 use tocmark_event::event::{Event, HeadingLevel, LinkType, ParserOptions, Tag, TagEnd};
 use tocmark_event::reader::Reading;
 use tocmark_read_scan::basic::{byte_at, bytes_between, starts_at};
@@ -86,13 +87,43 @@ struct OpenHeading {
 struct Collecting<'t> {
     alloc: Global,
     text: &'t str,
+    slugs: Slugs,
     links: Vec<FoundLink>,
     anchors: Vec<Anchor>,
     open_links: Vec<OpenLink>,
     open_images: usize,
     heading: Option<OpenHeading>,
+    /// The anchors of the HTML in the heading that is open.
+    within: Vec<Anchor>,
     /// Where the last event ends.
     end: usize,
+}
+
+/// Adds what mdBook shows for so many `-`: a dash, unless it is one alone.
+fn push_hyphens(text: &mut String, count: usize) -> Result<(), AllocError> {
+    match count {
+        0 => Ok(()),
+        1 => text.push('-'),
+        3 => text.push('\u{2014}'),
+        _ => text.push('\u{2013}'),
+    }
+}
+
+/// A text with a dash for each stretch of two or more `-`, as mdBook shows it.
+fn with_dashes(alloc: Global, text: &str) -> Result<String, AllocError> {
+    let mut dashed = String::new(alloc);
+    let mut hyphens = 0usize;
+    for c in text.chars() {
+        if c == '-' {
+            hyphens = hyphens.saturating_add(1);
+        } else {
+            push_hyphens(&mut dashed, hyphens)?;
+            hyphens = 0;
+            dashed.push(c)?;
+        }
+    }
+    push_hyphens(&mut dashed, hyphens)?;
+    Ok(dashed)
 }
 
 /// How many `#` a heading of this level has.
@@ -167,15 +198,17 @@ fn named(words: &str) -> Option<(&str, &str)> {
 }
 
 impl<'t> Collecting<'t> {
-    fn new(alloc: Global, text: &'t str) -> Collecting<'t> {
+    fn new(alloc: Global, text: &'t str, slugs: Slugs) -> Collecting<'t> {
         Collecting {
             alloc,
             text,
+            slugs,
             links: Vec::new(alloc),
             anchors: Vec::new(alloc),
             open_links: Vec::new(alloc),
             open_images: 0,
             heading: None,
+            within: Vec::new(alloc),
             end: 0,
         }
     }
@@ -214,14 +247,34 @@ impl<'t> Collecting<'t> {
                 start: value.start,
             })?;
         } else {
-            self.anchors.push(Anchor {
-                kind: AnchorKind::Html,
-                name: text,
-                words: String::new(self.alloc),
-                level: 0,
-                place: None,
-                line: value.start,
-            })?;
+            self.add_element(text, value.start)?;
+        }
+        Ok(())
+    }
+
+    /// Adds the anchor of an element of HTML, after that of the heading that the element is in.
+    fn add_element(&mut self, name: String, start: usize) -> Result<(), AllocError> {
+        let anchor = Anchor {
+            kind: AnchorKind::Html,
+            name,
+            words: String::new(self.alloc),
+            level: 0,
+            place: None,
+            line: start,
+        };
+        if self.heading.is_some() {
+            self.within.push(anchor)?;
+        } else {
+            self.anchors.push(anchor)?;
+        }
+        Ok(())
+    }
+
+    /// Adds the anchors of the HTML in a heading that is closed.
+    fn add_within(&mut self) -> Result<(), AllocError> {
+        let within = mem::replace(&mut self.within, Vec::new(self.alloc));
+        for anchor in within {
+            self.anchors.push(anchor)?;
         }
         Ok(())
     }
@@ -350,6 +403,15 @@ impl<'t> Collecting<'t> {
         Ok(())
     }
 
+    /// Adds a text to the heading that is open, as its site shows it.
+    fn add_text(&mut self, text: &str) -> Result<(), AllocError> {
+        if matches!(self.slugs, Slugs::MdBook) && text.contains("--") {
+            let dashed = with_dashes(self.alloc, text)?;
+            return self.add_words(dashed.as_str());
+        }
+        self.add_words(text)
+    }
+
     /// Notes that an event in the open heading has these bytes.
     fn widen(&mut self, start: usize, end: usize) {
         if let Some(heading) = &mut self.heading {
@@ -397,7 +459,10 @@ impl<'t> Collecting<'t> {
 
     fn end(&mut self, tag: TagEnd, range: (usize, usize)) -> Result<(), AllocError> {
         match tag {
-            TagEnd::Heading(_) => self.close_heading(range.0)?,
+            TagEnd::Heading(_) => {
+                self.close_heading(range.0)?;
+                self.add_within()?;
+            }
             TagEnd::Link => self.close_link(range.1)?,
             TagEnd::Image => {
                 self.close_link(range.1)?;
@@ -412,9 +477,8 @@ impl<'t> Collecting<'t> {
     fn leaf(&mut self, event: &Event<'_>, range: (usize, usize)) -> Result<(), AllocError> {
         self.widen(range.0, range.1);
         match event {
-            Event::Text(text) | Event::Code(text) | Event::InlineMath(text) => {
-                self.add_words(text.as_ref())?;
-            }
+            Event::Text(text) => self.add_text(text.as_ref())?,
+            Event::Code(text) | Event::InlineMath(text) => self.add_words(text.as_ref())?,
             Event::SoftBreak | Event::HardBreak => self.add_words(" ")?,
             Event::InlineHtml(_) => self.add_html(range.0, range.1)?,
             _ => {}
@@ -519,8 +583,8 @@ impl Page {
     ///
     /// Links are inline links and images, definitions of links, used or not, and `href` and `src` of HTML. Anchors are those of
     /// headings, `{#id}` and `{: #id}` after their words, and `id` and `name` of HTML. A heading that names no anchor itself has
-    /// the slug of its words, with the first number after it by which no heading before it has the same anchor. It fails if
-    /// memory runs out.
+    /// the slug of its words, with the first number after it by which no heading before it has the same anchor. Of words for
+    /// mdBook, `--` outside of code is a dash. It fails if memory runs out.
     ///
     /// ```
     /// let page = Page::read(alloc, "# One\n\n[two](b.md#two)\n", flags, Slugs::GitHub)?;
@@ -534,7 +598,7 @@ impl Page {
     ) -> Result<Page, AllocError>
         ensures { IfOk result (λ page. AreNumbered slugs [] page.anchors.items) }
     {
-        let mut collecting = Collecting::new(alloc, text);
+        let mut collecting = Collecting::new(alloc, text, slugs);
         let (blocks, definitions) = READER.blocks_and_definitions(alloc, text, flags)?;
         let found = blocks.rest()?;
         collecting.events(&found)?;

@@ -2,13 +2,14 @@
 
 ghost use Rattle.std.specs.Prelude.{◌≡◌, ◌++◌, codes, IfOk, string_bytes};
 ghost use Rattle.std.specs.Option.{option_copied, option_map};
-ghost use Rattle.tocmark_links.specs.Naming.{folder_page, index_page, kind_at, kind_beside, kind_in, kind_of, named, page_at, site_page};
-ghost use Rattle.tocmark_links.specs.Paths.{before, followed};
+ghost use Rattle.tocmark_links.specs.Naming.{folder_page, book_page, index_page, kind_at, kind_beside, kind_in, kind_of, named, page_at, site_page};
+ghost use Rattle.tocmark_links.specs.Paths.{before, folder_before, folder_front, followed};
 
 use crate::destination::{decoded, encoded, is_local, parts};
 use crate::moves::{Moves, below};
 use crate::page::Page;
 use crate::paths::{folder_and_name, push_part, relative, resolved};
+use crate::slug::Slugs;
 use indexmap::{IndexMap, IndexSet};
 use std::alloc::{AllocError, Global};
 use strsim::levenshtein;
@@ -26,6 +27,10 @@ pub enum Form {
     Bare,
     /// `a` for `a/index.md` or `a/README.md`.
     Folder,
+    /// `a/` for `a/README.md`.
+    Slash,
+    /// `a/index.md` for `a/README.md`, as mdBook calls it.
+    Book,
 }
 
 /// Where a link leads.
@@ -97,10 +102,32 @@ fn before<'p>(path: &'p str, ending: &str) -> Option<&'p str>
     path.strip_suffix(ending)
 }
 
+/// The folder of a path, by what is in front of its name.
+fn folder_front(front: &str) -> Option<&str>
+    ensures { option_copied result ≡ folder_front front.now }
+{
+    if front.is_empty() {
+        return Some(front);
+    }
+    before(front, "/")
+}
+
+/// The folder of a path whose name is this one.
+fn folder_before<'p>(path: &'p str, name: &str) -> Option<&'p str>
+    ensures { option_copied result ≡ folder_before path.now name.now }
+{
+    match before(path, name) {
+        None => None,
+        Some(front) => folder_front(front),
+    }
+}
+
 /// The files and folders of a tree, with the anchors of its pages.
 #[derive(Drop)]
 pub struct Tree {
     alloc: Global,
+    /// Whether mdBook makes the site: then `x/index.md` is the page `x/README.md`.
+    pub(crate) is_book: bool,
     entries: IndexMap<String, Entry>,
     /// A path for each name of a file or folder, in lower case: the first that was added.
     by_name: IndexMap<String, String>,
@@ -158,8 +185,14 @@ fn stem(name: &str) -> &str {
 impl Tree {
     /// A tree without files.
     pub fn new(alloc: Global) -> Tree {
+        Tree::of_site(alloc, Slugs::GitHub)
+    }
+
+    /// A tree without files, of which the site is made whose anchors these are.
+    pub fn of_site(alloc: Global, slugs: Slugs) -> Tree {
         Tree {
             alloc,
+            is_book: matches!(slugs, Slugs::MdBook),
             entries: IndexMap::new(alloc),
             by_name: IndexMap::new(alloc),
             by_folder: IndexMap::new(alloc),
@@ -323,10 +356,20 @@ impl Tree {
         if let Some(page) = self.page_of(moves, stem)? {
             return Ok(Some(page));
         }
-        if let Some(page) = self.page_in(moves, stem, "README.md")? {
-            return Ok(Some(page));
+        self.folder_page(moves, stem)
+    }
+
+    /// The page that mdBook makes a path of, if the tree is a book.
+    fn book_page(&self, moves: Option<&Moves>, path: &str) -> Result<Option<String>, AllocError>
+        ensures { IfOk result (λ page. option_map string_bytes page
+            ≡ book_page self.now.is_book (kind_in self.now moves.entry) path.now) }
+    {
+        if self.is_book
+            && let Some(folder) = folder_before(path, "index.md")
+        {
+            return self.page_in(moves, folder, "README.md");
         }
-        self.page_in(moves, stem, "index.md")
+        Ok(None)
     }
 
     /// The page that a site makes a path of, and how the path names it.
@@ -336,9 +379,9 @@ impl Tree {
         path: &str,
     ) -> Result<Option<(String, Form)>, AllocError>
         ensures { IfOk result (λ found. option_map (λ f. string_bytes f.0) found
-            ≡ site_page (kind_in self.now moves.entry) path.now) }
+            ≡ site_page self.now.is_book (kind_in self.now moves.entry) path.now) }
     {
-        if let Some(stem) = before(path, "/index.html")
+        if let Some(stem) = folder_before(path, "index.html")
             && let Some(page) = self.index_page(moves, stem)?
         {
             return Ok(Some((page, Form::Index)));
@@ -348,7 +391,8 @@ impl Tree {
         {
             return Ok(Some((page, Form::Html)));
         }
-        Ok(None)
+        let page = self.book_page(moves, path)?;
+        Ok(page.map(|page| (page, Form::Book)))
     }
 
     /// What a path from the root names in the tree, or in the tree after a move, and how it does: the file itself, the page that
@@ -359,7 +403,7 @@ impl Tree {
         path: &str,
     ) -> Result<Option<(String, Form)>, AllocError>
         ensures { IfOk result (λ found. option_map (λ f. string_bytes f.0) found
-            ≡ named (kind_in self.now moves.entry) path.now) }
+            ≡ named self.now.is_book (kind_in self.now moves.entry) path.now) }
     {
         let kind = self.kind_in(moves, path)?;
         if matches!(kind, Kind::File | Kind::Page) {
@@ -397,7 +441,8 @@ impl Tree {
     ///
     /// A path names the file itself; or `a.html` the page `a.md`; `a/index.html` or `a/` the page `a/README.md` or `a/index.md`;
     /// or a folder; or `a` the page `a.md`. A path with a slash in front begins at the root. Percent signs are decoded, and a
-    /// query doesn't count. An anchor counts in pages alone, also in lower case; `top` is in each page.
+    /// query doesn't count. An anchor counts in pages alone, also in lower case; `top` is in each page. In a book of mdBook,
+    /// `a/index.md` is the page `a/README.md`.
     pub fn led_to(&self, from: &str, destination: &str) -> Result<Led, AllocError> {
         if !is_local(destination) {
             return Ok(Led::External);

@@ -28,14 +28,22 @@ pub enum Work<'w> {
     Check(&'w [&'w str]),
     /// A file or folder gets another path.
     Move(&'w str, &'w str),
-    /// A heading gets other words.
-    Rename(&'w str, &'w str),
+    /// The heading of a file with an anchor gets other words.
+    Rename {
+        file: &'w str,
+        anchor: &'w str,
+        words: &'w str,
+    },
     /// The tables of contents of these files are filled.
     Contents(&'w [&'w str]),
 }
 
 /// The command's name.
 pub const NAME: &str = "tocmark-links";
+
+/// What is said of a place without an anchor.
+const NO_ANCHOR: &str =
+    "# and the heading's anchor are missing; wanted: FILE#ANCHOR, by the anchor that the heading has now";
 
 /// What `--help` says of the words.
 const WORDS: &str = "check [PATH..]: find links that lead nowhere
@@ -113,12 +121,15 @@ pub fn command<'a>(alloc: Global, syntax_help: &'a str) -> Result<Command<'a>, A
     with_syntax(alloc, command, syntax_help)
 }
 
-/// The flags of the syntax and the extensions that are named.
-fn flags_of(matches: &ArgMatches<'_>) -> Result<ParserOptions, Fault> {
+/// The flags of the syntax and the extensions that are named. mdBook always reads attributes of headings.
+fn flags_of(matches: &ArgMatches<'_>, slugs: Slugs) -> Result<ParserOptions, Fault> {
     let syntax = matches.get_str("syntax").unwrap_or("gfm");
     let Some(mut flags) = syntax_named(syntax) else {
         return Err(Fault::Usage("--syntax wants commonmark, gfm or all"));
     };
+    if matches!(slugs, Slugs::MdBook) {
+        flags = extended(flags, "heading-attributes").unwrap_or(flags);
+    }
     for name in matches.get_strs("extension").unwrap_or(&[]) {
         let Some(more) = extended(flags, name) else {
             return Err(Fault::Usage(
@@ -150,9 +161,10 @@ pub fn terms_of(matches: &ArgMatches<'_>) -> Result<Terms, Fault> {
         (true, true) => return Err(Fault::Usage("only one of --json and --github can be passed")),
     };
     let shows = matches.get_flag("diff");
+    let slugs = slugs_of(matches)?;
     Ok(Terms {
-        flags: flags_of(matches)?,
-        slugs: slugs_of(matches)?,
+        flags: flags_of(matches, slugs)?,
+        slugs,
         form,
         is_dry: shows || matches.get_flag("dry-run"),
         shows,
@@ -234,7 +246,14 @@ pub fn work_of<'w>(alloc: Global, words: &'w [&'w str]) -> Result<Work<'w>, Faul
     }
     match rest {
         [old, new] if *command == "move" => Ok(Work::Move(old, new)),
-        [place, words] if *command == "rename" => Ok(Work::Rename(place, words)),
+        [place, words] if *command == "rename" => match place.rsplit_once('#') {
+            Some((file, anchor)) => Ok(Work::Rename {
+                file,
+                anchor,
+                words,
+            }),
+            None => Err(Fault::path(alloc, place, NO_ANCHOR)),
+        },
         _ => Err(wrong_words(alloc, command)),
     }
 }

@@ -4,47 +4,44 @@ use crate::fault::{Fault, fault_of};
 use crate::plan::Edit;
 use crate::report::{Kind, Note, Report};
 use crate::site::{Site, SitePage};
-use std::alloc::{AllocError, Global};
-use std::collections::HashMap;
+use std::alloc::Global;
+use tocmark_files::quoted::in_quotes;
 use tocmark_links::changed::with_destinations;
-use tocmark_links::destination::with_anchor;
+use tocmark_links::headings::{Astray, Renaming};
 use tocmark_links::moved::relocated;
 use tocmark_links::moves::Moves;
-use tocmark_links::page::Page;
-use tocmark_links::tree::{Led, Tree};
+use tocmark_links::page::{Link, Page};
 
 /// Why destinations change.
 #[derive(Drop)]
 pub enum Reason {
     /// A path is moved.
     Moved(Moves),
-    /// Anchors of the page at this path get other names.
-    Renamed(String, HashMap<String, String>),
+    /// Headings of a page get other words.
+    Renamed(Renaming),
 }
 
-impl Reason {
+impl Site {
     /// The new destination of a link of the page at a path. `None`: it stays.
     fn destination(
         &self,
         alloc: Global,
-        tree: &Tree,
+        reason: &Reason,
         from: &str,
-        old: &str,
-    ) -> Result<Option<String>, AllocError> {
-        let (file, names) = match self {
-            Reason::Moved(moves) => return relocated(alloc, tree, moves, from, old),
-            Reason::Renamed(file, names) => (file, names),
+        link: &Link,
+    ) -> Result<Option<String>, Fault> {
+        let old = link.destination.as_str();
+        let renaming = match reason {
+            Reason::Moved(moves) => return Ok(relocated(alloc, &self.tree, moves, from, old)?),
+            Reason::Renamed(renaming) => renaming,
         };
-        let led = tree.led_to(from, old)?;
-        let Led::To { path, anchor, .. } = &led else {
-            return Ok(None);
-        };
-        if path.as_str() != file.as_str() {
-            return Ok(None);
-        }
-        match names.get(anchor.as_str()) {
-            Some(new) => Ok(Some(with_anchor(alloc, old, new.as_str())?)),
-            None => Ok(None),
+        match renaming.renamed_link(alloc, &self.tree, from, old) {
+            Ok(new) => Ok(new),
+            Err(Astray::OutOfMemory) => Err(Fault::OutOfMemory),
+            Err(Astray::Elsewhere) => {
+                let shown = self.root.shown(alloc, from)?;
+                Err(Fault::Astray(in_quotes(alloc, shown.as_str())?, link.line))
+            }
         }
     }
 
@@ -52,22 +49,19 @@ impl Reason {
     fn destinations(
         &self,
         alloc: Global,
-        tree: &Tree,
+        reason: &Reason,
         from: &str,
         page: &Page,
-    ) -> Result<Vec<(usize, String)>, AllocError> {
+    ) -> Result<Vec<(usize, String)>, Fault> {
         let mut changes = Vec::new(alloc);
         for (index, link) in page.links.iter().enumerate() {
-            let new = self.destination(alloc, tree, from, link.destination.as_str())?;
-            if let Some(new) = new {
+            if let Some(new) = self.destination(alloc, reason, from, link)? {
                 changes.push((index, new))?;
             }
         }
         Ok(changes)
     }
-}
 
-impl Site {
     /// A text of the page at a path with new destinations, which are reported. `None`: no link of it changes.
     pub fn corrected(
         &self,
@@ -78,7 +72,7 @@ impl Site {
         report: &mut Report,
     ) -> Result<Option<String>, Fault> {
         let page = self.page_of(alloc, text)?;
-        let changes = reason.destinations(alloc, &self.tree, path, &page)?;
+        let changes = self.destinations(alloc, reason, path, &page)?;
         if changes.is_empty() {
             return Ok(None);
         }
@@ -113,7 +107,7 @@ impl Site {
         report: &mut Report,
     ) -> Result<Option<Edit>, Fault> {
         let path = page.path.as_str();
-        let changes = reason.destinations(rt.alloc(), &self.tree, path, &page.page)?;
+        let changes = self.destinations(rt.alloc(), reason, path, &page.page)?;
         if changes.is_empty() {
             return Ok(None);
         }

@@ -36,6 +36,8 @@ pub enum Fault {
     Running(String, String),
     /// A place of the command line that names no heading, and one that is near.
     NoHeading(String, Option<String>),
+    /// A file, and a line of it with a link that would lead to another heading, or to none.
+    Astray(String, usize),
     /// A file, and a line of it whose heading can't have the new words, but can have others.
     Words(String, usize),
     /// A file, and a line of it where `<!-- toc -->` or `<!-- tocstop -->` doesn't begin the line.
@@ -135,6 +137,10 @@ impl fmt::Display for Fault {
             Fault::Words(path, line) => write!(
                 f,
                 "{path}:{line}: not all of these words would be read as the heading's; nothing was changed, so choose others"
+            ),
+            Fault::Astray(path, line) => write!(
+                f,
+                "{path}:{line}: with these words, a link of this line would lead elsewhere; nothing was changed, so choose others"
             ),
             Fault::Indented(path, line) => write!(
                 f,

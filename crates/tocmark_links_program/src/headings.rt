@@ -6,17 +6,14 @@ use crate::plan::{Edit, Plan};
 use crate::report::{Kind, Note, Report};
 use crate::site::Site;
 use std::alloc::{AllocError, Global};
-use std::collections::HashMap;
 use tocmark_files::quoted::in_quotes;
 use tocmark_links::anchors::{Anchor, AnchorKind};
 use tocmark_links::changed;
 use tocmark_links::changed::{with_contents, with_heading};
+use tocmark_links::headings::Renaming;
 use tocmark_links::page::Page;
 use tocmark_links::renamed::renamed_anchors;
 use tocmark_links::tree::Led;
-
-/// What is said of a place that isn't written as one.
-const NO_PLACE: &str = "wanted: FILE#ANCHOR, by the anchor that the heading has now";
 
 /// What is said of a file that isn't read.
 const NO_PAGE: &str = "no such Markdown file is in the tree";
@@ -165,7 +162,7 @@ impl Site {
         Err(fault_of(file, fault))
     }
 
-    /// The text of a page whose heading gets other words, which is reported, and the anchors that change.
+    /// The text of a page whose heading gets other words, which is reported, and what becomes of its anchors.
     fn reworded(
         &self,
         alloc: Global,
@@ -173,7 +170,7 @@ impl Site {
         old: &str,
         (name, words): (&str, &str),
         report: &mut Report,
-    ) -> Result<(String, HashMap<String, String>), Fault> {
+    ) -> Result<(String, Renaming), Fault> {
         let shown = self.root.shown(alloc, path)?;
         let page = self.page_of(alloc, old)?;
         let Some(heading) = heading_of(&page, name) else {
@@ -190,23 +187,20 @@ impl Site {
         report.add(alloc, note)?;
         let new = self.with_words(alloc, shown.as_str(), old, heading, words)?;
         let new_page = self.page_of(alloc, new.as_str())?;
-        match renamed_anchors(alloc, &page, &new_page)? {
-            Some(names) => Ok((new, names)),
-            None => Err(anchor_fault(alloc, shown.as_str(), &new_page, heading.line)?),
+        if renamed_anchors(alloc, &page, &new_page)?.is_none() {
+            return Err(anchor_fault(alloc, shown.as_str(), &new_page, heading.line)?);
         }
+        Ok((new, Renaming::new(alloc, path, &page, &new_page)?))
     }
 
-    /// What is written to give other words to the heading that a word of the command line names.
+    /// What is written to give other words to the heading that has this anchor in the file that a word of the command line names.
     pub fn rename_plan(
         &self,
         rt: &HostRuntime,
-        place: &str,
+        (file, name): (&str, &str),
         words: &str,
         report: &mut Report,
     ) -> Result<Plan, Fault> {
-        let Some((file, name)) = place.rsplit_once('#') else {
-            return Err(Fault::path(rt.alloc(), place, NO_PLACE));
-        };
         let path = self.root.inner(rt, file)?;
         if self.root.is_link(rt, path.as_str())? {
             return Err(Fault::path(rt.alloc(), file, LINK));
@@ -217,8 +211,14 @@ impl Site {
         let alloc = rt.alloc();
         let source = self.source_at(rt, path.as_str())?;
         let old = source.text.as_str();
-        let (new, names) = self.reworded(alloc, path.as_str(), old, (name, words.trim()), report)?;
-        let reason = Reason::Renamed(String::from_str(alloc, path.as_str())?, names);
+        let (new, renaming) = self.reworded(
+            alloc,
+            path.as_str(),
+            old,
+            (name, words.trim()),
+            report,
+        )?;
+        let reason = Reason::Renamed(renaming);
         let new = match self.corrected(alloc, path.as_str(), new.as_str(), &reason, report)? {
             Some(corrected) => corrected,
             None => new,

@@ -204,6 +204,33 @@ fn first_found<'w>(rt: &HostRuntime, paths: &'w [&'w str]) -> &'w str {
     "."
 }
 
+/// What is written to fill tables of contents. If nothing is to be changed, but a file would change, that is noted.
+fn contents_of(
+    rt: &HostRuntime,
+    terms: Terms,
+    paths: &[&str],
+    report: &mut Report,
+) -> Result<(Site, Plan), Fault> {
+    let root = Root::of(rt, paths.first().copied().unwrap_or("."))?;
+    let mut site = Site::new(rt.alloc(), root, terms);
+    let plan = site.contents_plan(rt, paths, report)?;
+    if terms.is_dry && !plan.edits.is_empty() {
+        site.outcomes.push(Outcome::Stale)?;
+    }
+    Ok((site, plan))
+}
+
+/// A call as one line.
+fn line_of(rt: &HostRuntime, words: &[&str]) -> Result<String, Fault> {
+    let mut text = String::from_str(rt.alloc(), arguments::NAME)?;
+    for word in words {
+        let word = Quoted(word);
+        text = format!(in rt.alloc(); "{text} {word}")?;
+    }
+    text.push('\n')?;
+    Ok(text)
+}
+
 /// Does what a call asks for, and returns the status.
 fn perform(
     rt: &HostRuntime,
@@ -212,6 +239,7 @@ fn perform(
     matches: &ArgMatches<'_>,
 ) -> Result<u8, Fault> {
     let work = work_of(rt.alloc(), words)?;
+    let text = line_of(rt, words)?;
     let mut report = Report::new(rt.alloc(), terms.form)?;
     let (site, plan) = match work {
         Work::Check(paths) => {
@@ -224,28 +252,17 @@ fn perform(
             let plan = site.move_plan(rt, old, new, &mut report)?;
             (site, plan)
         }
-        Work::Rename(place, words) => {
-            let (file, _) = place.rsplit_once('#').unwrap_or((place, ""));
+        Work::Rename {
+            file,
+            anchor,
+            words,
+        } => {
             let site = site_of(rt, file, terms, matches)?;
-            let plan = site.rename_plan(rt, place, words, &mut report)?;
+            let plan = site.rename_plan(rt, (file, anchor), words, &mut report)?;
             (site, plan)
         }
-        Work::Contents(paths) => {
-            let root = Root::of(rt, paths.first().copied().unwrap_or("."))?;
-            let mut site = Site::new(rt.alloc(), root, terms);
-            let plan = site.contents_plan(rt, paths, &mut report)?;
-            if terms.is_dry && !plan.edits.is_empty() {
-                site.outcomes.push(Outcome::Stale)?;
-            }
-            (site, plan)
-        }
+        Work::Contents(paths) => contents_of(rt, terms, paths, &mut report)?,
     };
-    let mut text = String::from_str(rt.alloc(), arguments::NAME)?;
-    for word in words {
-        let word = Quoted(word);
-        text = format!(in rt.alloc(); "{text} {word}")?;
-    }
-    text.push('\n')?;
     finish(rt, &site, &plan, report, text.as_str())
 }
 

@@ -64,7 +64,7 @@ impl Site {
         Site {
             root,
             terms,
-            tree: Tree::new(alloc),
+            tree: Tree::of_site(alloc, terms.slugs),
             pages: Vec::new(alloc),
             others: Vec::new(alloc),
             outcomes: Vec::new(alloc),

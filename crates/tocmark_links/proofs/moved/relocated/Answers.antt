@@ -14,7 +14,7 @@ returns-clause-leads c =
     let path = string_bytes c.in-Some.path in
     let home = c.as_str-2.result.now in
     let place = c.as_str-3.result.now in
-    let led : Some path ≡ led_to (kind_at tree) from old = search rules in
+    let led : Some path ≡ led_to tree.is_book (kind_at tree) from old = search rules in
     let there : place ≡ placed moves path =
     c.as_str-3.ensures.value ∙ c.in_ok-place.ensures ∙ ap (placed moves) c.as_str.ensures.value in
-    IfOk-weaker c.destination.result (λ new. NamesItself (after tree moves) place → LeadsAfter tree moves home (new_or new old) place) (λ new. Follows tree moves from old new) (λ new leads. follows tree moves from old path home place new led (c.as_str-2.ensures.value ∙ c.in_ok-home.ensures) there leads) c.destination.ensures
+    IfOk-weaker c.destination.result (λ new. NamesItself tree.is_book (after tree moves) place → LeadsAfter tree moves home (new_or new old) place) (λ new. Follows tree moves from old new) (λ new leads. follows tree moves from old path home place new led (c.as_str-2.ensures.value ∙ c.in_ok-home.ensures) there leads) c.destination.ensures
