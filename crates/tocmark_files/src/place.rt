@@ -1,11 +1,13 @@
 //! Files by the folder that they are in. An open folder stays the same one, whatever others do to its path meanwhile, and a
 //! file counts as the one that was found only if its device and inode say so.
 
+use crate::replace::NewFile;
 use std::fs::{File, Metadata};
 use std::os::fd::AsRawFd;
 use std::os::unix::fs::MetadataExt;
 use std::path::Path;
 use std::{fs, io};
+use tocmark_replace::record::Record;
 
 /// Why a file or folder isn't opened that was found before.
 const ELSEWHERE: &str = "something else has its name now";
@@ -175,7 +177,13 @@ impl Place {
         if !self.file.has(&file.metadata()?) {
             return Err(refused(ELSEWHERE));
         }
-        Ok(OpenFile { folder, name, file })
+        Ok(OpenFile {
+            folder,
+            name,
+            file,
+            draft: None,
+            log: Record::new(),
+        })
     }
 }
 
@@ -186,6 +194,10 @@ pub struct OpenFile {
     /// Its name in the folder.
     pub name: String,
     pub file: File,
+    /// The new file that is to take its name, while it is replaced.
+    pub(crate) draft: Option<NewFile>,
+    /// The steps of its replacements.
+    pub(crate) log: Record,
 }
 
 impl OpenFile {

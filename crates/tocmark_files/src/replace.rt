@@ -4,6 +4,10 @@
 //! synced, and is renamed over it. Until then the old file stays as it is. After an error the new file is removed. Folder and
 //! files are reached by their descriptors, so nobody who changes names in between leads the call to another file.
 
+ghost use Rattle.std.specs.Prelude.{◌≡◌, [], ◌∷◌, OnErr, OnOk};
+ghost use Rattle.tocmark_files.specs.Replaced.{IsGiven, IsGivenNothing, steps_on};
+ghost use Rattle.tocmark_replace.specs.Steps.{step_of};
+
 use crate::place::{OpenFile, OpenFolder, Place};
 use std::fs::{File, Metadata, OpenOptions};
 use std::io::{Read, Seek, SeekFrom, Write};
@@ -11,6 +15,11 @@ use std::os::fd::AsFd;
 use std::os::unix::fs::{MetadataExt, OpenOptionsExt, fchown};
 use std::{fs, io};
 use thiserror::Error;
+use tocmark_replace::ReplaceableFile;
+use tocmark_replace::record::{
+    FAILED, FOUND, FOUND_OTHER, LEFT, MADE, REMOVED, RENAMED, Record, SYNCED, TORE, WROTE,
+};
+use tocmark_replace::replace::replace;
 
 /// How many names are tried for the new file.
 const TRIES: usize = 1000;
@@ -118,7 +127,7 @@ fn create(rt: &HostRuntime, folder: &OpenFolder, name: &str) -> io::Result<Optio
 
 /// A new file beside a file, by its name there.
 #[derive(Drop)]
-struct NewFile {
+pub(crate) struct NewFile {
     name: String,
     file: File,
 }
@@ -156,64 +165,172 @@ fn still_has(rt: &HostRuntime, file: &mut File, text: &str) -> io::Result<bool> 
     Ok(bytes.as_slice() == text.as_bytes())
 }
 
-impl<'r> Replacement<'r> {
-    /// Writes the new text, and syncs the file if that is wanted.
-    fn write_whole(&self, file: &mut File) -> io::Result<()> {
-        file.write_all(self.new.as_bytes())?;
-        if self.syncs { file.sync_all() } else { Ok(()) }
+/// Makes a new file beside a file of a folder, with the owner and the permissions of that file.
+fn make_draft(
+    rt: &HostRuntime,
+    folder: &OpenFolder,
+    name: &str,
+    file: &File,
+    draft: &mut Option<NewFile>,
+) -> Result<(), ReplaceError> {
+    let metadata = file.metadata().map_err(ReplaceError::Read)?;
+    if metadata.mode() & OWNER_WRITES == 0 {
+        return Err(ReplaceError::ReadOnly);
     }
+    let new = create_beside(rt, folder, name).map_err(ReplaceError::Write)?;
+    let kept = keep_attributes(&new.file, &metadata);
+    *draft = Some(new);
+    kept.map_err(ReplaceError::Attributes)
+}
 
-    /// Whether the old file has its old text and its name, and the new one its name.
-    fn is_ready(&self, rt: &HostRuntime, old: &mut OpenFile, new: &NewFile) -> io::Result<bool> {
-        Ok(
-            still_has(rt, &mut old.file, self.old)?
-                && old.is_in_place(rt)?
-                && old.folder.leads_to(rt, new.name.as_str(), &new.file)?,
-        )
+/// The error of a step that needs a new file.
+fn no_draft() -> io::Error {
+    io::Error::from(io::ErrorKind::NotFound)
+}
+
+/// Writes a text to a new file.
+fn write_to(draft: &mut Option<NewFile>, text: &str) -> io::Result<()> {
+    match draft {
+        Some(new) => new.file.write_all(text.as_bytes()),
+        None => Err(no_draft()),
     }
+}
 
-    /// Fills the new file, and renames it over the old one, if that still has its old text.
-    fn fill_and_rename(
-        &self,
-        rt: &HostRuntime,
-        old: &mut OpenFile,
-        new: &mut NewFile,
-        metadata: &Metadata,
-    ) -> Result<(), ReplaceError> {
-        keep_attributes(&new.file, metadata).map_err(ReplaceError::Attributes)?;
-        self.write_whole(&mut new.file)
-            .map_err(ReplaceError::Write)?;
-        if !self.is_ready(rt, old, new).map_err(ReplaceError::Read)? {
-            return Err(ReplaceError::Changed);
+/// Notes a step by how it ended, with the text that it is about.
+fn noted(
+    log: &mut Record,
+    ended: Result<(), ReplaceError>,
+    done: u64,
+    failed: u64,
+    text: &[u8],
+) -> Result<(), ReplaceError>
+    ensures ok { OnOk result (log.new.steps ≡ step_of (done ∷ []) text.now ∷ log.old.steps) }
+    ensures err { OnErr result (log.new.steps ≡ step_of (failed ∷ []) [] ∷ log.old.steps) }
+{
+    match ended {
+        Ok(()) => {
+            log.note(&[done], text);
+            Ok(())
         }
-        self.rename(rt, old, new).map_err(ReplaceError::Write)
+        Err(error) => {
+            log.note(&[failed], &[]);
+            Err(error)
+        }
+    }
+}
+
+impl OpenFile {
+    /// Brings the new file to the disk.
+    fn sync_draft(&self) -> io::Result<()> {
+        match &self.draft {
+            Some(new) => new.file.sync_all(),
+            None => Err(no_draft()),
+        }
     }
 
-    /// Renames the new file over the old one.
-    fn rename(&self, rt: &HostRuntime, old: &OpenFile, new: &NewFile) -> io::Result<()> {
-        let from = old.folder.path_of(rt, new.name.as_str())?;
-        let to = old.folder.path_of(rt, old.name.as_str())?;
+    /// Whether it still has its old text and its name, and the new file its name.
+    fn is_ready(&mut self, rt: &HostRuntime, text: &str) -> io::Result<bool>
+        ensures { steps_on self.new ≡ steps_on self.old }
+    {
+        if !still_has(rt, &mut self.file, text)? || !self.is_in_place(rt)? {
+            return Ok(false);
+        }
+        match &self.draft {
+            Some(new) => self.folder.leads_to(rt, new.name.as_str(), &new.file),
+            None => Ok(false),
+        }
+    }
+
+    /// Renames the new file over it.
+    fn rename_draft(&self, rt: &HostRuntime) -> io::Result<()> {
+        let Some(new) = &self.draft else {
+            return Err(no_draft());
+        };
+        let from = self.folder.path_of(rt, new.name.as_str())?;
+        let to = self.folder.path_of(rt, self.name.as_str())?;
         fs::rename(rt, from.as_str(), to.as_str())
     }
 
+    /// Removes the new file, if there is one.
+    fn remove_draft(&self, rt: &HostRuntime) -> io::Result<()> {
+        let Some(new) = &self.draft else {
+            return Ok(());
+        };
+        fs::remove_file(rt, self.folder.path_of(rt, new.name.as_str())?.as_str())
+    }
+}
+
+/// Each step makes the calls of the system that its name says, and notes what they answered. That the system's files are then
+/// as it answers, no clause can say.
+impl ReplaceableFile for OpenFile {
+    type Error = ReplaceError;
+
+    ghost steps = { steps_on };
+
+    fn create(&mut self, rt: &HostRuntime) -> Result<(), ReplaceError> {
+        let made = make_draft(
+            rt,
+            &self.folder,
+            self.name.as_str(),
+            &self.file,
+            &mut self.draft,
+        );
+        noted(&mut self.log, made, MADE, FAILED, &[])
+    }
+
+    fn write(&mut self, _rt: &HostRuntime, text: &str) -> Result<(), ReplaceError> {
+        let wrote = write_to(&mut self.draft, text).map_err(ReplaceError::Write);
+        noted(&mut self.log, wrote, WROTE, TORE, text.as_bytes())
+    }
+
+    fn sync(&mut self, _rt: &HostRuntime) -> Result<(), ReplaceError> {
+        let synced = self.sync_draft().map_err(ReplaceError::Write);
+        noted(&mut self.log, synced, SYNCED, FAILED, &[])
+    }
+
+    fn still_has(&mut self, rt: &HostRuntime, text: &str) -> Result<bool, ReplaceError> {
+        match self.is_ready(rt, text) {
+            Ok(true) => {
+                self.log.note(&[FOUND], text.as_bytes());
+                Ok(true)
+            }
+            Ok(false) => {
+                self.log.note(&[FOUND_OTHER], &[]);
+                Ok(false)
+            }
+            Err(error) => {
+                self.log.note(&[FAILED], &[]);
+                Err(ReplaceError::Read(error))
+            }
+        }
+    }
+
+    fn rename(&mut self, rt: &HostRuntime) -> Result<(), ReplaceError> {
+        let renamed = self.rename_draft(rt).map_err(ReplaceError::Write);
+        noted(&mut self.log, renamed, RENAMED, FAILED, &[])
+    }
+
+    fn remove(&mut self, rt: &HostRuntime) {
+        let removed = self.remove_draft(rt).map_err(ReplaceError::Write);
+        let _ = noted(&mut self.log, removed, REMOVED, LEFT, &[]);
+    }
+}
+
+impl<'r> Replacement<'r> {
     /// Gives an open file the new text, if it still has the old one and its name.
     ///
     /// After an error the file stays as it was. [`ReplaceError`] has the causes.
-    pub fn put_in(&self, rt: &HostRuntime, old: &mut OpenFile) -> Result<(), ReplaceError> {
-        let metadata = old.file.metadata().map_err(ReplaceError::Read)?;
-        if metadata.mode() & OWNER_WRITES == 0 {
-            return Err(ReplaceError::ReadOnly);
+    pub fn put_in(&self, rt: &HostRuntime, file: &mut OpenFile) -> Result<(), ReplaceError>
+        ensures ok { OnOk result (IsGiven self.now.old.now self.now.new.now self.now.syncs file.old file.new) }
+        ensures err { OnErr result (IsGivenNothing file.old file.new) }
+    {
+        let done = replace(rt, file, self.old, self.new, self.syncs);
+        file.draft = None;
+        match done {
+            Ok(true) => Ok(()),
+            Ok(false) => Err(ReplaceError::Changed),
+            Err(error) => Err(error),
         }
-        let mut new = create_beside(rt, &old.folder, old.name.as_str()).map_err(
-            ReplaceError::Write,
-        )?;
-        let done = self.fill_and_rename(rt, old, &mut new, &metadata);
-        if done.is_err()
-            && let Ok(path) = old.folder.path_of(rt, new.name.as_str())
-        {
-            let _ = fs::remove_file(rt, path.as_str());
-        }
-        done
     }
 
     /// Gives the file at this path the new text, if it still has the old one. A link is followed.

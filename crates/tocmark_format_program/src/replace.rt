@@ -1,5 +1,7 @@
 //! Replaces a file's text by another one that says the same.
 
+ghost use Rattle.std.specs.Prelude.{◌≡◌, MatchOption, OnErr, OnOk, string_bytes};
+ghost use Rattle.tocmark_files.specs.Replaced.{IsGiven, IsGivenNothing, steps_on};
 ghost use Rattle.tocmark_format_program.specs.Formats.{KeepsWhatItSays};
 
 use crate::decide::Decision;
@@ -24,6 +26,13 @@ pub fn replace_text<R: Reader>(
     change: &Change<'_, R>,
 ) -> Result<(), ReplaceError>
     requires { KeepsWhatItSays (R.reading change.now.reader.now) change.now.decision.now }
+
+    // The file is given the new text of the decision and nothing else, if it was found to have the old one.
+    ensures given { OnOk result (MatchOption change.now.decision.now.new
+        (steps_on file.new ≡ steps_on file.old)
+        (λ new. IsGiven (string_bytes change.now.decision.now.old) (string_bytes new)
+        change.now.syncs file.old file.new)) }
+    ensures stays { OnErr result (IsGivenNothing file.old file.new) }
 {
     let Some(new) = &change.decision.new else {
         return Ok(());

@@ -1,0 +1,4 @@
+pub mod Memory
+pub mod Moments
+pub mod Steps
+pub mod Texts
