@@ -28,6 +28,8 @@ pub struct Terms {
     pub flags: ParserOptions,
     pub allowed: Allowed,
     pub measure: Measure,
+    /// Web and mail addresses in texts count as links, as on GitHub.
+    pub links_addresses: bool,
     pub form: Form,
     /// The new text takes the place of the old one, if both say the same.
     pub replaces: bool,
@@ -200,6 +202,12 @@ fn flags_of(matches: &ArgMatches<'_>) -> Result<ParserOptions, Fault> {
     Ok(flags)
 }
 
+/// Whether addresses in texts count as links: CommonMark has no such links, and nothing that a parser finds may differ under
+/// `--as events`.
+fn links_addresses(matches: &ArgMatches<'_>) -> bool {
+    matches.get_str("as") != Some("events") && matches.get_str("syntax") != Some("commonmark")
+}
+
 /// What may differ.
 fn allowed_of(alloc: Global, matches: &ArgMatches<'_>) -> Result<Allowed, Fault> {
     let mut allowed = match matches.get_str("as") {
@@ -259,6 +267,7 @@ pub fn terms_of(alloc: Global, matches: &ArgMatches<'_>) -> Result<Terms, Fault>
         flags: flags_of(matches)?,
         allowed: allowed_of(alloc, matches)?,
         measure: measure_of(matches)?,
+        links_addresses: links_addresses(matches),
         form,
         replaces,
         is_quiet: matches.get_flag("quiet"),

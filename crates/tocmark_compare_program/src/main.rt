@@ -21,16 +21,21 @@ use replaced::Replaced;
 use report::{Report, Way};
 use std::process::ExitCode;
 use texts::{Shared, files_below, is_folder, joined, text_of};
+use tocmark_bare_links::BareLinks;
 use tocmark_command::program::{Program, words_of};
 use tocmark_command::streams::write_out;
 use tocmark_command::syntax::syntax_help;
+use tocmark_judge::PartReader;
 use tocmark_reader::{ExtendedReader, Names};
 
 /// This program.
 const COMPARE: Program = Program { name: NAME };
 
-/// The reader of all texts.
+/// The reader of all texts, unless addresses in them count as links.
 const READER: ExtendedReader = ExtendedReader { names: Names::All };
+
+/// The reader that finds these links, too.
+const LINKING_READER: BareLinks<ExtendedReader> = BareLinks { reader: READER };
 
 /// The first line of what `--help` says of `--syntax`.
 const SYNTAX: &str = "Kind of Markdown: commonmark, gfm (default) or all";
@@ -54,10 +59,16 @@ impl Comparison {
         Ok(())
     }
 
-    /// Reports what two texts say differently. If that is nothing, the new one takes the place of the old one, if that is wanted.
-    fn compare_texts(&mut self, rt: &HostRuntime, pair: Pair<'_>) -> Result<Outcome, Fault> {
+    /// Reports what a reader finds differently in two texts. If that is nothing, the new one takes the place of the old one, if
+    /// that is wanted.
+    fn compare_by<R: PartReader>(
+        &mut self,
+        rt: &HostRuntime,
+        pair: Pair<'_>,
+        reader: &R,
+    ) -> Result<Outcome, Fault> {
         let (old, new) = (text_of(rt, pair.old)?, text_of(rt, pair.new)?);
-        let (reader, terms) = (&READER, self.terms);
+        let terms = self.terms;
         let (found, outcome) = judged(rt.alloc(), reader, terms, old.as_str(), new.as_str())?;
         for difference in &found {
             self.report
@@ -77,6 +88,15 @@ impl Comparison {
             replaced.put(rt, path)?;
         }
         Ok(outcome)
+    }
+
+    /// Reports what two texts say differently, by the reader that a call asks for.
+    fn compare_texts(&mut self, rt: &HostRuntime, pair: Pair<'_>) -> Result<Outcome, Fault> {
+        if self.terms.links_addresses {
+            self.compare_by(rt, pair, &LINKING_READER)
+        } else {
+            self.compare_by(rt, pair, &READER)
+        }
     }
 
     /// Compares two files. If one can't be read, standard error says so. It fails if nothing more can be done.

@@ -1,0 +1,153 @@
+-- The addresses of a line, and the events that show them as links.
+use Rattle.std.specs.Prelude.{ℕ, Bool, not, ◌-◌, ◌==◌, ◌&&◌, ◌||◌, nat_lt, nat_le, if◌then◌else◌, List, [], ◌∷◌, ◌++◌, length, drop, map, take_while, Option, Some, None}
+use Rattle.std.specs.List.{fold}
+use Rattle.std.specs.Str.Lossy.{utf8_lossy}
+use Rattle.tocmark_event.specs.Text.{ParserEvent, text_of}
+use Rattle.tocmark_event.specs.View.{EventView, Start, End, Leaf, Text, TagView, Link, event_view}
+use Rattle.tocmark_event.specs.declared.event.LinkType.{LinkType}
+use Rattle.tocmark_event.specs.declared.event.LinkType.TheVariants as link
+use Rattle.tocmark_event.specs.declared.event.TagEnd.TheVariants as end
+use Rattle.tocmark_read_scan.specs.Basic.{plus, bytes_between}
+use Rattle.tocmark_bare_links.specs.Addresses.{address_of}
+use Rattle.tocmark_bare_links.specs.declared.address.Kind.{Kind}
+use Rattle.tocmark_bare_links.specs.declared.address.Kind.TheVariants.{Web, Named, Mail}
+use Rattle.tocmark_bare_links.specs.declared.address.Address.{Address}
+use Rattle.tocmark_bare_links.specs.declared.words.Words.{Words}
+use Rattle.tocmark_bare_links.specs.declared.words.Spot.{Spot}
+use Rattle.tocmark_bare_links.specs.declared.scan.Scan.{Scan}
+
+-- ---- the words of a line
+
+-- white space, or `<`: no byte of an address
+unfoldable pub is_separator : ℕ → Bool
+is_separator b = (b == 32) || (b == 60) || (nat_le 9 b && nat_le b 13)
+
+-- one of ( * ~, which may come before an address in a word
+unfoldable pub is_lead : ℕ → Bool
+is_lead b = (b == 40) || (b == 42) || (b == 126)
+
+-- how many of them a word begins with
+unfoldable pub lead_length : List ℕ → ℕ
+lead_length word = length (take_while is_lead word)
+
+-- how many `[` have no `]`, after one byte more
+unfoldable pub bracketed : ℕ → ℕ → ℕ
+bracketed n b = if b == 91 then plus n 1 else if b == 93 then n - 1 else n
+
+-- before the first byte of a line: whether an address may begin there, and how many brackets are open
+abbrev pub words_start : Bool → ℕ → Words
+words_start opens brackets = record { place = 0; start = 0; opens = opens; brackets = brackets; around = brackets; linked = 0 }
+
+-- one byte further: a separator ends a word, and after white space an address may begin
+unfoldable pub words_step : Words → ℕ → Words
+words_step w b =
+    if is_separator b then record {
+      place = plus w.place 1;
+      start = plus w.place 1;
+      opens = not (b == 60);
+      brackets = w.brackets;
+      around = w.brackets;
+      linked = w.linked;
+    }
+    else record {
+      place = plus w.place 1;
+      start = w.start;
+      opens = w.opens;
+      brackets = bracketed w.brackets b;
+      around = w.around;
+      linked = w.linked;
+    }
+
+-- where an address is, if there is one
+abbrev pub spot_from : ℕ → Option Address → Option Spot
+spot_from start None = None
+spot_from start (Some a) = Some (record { kind = a.kind; start = start; end = plus start a.length })
+
+-- where the address of a word is
+unfoldable pub spot_in : ℕ → List ℕ → Option Spot
+spot_in start word = let lead = lead_length word in spot_from (plus start lead) (address_of (drop lead word))
+
+-- where the address of the last word is; a word within an open bracket has none
+unfoldable pub spot_of : List ℕ → Words → Option Spot
+spot_of text w = if w.opens && (w.around == 0) then spot_in w.start (bytes_between text w.start w.place) else None
+
+-- ---- events
+
+-- an event with its range
+abbrev pub shown : ParserEvent × (ℕ × ℕ) → EventView × (ℕ × ℕ)
+shown e = (event_view text_of e.0, e.1)
+
+-- a part of a text; no part is cut within a character
+unfoldable pub part : List ℕ → ℕ → ℕ → List ℕ
+part text start end = utf8_lossy (bytes_between text start end)
+
+-- how the link of an address is spelled between angle brackets
+abbrev pub link_type : Kind → LinkType
+link_type Web = link.Autolink
+link_type Named = link.Autolink
+link_type Mail = link.Email
+
+-- "http://", which `www.` leaves out
+abbrev pub scheme : Kind → List ℕ
+scheme Named = 104 ∷ 116 ∷ 116 ∷ 112 ∷ 58 ∷ 47 ∷ 47 ∷ []
+scheme k = []
+
+-- the start of a link to an address
+abbrev pub link_tag : Kind → List ℕ → TagView
+link_tag kind address = Link (link_type kind) (scheme kind ++ address) [] []
+
+-- the range of a part of a text that is at a place
+abbrev pub range_at : ℕ → ℕ → ℕ → ℕ × ℕ
+range_at base start end = (plus base start, plus base end)
+
+-- a part of a text as an event, if there is one
+unfoldable pub text_events : List ℕ → ℕ → ℕ → ℕ → List (EventView × (ℕ × ℕ))
+text_events text base start end =
+    if nat_lt start end then (Leaf (Text (part text start end)), range_at base start end) ∷ [] else []
+
+-- an address as a link
+unfoldable pub link_events : List ℕ → ℕ → Spot → List (EventView × (ℕ × ℕ))
+link_events text base s =
+    let range = range_at base s.start s.end in
+    let address = part text s.start s.end in
+    (Start (link_tag s.kind address), range) ∷ (Leaf (Text address), range) ∷ (End end.Link, range) ∷ []
+
+-- the words of a line so far, and the events so far
+pub record ScanView : Type 0 where
+  pub words : Words
+  pub events : List (EventView × (ℕ × ℕ))
+
+abbrev pub scan_view : Scan → ScanView
+scan_view s = record { words = s.words; events = map shown s.events.items }
+
+-- the text up to an address, and its link
+abbrev pub with_link : List ℕ → ℕ → ScanView → Option Spot → ScanView
+with_link text base s None = s
+with_link text base s (Some spot) = record {
+  words = record s.words { linked = spot.end };
+  events = s.events ++ text_events text base s.words.linked spot.start ++ link_events text base spot;
+}
+
+-- a word has ended
+unfoldable pub word_ended : List ℕ → ℕ → ScanView → ScanView
+word_ended text base s = with_link text base s (spot_of text s.words)
+
+-- the words are one byte further
+abbrev pub with_words : ScanView → ℕ → ScanView
+with_words s b = record { words = words_step s.words b; events = s.events }
+
+-- one byte further
+unfoldable pub scan_step : List ℕ → ℕ → ScanView → ℕ → ScanView
+scan_step text base s b = with_words (if is_separator b then word_ended text base s else s) b
+
+-- what is left of a line is text; its last word is ended if nothing may follow that goes on in it
+unfoldable pub line_ended : List ℕ → ℕ → Bool → ScanView → ScanView
+line_ended text base ends s =
+    let e = if ends then word_ended text base s else s in
+    record { words = e.words; events = e.events ++ text_events text base e.words.linked (length text) }
+
+-- a line whose text is at a place
+unfoldable pub line_added : List ℕ → ℕ → Bool → Bool → ScanView → ScanView
+line_added text base opens ends s =
+    line_ended text base ends
+    (fold (scan_step text base) (record { words = words_start opens s.words.brackets; events = s.events }) text)

@@ -1,0 +1,215 @@
+-- Events in which bare addresses are links, as they are between angle brackets.
+use Rattle.std.specs.Prelude.{ℕ, Bool, true, false, ◌-◌, ◌==◌, ◌&&◌, ◌||◌, if◌then◌else◌, List, [], ◌∷◌, ◌++◌, length, string_bytes}
+use Rattle.std.specs.List.{fold}
+use Rattle.tocmark_event.specs.Reading.{ReadingView}
+use Rattle.tocmark_event.specs.View.{EventView, Start, End, Leaf, Text, SoftBreak, HardBreak, Rule, TaskListMarker, TagView, Emphasis, Strong, Strikethrough, Superscript, Subscript, Link, Image, CodeBlock, HtmlBlock, MetadataBlock}
+use Rattle.tocmark_event.specs.declared.event.TagEnd.{TagEnd}
+use Rattle.tocmark_event.specs.declared.event.TagEnd.TheVariants as end
+use Rattle.tocmark_read_scan.specs.Basic.{plus, byte_at, starts_at}
+use Rattle.tocmark_bare_links.specs.Lines.{ScanView, is_separator, line_added, scan_view, words_start}
+use Rattle.tocmark_bare_links.specs.declared.border.Border.{Border}
+use Rattle.tocmark_bare_links.specs.declared.border.Border.TheVariants as border
+use Rattle.tocmark_bare_links.specs.declared.linker.Linker.{Linker}
+
+-- ---- what is between texts
+
+-- emphasis, links and the like, which are within lines
+abbrev pub is_inline : TagView → Bool
+is_inline Emphasis = true
+is_inline Strong = true
+is_inline Strikethrough = true
+is_inline Superscript = true
+is_inline Subscript = true
+is_inline (Link k d t i) = true
+is_inline (Image k d t i) = true
+is_inline t = false
+
+abbrev pub is_inline_end : TagEnd → Bool
+is_inline_end end.Emphasis = true
+is_inline_end end.Strong = true
+is_inline_end end.Strikethrough = true
+is_inline_end end.Superscript = true
+is_inline_end end.Subscript = true
+is_inline_end end.Link = true
+is_inline_end end.Image = true
+is_inline_end k = false
+
+-- links, and what has no links in its text
+abbrev pub is_closed : TagView → Bool
+is_closed (Link k d t i) = true
+is_closed (Image k d t i) = true
+is_closed (CodeBlock k) = true
+is_closed HtmlBlock = true
+is_closed (MetadataBlock k) = true
+is_closed t = false
+
+abbrev pub is_closed_end : TagEnd → Bool
+is_closed_end end.Link = true
+is_closed_end end.Image = true
+is_closed_end end.CodeBlock = true
+is_closed_end end.HtmlBlock = true
+is_closed_end (end.MetadataBlock k) = true
+is_closed_end k = false
+
+abbrev pub block_unless : Bool → Border
+block_unless is_inline = if is_inline then border.Inline else border.Block
+
+-- what an event is between texts
+abbrev pub border_of : EventView → Border
+border_of (Start t) = block_unless (is_inline t)
+border_of (End k) = block_unless (is_inline_end k)
+border_of (Leaf SoftBreak) = border.Line
+border_of (Leaf HardBreak) = border.Line
+border_of (Leaf (TaskListMarker b)) = border.Line
+border_of (Leaf Rule) = border.Block
+border_of (Leaf l) = border.Inline
+
+-- how many containers without links are open after an event
+abbrev pub closed_after : ℕ → EventView → ℕ
+closed_after n (Start t) = if is_closed t then plus n 1 else n
+closed_after n (End k) = if is_closed_end k then n - 1 else n
+closed_after n (Leaf l) = n
+
+-- the end of a cell
+abbrev pub is_cell_end : EventView → Bool
+is_cell_end (End end.TableCell) = true
+is_cell_end e = false
+
+-- a line begins after such an event
+abbrev pub begins_line : Border → Bool
+begins_line border.Inline = false
+begins_line border.Line = true
+begins_line border.Block = true
+
+-- brackets are open until their block ends
+abbrev pub brackets_after : Border → ℕ → ℕ
+brackets_after border.Inline n = n
+brackets_after border.Line n = n
+brackets_after border.Block n = 0
+
+-- ---- a stretch of texts
+
+-- the events so far, the stretch of texts that is begun with its range, how many containers without links are open, and
+-- whether the stretch begins a line
+pub record LinkingView : Type 0 where
+  pub scan : ScanView
+  pub stretch : List ℕ
+  pub begun : Bool
+  pub range : ℕ × ℕ
+  pub closed : ℕ
+  pub edge : Bool
+
+abbrev pub linking_view : Linker → LinkingView
+linking_view l = record {
+  scan = scan_view l.scan;
+  stretch = string_bytes l.stretch;
+  begun = l.begun;
+  range = l.range;
+  closed = l.closed;
+  edge = l.edge;
+}
+
+-- before the first event
+abbrev pub linking_start : LinkingView
+linking_start = record {
+  scan = record { words = words_start false 0; events = [] };
+  stretch = [];
+  begun = false;
+  range = (0, 0);
+  closed = 0;
+  edge = true;
+}
+
+-- the stretch has one text more
+abbrev pub with_text : LinkingView → List ℕ → ℕ × ℕ → LinkingView
+with_text l text range = record {
+  scan = l.scan;
+  stretch = l.stretch ++ text;
+  begun = true;
+  range = if l.begun then (l.range.0, range.1) else range;
+  closed = l.closed;
+  edge = l.edge;
+}
+
+-- a text is its source byte for byte, without escapes and references
+unfoldable pub is_plain : List ℕ → List ℕ → ℕ × ℕ → Bool
+is_plain source text range = starts_at source range.0 text && (range.1 == plus range.0 (length text))
+
+-- one of * _ ~, after which an address may begin
+unfoldable pub is_delimiter : ℕ → Bool
+is_delimiter b = (b == 42) || (b == 95) || (b == 126)
+
+-- an address may begin where the stretch does
+unfoldable pub may_open : List ℕ → ℕ → Bool → Bool
+may_open source place edge = edge || is_delimiter (byte_at source (place - 1))
+
+-- no address goes on where the stretch ends
+unfoldable pub may_end : List ℕ → ℕ → Bool → Bool
+may_end source place is_cell = is_separator (byte_at source place) || (is_cell && (byte_at source place == 124))
+
+-- one more, if a byte is `[`
+unfoldable pub opened : ℕ → ℕ → ℕ
+opened n b = if b == 91 then plus n 1 else n
+
+-- a text that isn't plain stays; its brackets may be open
+unfoldable pub other_added : List ℕ → ℕ × ℕ → ScanView → ScanView
+other_added text range s = record {
+  words = record s.words { brackets = fold opened s.words.brackets text };
+  events = s.events ++ (Leaf (Text text), range) ∷ [];
+}
+
+-- the stretch is added, with links if it is plain
+unfoldable pub stretch_added : List ℕ → Bool → LinkingView → ScanView
+stretch_added source is_cell l =
+    if is_plain source l.stretch l.range then
+    line_added l.stretch l.range.0 (may_open source l.range.0 l.edge) (may_end source l.range.1 is_cell) l.scan
+    else other_added l.stretch l.range l.scan
+
+-- the stretch is ended, if one is begun
+unfoldable pub stretch_ended : List ℕ → Bool → LinkingView → LinkingView
+stretch_ended source is_cell l =
+    if l.begun then record {
+      scan = stretch_added source is_cell l;
+      stretch = [];
+      begun = false;
+      range = l.range;
+      closed = l.closed;
+      edge = l.edge;
+    }
+    else l
+
+-- ---- all events
+
+-- an event that is no text of a stretch
+abbrev pub with_event : LinkingView → EventView → ℕ × ℕ → LinkingView
+with_event l event range = record {
+  scan = record {
+    words = record l.scan.words { brackets = brackets_after (border_of event) l.scan.words.brackets };
+    events = l.scan.events ++ (event, range) ∷ [];
+  };
+  stretch = l.stretch;
+  begun = l.begun;
+  range = l.range;
+  closed = closed_after l.closed event;
+  edge = begins_line (border_of event);
+}
+
+-- it ends the stretch
+unfoldable pub passed : List ℕ → LinkingView → EventView → ℕ × ℕ → LinkingView
+passed source l event range = with_event (stretch_ended source (is_cell_end event) l) event range
+
+-- one event more
+abbrev pub added : List ℕ → LinkingView → EventView → ℕ × ℕ → LinkingView
+added source l (Leaf (Text t)) range = if l.closed == 0 then with_text l t range else passed source l (Leaf (Text t)) range
+added source l event range = passed source l event range
+
+abbrev pub link_step : List ℕ → LinkingView → EventView × (ℕ × ℕ) → LinkingView
+link_step source l e = added source l e.0 e.1
+
+-- events of a source with bare addresses as links
+unfoldable pub linked : List ℕ → List (EventView × (ℕ × ℕ)) → List (EventView × (ℕ × ℕ))
+linked source events = (stretch_ended source false (fold (link_step source) linking_start events)).scan.events
+
+-- what is found in a source, with bare addresses as links
+abbrev pub linked_reading : List ℕ → ReadingView → ReadingView
+linked_reading source r = record { events = linked source r.events; defined = r.defined; unresolved = r.unresolved }

@@ -1,0 +1,111 @@
+//! The address at the front of a word.
+
+ghost use Rattle.std.specs.Prelude.{◌≡◌};
+ghost use Rattle.tocmark_bare_links.specs.Addresses.{address_of, is_local, is_mail_host, local_length, mail_length, of_kind, web_length};
+
+use crate::host::{is_host, may_follow};
+use crate::trail::kept_length;
+use tocmark_read_scan::basic::{byte_at, bytes_between, starts_at};
+use tocmark_read_scan::class::{Class, run_end};
+
+/// What an address begins with.
+#[derive(Clone, Copy)]
+pub enum Kind {
+    /// `http://` or `https://`
+    Web,
+    /// `www.`
+    Named,
+    /// The name of a mail address.
+    Mail,
+}
+
+/// An address at the front of a word.
+#[derive(Clone, Copy)]
+pub struct Address {
+    pub kind: Kind,
+    /// How many bytes it has.
+    pub length: usize,
+}
+
+/// The length of the address that a word begins with, whose host is at a place.
+#[tactic(auto, unfolding(crate::specs::Addresses::web_length))]
+fn web_length(word: &[u8], place: usize) -> Option<usize>
+    ensures { result ≡ web_length word.now place }
+{
+    let end = kept_length(word);
+    let last = run_end(word, place, Class::Domain);
+    let follows = may_follow(byte_at(word, last));
+    if follows && is_host(bytes_between(word, place, last.min(end))) {
+        Some(end)
+    } else {
+        None
+    }
+}
+
+/// Whether a byte is one of a mail address before its `@`.
+#[tactic(auto, unfolding(crate::specs::Addresses::is_local))]
+fn is_local(byte: u8) -> bool
+    ensures { result ≡ is_local byte }
+{
+    byte.is_ascii_alphanumeric() || byte == b'.' || byte == b'-' || byte == b'_' || byte == b'+'
+}
+
+/// How many of them a word begins with.
+#[tactic(auto, unfolding(crate::specs::Addresses::local_length))]
+fn local_length(word: &[u8]) -> usize
+    ensures { result ≡ local_length word.now }
+{
+    word.iter().take_while(|byte| is_local(**byte)).count()
+}
+
+/// Whether a host of a mail address is from a place to an end, and no more of the address follows.
+#[tactic(auto, unfolding(crate::specs::Addresses::is_mail_host))]
+fn is_mail_host(word: &[u8], place: usize, end: usize) -> bool
+    ensures { result ≡ is_mail_host word.now place end }
+{
+    let last = run_end(word, place, Class::Domain);
+    let ends = may_follow(byte_at(word, last)) && end <= last;
+    let is_host = ends && is_host(bytes_between(word, place, end));
+    is_host && byte_at(word, end.saturating_sub(1)).is_ascii_alphabetic()
+}
+
+/// The length of the mail address that a word begins with.
+#[tactic(auto, unfolding(crate::specs::Addresses::mail_length))]
+fn mail_length(word: &[u8]) -> Option<usize>
+    ensures { result ≡ mail_length word.now }
+{
+    let local = local_length(word);
+    let end = kept_length(word);
+    let is_named = local != 0 && byte_at(word, local) == b'@';
+    if is_named && is_mail_host(word, local.saturating_add(1), end) {
+        Some(end)
+    } else {
+        None
+    }
+}
+
+/// An address of a kind, if there is one.
+fn of_kind(kind: Kind, length: Option<usize>) -> Option<Address>
+    ensures { result ≡ of_kind kind length }
+{
+    match length {
+        Some(length) => Some(Address { kind, length }),
+        None => None,
+    }
+}
+
+/// The address that a word begins with.
+#[tactic(auto, unfolding(crate::specs::Addresses::address_of))]
+pub(crate) fn address_of(word: &[u8]) -> Option<Address>
+    ensures { result ≡ address_of word.now }
+{
+    if starts_at(word, 0, b"https://") {
+        of_kind(Kind::Web, web_length(word, 8))
+    } else if starts_at(word, 0, b"http://") {
+        of_kind(Kind::Web, web_length(word, 7))
+    } else if starts_at(word, 0, b"www.") {
+        of_kind(Kind::Named, web_length(word, 4))
+    } else {
+        of_kind(Kind::Mail, mail_length(word))
+    }
+}

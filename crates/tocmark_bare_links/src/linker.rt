@@ -1,0 +1,229 @@
+//! Events with the addresses of their texts as links.
+
+ghost use Rattle.std.specs.Prelude.{◌≡◌, if◌then◌else◌, IfOk, OnOk, map};
+ghost use Rattle.std.specs.List.{fold};
+ghost use Rattle.tocmark_event.specs.Text.{text_of};
+ghost use Rattle.tocmark_event.specs.View.{event_view};
+ghost use Rattle.tocmark_bare_links.specs.Linked.{added, is_delimiter, is_plain, linked, linking_view, may_end, may_open, opened, other_added, passed, stretch_added, stretch_ended, with_event, with_text};
+ghost use Rattle.tocmark_bare_links.specs.Lines.{scan_view, shown};
+
+use crate::border::{border_of, closed_after, is_cell_end};
+use crate::scan::{Placed, Scan};
+use crate::words::{Words, is_separator};
+use std::alloc::{AllocError, Global};
+use tocmark_event::event::{CowStr, Event};
+use tocmark_read_scan::basic::{byte_at, starts_at};
+
+/// The events so far, and the stretch of texts that is begun.
+#[derive(Drop)]
+pub struct Linker {
+    pub scan: Scan,
+    pub stretch: String,
+    pub begun: bool,
+    /// The bytes of the stretch in the source.
+    pub range: (usize, usize),
+    /// How many containers without links of their own are open.
+    pub closed: usize,
+    /// Whether the stretch begins a line.
+    pub edge: bool,
+}
+
+/// The bytes of a stretch with one text more.
+fn wider(begun: bool, range: (usize, usize), text: (usize, usize)) -> (usize, usize)
+    ensures { result ≡ (if begun then (range.0, text.1) else text) }
+{
+    if begun { (range.0, text.1) } else { text }
+}
+
+/// Whether a text is its source byte for byte.
+#[tactic(auto, unfolding(crate::specs::Linked::is_plain))]
+fn is_plain(source: &[u8], text: &[u8], range: (usize, usize)) -> bool
+    ensures { result ≡ is_plain source.now text.now range }
+{
+    starts_at(source, range.0, text) && range.1 == range.0.saturating_add(text.len())
+}
+
+/// Whether an address may begin after a byte that begins or ends emphasis.
+#[tactic(auto, unfolding(crate::specs::Linked::is_delimiter))]
+fn is_delimiter(byte: u8) -> bool
+    ensures { result ≡ is_delimiter byte }
+{
+    byte == b'*' || byte == b'_' || byte == b'~'
+}
+
+/// Whether an address may begin where a stretch does.
+#[tactic(auto, unfolding(crate::specs::Linked::may_open))]
+fn may_open(source: &[u8], place: usize, edge: bool) -> bool
+    ensures { result ≡ may_open source.now place edge }
+{
+    edge || is_delimiter(byte_at(source, place.saturating_sub(1)))
+}
+
+/// Whether no address goes on where a stretch ends.
+#[tactic(auto, unfolding(crate::specs::Linked::may_end))]
+fn may_end(source: &[u8], place: usize, is_cell: bool) -> bool
+    ensures { result ≡ may_end source.now place is_cell }
+{
+    let byte = byte_at(source, place);
+    is_separator(byte) || (is_cell && byte == b'|')
+}
+
+/// One more, if a byte is an opening bracket.
+#[tactic(auto, unfolding(crate::specs::Linked::opened))]
+fn opened(count: usize, byte: u8) -> usize
+    ensures { result ≡ opened count byte }
+{
+    if byte == b'[' {
+        count.saturating_add(1)
+    } else {
+        count
+    }
+}
+
+/// So many, and the opening brackets of a text.
+fn opened_in(count: usize, text: &[u8]) -> usize
+    ensures { result ≡ fold opened count text.now }
+{
+    let mut all = count;
+    for byte in text {
+        all = opened(all, *byte);
+    }
+    all
+}
+
+/// Adds a text as it is.
+#[tactic(auto, unfolding(crate::specs::Linked::other_added))]
+fn add_other(
+    alloc: Global,
+    scan: &mut Scan,
+    text: &str,
+    range: (usize, usize),
+) -> Result<(), AllocError>
+    ensures { OnOk result (scan_view scan.new
+        ≡ other_added text.now range (scan_view scan.old)) }
+{
+    let copy = CowStr::Owned(String::from_str(alloc, text)?);
+    scan.events.push((Event::Text(copy), range))?;
+    scan.words.brackets = opened_in(scan.words.brackets, text.as_bytes());
+    Ok(())
+}
+
+impl Linker {
+    /// Adds a text to the stretch.
+    fn add_text(&mut self, text: &str, range: (usize, usize)) -> Result<(), AllocError>
+        ensures { OnOk result (linking_view self.new
+            ≡ with_text (linking_view self.old) text.now range) }
+    {
+        self.range = wider(self.begun, self.range, range);
+        self.begun = true;
+        self.stretch.push_str(text)?;
+        Ok(())
+    }
+
+    /// Adds the stretch.
+    #[tactic(auto, unfolding(crate::specs::Linked::stretch_added))]
+    fn add_stretch(&mut self, alloc: Global, source: &[u8], is_cell: bool) -> Result<(), AllocError>
+        ensures scan { OnOk result (scan_view self.new.scan
+            ≡ stretch_added source.now is_cell (linking_view self.old)) }
+        ensures stretch { self.new.stretch ≡ self.old.stretch }
+        ensures begun { self.new.begun ≡ self.old.begun }
+        ensures range { self.new.range ≡ self.old.range }
+        ensures closed { self.new.closed ≡ self.old.closed }
+        ensures edge { self.new.edge ≡ self.old.edge }
+    {
+        let (text, (start, end)) = (self.stretch.as_str(), self.range);
+        if is_plain(source, text.as_bytes(), self.range) {
+            let opens = may_open(source, start, self.edge);
+            let ends = may_end(source, end, is_cell);
+            self.scan
+                .add_line(alloc, text.as_bytes(), start, opens, ends)
+        } else {
+            add_other(alloc, &mut self.scan, text, self.range)
+        }
+    }
+
+    /// Ends the stretch, if one is begun.
+    #[tactic(auto, unfolding(crate::specs::Linked::stretch_ended))]
+    fn end_stretch(&mut self, alloc: Global, source: &[u8], is_cell: bool) -> Result<(), AllocError>
+        ensures { OnOk result (linking_view self.new
+            ≡ stretch_ended source.now is_cell (linking_view self.old)) }
+    {
+        if self.begun {
+            self.add_stretch(alloc, source, is_cell)?;
+            self.stretch.clear();
+            self.begun = false;
+        }
+        Ok(())
+    }
+
+    /// Adds an event that isn't of a stretch.
+    fn push(&mut self, alloc: Global, pair: &Placed) -> Result<(), AllocError>
+        ensures { OnOk result (linking_view self.new
+            ≡ with_event (linking_view self.old) (event_view text_of pair.now.0) pair.now.1) }
+    {
+        let border = border_of(&pair.0);
+        self.scan.events.push((pair.0.to_static(alloc)?, pair.1))?;
+        self.scan.words.brackets = border.brackets_after(self.scan.words.brackets);
+        self.closed = closed_after(self.closed, &pair.0);
+        self.edge = border.begins_line();
+        Ok(())
+    }
+
+    /// Ends the stretch, and adds an event.
+    #[tactic(auto, unfolding(crate::specs::Linked::passed))]
+    fn pass(&mut self, alloc: Global, source: &[u8], pair: &Placed) -> Result<(), AllocError>
+        ensures { OnOk result (linking_view self.new
+            ≡ passed source.now (linking_view self.old) (event_view text_of pair.now.0) pair.now.1) }
+    {
+        self.end_stretch(alloc, source, is_cell_end(&pair.0))?;
+        self.push(alloc, pair)
+    }
+
+    /// Adds an event.
+    fn add(&mut self, alloc: Global, source: &[u8], pair: &Placed) -> Result<(), AllocError>
+        ensures { OnOk result (linking_view self.new
+            ≡ added source.now (linking_view self.old) (event_view text_of pair.now.0) pair.now.1) }
+    {
+        match &pair.0 {
+            Event::Text(text) => {
+                if self.closed == 0 {
+                    self.add_text(text.as_ref(), pair.1)
+                } else {
+                    self.pass(alloc, source, pair)
+                }
+            }
+            _ => self.pass(alloc, source, pair),
+        }
+    }
+}
+
+/// Copies of events of a source, with bare addresses as links.
+///
+/// It fails if memory runs out.
+#[tactic(auto, unfolding(crate::specs::Linked::linked))]
+pub(crate) fn linked(
+    alloc: Global,
+    source: &str,
+    events: &[Placed],
+) -> Result<Vec<Placed>, AllocError>
+    ensures { IfOk result (λ all. map shown all.items ≡ linked source.now (map shown events.now)) }
+{
+    let mut linker = Linker {
+        scan: Scan {
+            words: Words::new(false, 0),
+            events: Vec::new(alloc),
+        },
+        stretch: String::new(alloc),
+        begun: false,
+        range: (0, 0),
+        closed: 0,
+        edge: true,
+    };
+    for pair in events {
+        linker.add(alloc, source.as_bytes(), pair)?;
+    }
+    linker.end_stretch(alloc, source.as_bytes(), false)?;
+    let Linker { scan, .. } = linker;
+    let Scan { events, .. } = scan;
+    Ok(events)
+}
