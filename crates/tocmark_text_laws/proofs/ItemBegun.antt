@@ -33,7 +33,7 @@ use Rattle.tocmark_text_laws.proofs.ItemLeaves.{place_in}
 abbrev pub PlaceOn : ℕ → List Cell → LineStart → LineStart → Type 0
 PlaceOn shift r there here = (there ≡ place_in shift here) × InLine r here.cursor
 
-in_list_two : (item : ItemStart) (t q : List ℕ) (n sort : ℕ) (there here : State) → Inside item t q n there here → is_in_list sort there ≡ is_in_list sort here
+pub in_list_two : (item : ItemStart) (t q : List ℕ) (n sort : ℕ) (there here : State) → Inside item t q n there here → is_in_list sort there ≡ is_in_list sort here
 unfolding is_in_list
 in_list_two item t q n sort there here h = by (innermost there.opened) (innermost here.opened) (afters_last_got (IsOuterList item) (IsOuterItem item) OpenedIn there.opened here.opened h.opened.after)
   where

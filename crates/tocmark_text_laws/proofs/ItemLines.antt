@@ -219,7 +219,7 @@ ink_line [] h = absurd cc
 ink_line (b ∷ bs) h = begins_line (b == 32) b bs h
 
 -- the first line goes on with a byte that isn't one of a line ending
-line_goes : (b : ℕ) (bs : List ℕ) → is_end b ≡ false → first_line (b ∷ bs) ≡ b ∷ first_line bs
+pub line_goes : (b : ℕ) (bs : List ℕ) → is_end b ≡ false → first_line (b ∷ bs) ≡ b ∷ first_line bs
 line_goes b bs e = take_while-cons (λ b. not (is_end b)) b bs ∙ ap (λ k. cond (not k) (b ∷ first_line bs) []) e
 
 -- the spaces at the front of the first line, and ink after them

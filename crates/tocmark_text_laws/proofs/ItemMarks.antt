@@ -384,7 +384,7 @@ cursor_before : (w : List Cell) (before : ℕ) → run_of w 0 32 ≡ before + 0 
 unfolding first_cursor
 cursor_before w before e low = ap front_at (let z : plus 0 (run_of w 0 32) ≡ before = omega (arith, e, low) in z)
 
-some_ink : (r : List Cell) (k : ℕ) → run_of r 0 32 ≡ k → k < length r → length r < 2 ^ 64 - 1 → nat_le (length r) (first_cursor r).ink ≡ false
+pub some_ink : (r : List Cell) (k : ℕ) → run_of r 0 32 ≡ k → k < length r → length r < 2 ^ 64 - 1 → nat_le (length r) (first_cursor r).ink ≡ false
 unfolding first_cursor
 some_ink r k e h low = let z : plus 0 (run_of r 0 32) < length r = omega (arith, e, h, low) in by (plus 0 (run_of r 0 32)) z
   where

@@ -318,7 +318,7 @@ list_inner item n there here some h = by (innermost there) (innermost here) refl
     by None (Some y) e g u = absurd u
     by (Some x) (Some y) e g u = ap (λ c. list_at c x there) u.container ∙ sorts y.container x y e refl u.block
 
-list_outer : (item : ItemStart) (n : ℕ) (there : List Opened) → Opens item n there [] → list_of there ≡ Some 0
+pub list_outer : (item : ItemStart) (n : ℕ) (there : List Opened) → Opens item n there [] → list_of there ≡ Some 0
 unfolding list_of
 list_outer item n [] h = absurd h.after
 list_outer item n (x ∷ []) h = absurd (h.after.1)

@@ -58,7 +58,7 @@ pub record Fits (m : ItemMark) (t : List ℕ) : Type 0 where
   pub break : is_break (marker_bytes m ++ first_line t) ≡ false
 
 -- the spaces at the front of the first line
-gaps : (m : ItemMark) (t : List ℕ) → BeginsItem m t → Gaps m.after (spaces_of (first_line t)) × (spaces_of (first_line t) < length (first_line t))
+pub gaps : (m : ItemMark) (t : List ℕ) → BeginsItem m t → Gaps m.after (spaces_of (first_line t)) × (spaces_of (first_line t) < length (first_line t))
 gaps m t (inl h) = (inl (ink_front t h).0, omega (arith, (ink_front t h).0, (ink_front t h).1))
 gaps m t (inr (e, h)) = (inr (e, (code_front 4 t h).0), (code_front 4 t h).1)
 

@@ -28,7 +28,7 @@ use Rattle.tocmark_text_laws.specs.Lines.{IsInner, IsLine}
 use Rattle.tocmark_text_laws.proofs.Pairs.{afters_length}
 use Rattle.tocmark_text_laws.proofs.QuotedCells.{le_suc, cursor_on, length_on}
 use Rattle.tocmark_text_laws.proofs.QuotedContainers.{InLine, column_in}
-use Rattle.tocmark_text_laws.proofs.QuotedPieces.{Beside, between_first, beside}
+use Rattle.tocmark_text_laws.proofs.QuotedPieces.{LineOn, Beside, between_first, beside}
 use Rattle.tocmark_text_laws.proofs.QuotedLeaves.{leaf_on, FineLeaf, LeafOn, leaf_at_two, rule_at_two, turn_on, FineTurn, TurnOn, leaf_turn_two}
 use Rattle.tocmark_text_laws.proofs.QuotedLines.{FrontTest, Row}
 use Rattle.tocmark_text_laws.proofs.QuotedPages.{quote_count}
@@ -124,7 +124,7 @@ turned_two item t q n l' l shift w r p (turn.Takes column) there here h i e g = 
 turned_two item t q n l' l shift w r p turn.Passes there here h i e g = leaf_started_two item t q n l' l shift w r p there here h i g
 turned_two item t q n l' l shift w r p (turn.Row x) there here h i e g = absurd e
 
-turn_of_two : (item : ItemStart) (t q : List ℕ) (n : ℕ) (l' l : Line) (shift : ℕ) (w r : List Cell) (p : LineStart) (there here : State) → Beside t q l' l shift w r → InLine r p.cursor → Inside item t q n there here
+pub turn_of_two : (item : ItemStart) (t q : List ℕ) (n : ℕ) (l' l : Line) (shift : ℕ) (w r : List Cell) (p : LineStart) (there here : State) → Beside t q l' l shift w r → InLine r p.cursor → Inside item t q n there here
     → TurnOn shift r here.leaf (turn_of q w l' (place_in shift p) there) (turn_of t r l p here)
 unfolding turn_of
 turn_of_two item t q n l' l shift w r p there here h i g = rw (afters_length (IsOuterList item) (IsOuterItem item) OpenedIn there.opened here.opened g.opened.after, less, g.leaf) (by (nat_le (length here.opened) p.depth))
@@ -168,7 +168,7 @@ touched_inside item t q n l' l depth there here number h = record {
         (touched_in item n depth l'.end l.end l.number here.quotes there.opened here.opened h.opened))
 
 -- no container is open without a quote among the open ones
-no_quotes : (item : ItemStart) (t q : List ℕ) (n : ℕ) (there here : State) → Inside item t q n there here → length here.opened ≡ 0 → length here.quotes ≡ 0
+pub no_quotes : (item : ItemStart) (t q : List ℕ) (n : ℕ) (there here : State) → Inside item t q n there here → length here.opened ≡ 0 → length here.quotes ≡ 0
 no_quotes item t q n there here g e = sym g.counted ∙ by here.opened e
   where
     by : (os : List Opened) → length os ≡ 0 → quote_count os ≡ 0
@@ -206,6 +206,12 @@ empty_line t l long one e = sym long ∙ by (bytes_between t l.start l.end) one.
     by [] a (inr g) = refl
     by (b ∷ bs) a (inr g) = absurd (no b (a.0) (ap is_end g ∙ e))
 
+-- so many columns of spaces are in front of a line after the first one
+pub indents_in : (first t q : List ℕ) (width before : ℕ) (l' l : Line) (shift : ℕ) (w r : List Cell) (h : LineOn t q l' l) → Beside t q l' l shift w r → 0 < before → IsLine t l → IsInItem first width before h.front (byte_at t l.start) → Indents width r h.front
+indents_in first t q width before l' l shift w r h both late one (inl (e, f)) = absurd (omega (arith, e, late))
+indents_in first t q width before l' l shift w r h both late one (inr (e, inl f)) = inl f
+indents_in first t q width before l' l shift w r h both late one (inr (e, inr (f, g))) = inr (f, omega (arith, both.wide, h.order, empty_line t l h.long one g))
+
 pub line_in : (item : ItemStart) (first : List ℕ) (t q : List ℕ) (n before m : ℕ) (l' l : Line) (there here : State) → Row (IsInItem first item.width) t q before m l' l → 0 < before → IsLine t l → 0 < item.width → n + 9 < 2 ^ 64 → Inside item t q n there here
     → Inside item t q (n + 2 * (l.end - l.start)) (line_taken_in core_known q there l') (line_taken_in core_known t here l)
 unfolding line_taken_in
@@ -220,12 +226,7 @@ line_in item first t q n before m l' l there here h late one some few g = by (be
     shift : ℕ
     shift = length h.line.front
 
-    indents : (both : Beside t q l' l shift w r) → IsInItem first item.width before h.line.front (byte_at t l.start) → Indents item.width r h.line.front
-    indents both (inl (e, f)) = absurd (omega (arith, e, late))
-    indents both (inr (e, inl f)) = inl f
-    indents both (inr (e, inr (f, g))) = inr (f, omega (arith, both.wide, h.line.order, empty_line t l h.line.long one g))
-
     by : (both : Beside t q l' l shift w r) × (both.fronted.front ≡ h.line.front) → Inside item t q (n + 2 * (l.end - l.start)) (cells_taken_in core_known q w l' there) (cells_taken_in core_known t r l here)
     by (both, same) =
         inside_more item t q (n + 2 * length r) (n + 2 * (l.end - l.start)) _ _ (omega (arith, both.wide))
-        (cells_two item t q n l' l shift w r there here both (subst (λ xs. Indents item.width r xs) (sym same) (indents both h.kind)) some few g)
+        (cells_two item t q n l' l shift w r there here both (subst (λ xs. Indents item.width r xs) (sym same) (indents_in first t q item.width before l' l shift w r h.line both late one h.kind)) some few g)

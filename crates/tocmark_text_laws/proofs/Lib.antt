@@ -95,4 +95,10 @@ pub mod Tight
 pub mod TightWalk
 pub mod TightItem
 pub mod TightIdle
+pub mod Lasting
+pub mod Apart
+pub mod LooseItem
+pub mod LooseRun
+pub mod Outers
+pub mod OneBlock
 pub mod LooseRows

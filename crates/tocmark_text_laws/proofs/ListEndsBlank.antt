@@ -1,5 +1,5 @@
 -- An empty line after a text that ends with a list leaves the list open, and no leaf.
-use Rattle.std.proofs.Common.{◌≡◌, ◌⊎◌, inl, inr, ℕ, suc, ◌+◌, ◌-◌, ◌<◌, ◌≤◌, Bool, true, false, ◌||◌, cond, if◌then◌else◌, nat_le, List, [], ◌∷◌, length, refl, ap, sym, subst, ◌∙◌, arith}
+use Rattle.std.proofs.Common.{◌≡◌, ◌⊎◌, inl, inr, ℕ, suc, ◌+◌, ◌-◌, ◌<◌, ◌≤◌, Bool, true, false, ◌||◌, cond, if◌then◌else◌, nat_le, List, [], ◌∷◌, length, map, refl, ap, sym, subst, ◌∙◌, arith}
 use Rattle.std.specs.Prelude.{slice_get, Some, unwrap_or}
 use Rattle.std.specs.List.{find}
 use Rattle.std.specs.Option.{option_map_or}
@@ -78,6 +78,9 @@ turn_passes q l c d s (inr e) = by (nat_le (length s.opened) d)
 pub record Blanked (q : List ℕ) (l : Line) (s : State) : Type 0 where
   pub depth : ℕ
   pub deep : 1 ≤ depth
+  pub found : matched [] s.opened s.quotes ≡ (depth, first_cursor [])
+  pub free : (end line : ℕ) (os : List Opened) → touched_from (suc (suc depth)) end line (map (λ i. suc (suc i)) s.quotes) os ≡ os
+  pub turns : turn_of q [] l (record { cursor = first_cursor []; depth = depth }) s ≡ turn.Passes
   pub same : cells_taken_in core_known q [] l s ≡ closed_to q depth s
 
 pub blank_listed : (q : List ℕ) (l : Line) (mark : ℕ) (s : State) → Lists mark s → s.quotes ≡ quotes_of 0 (containers s.opened) → (has_quote s.opened ≡ false → ends_before_blank s.leaf ≡ true) → Blanked q l s
@@ -89,10 +92,14 @@ blank_listed q l mark s h known ends = by s.quotes refl
     long : length s.opened ≡ suc (length h.inner)
     long = sym (length-map s.opened (λ (o : Opened). o.container)) ∙ ap length h.first
 
-    whole : (d : ℕ) → 1 ≤ d → matched [] s.opened s.quotes ≡ (d, c) → touched_from d l.end l.number s.quotes s.opened ≡ s.opened → ((nat_le (length s.opened) d ≡ false) ⊎ (ends_before_blank s.leaf ≡ true)) → Blanked q l s
-    whole d low found same turns = record {
+    whole : (d : ℕ) → 1 ≤ d → matched [] s.opened s.quotes ≡ (d, c) → touched_from d l.end l.number s.quotes s.opened ≡ s.opened
+        → ((end line : ℕ) (os : List Opened) → touched_from (suc (suc d)) end line (map (λ i. suc (suc i)) s.quotes) os ≡ os) → ((nat_le (length s.opened) d ≡ false) ⊎ (ends_before_blank s.leaf ≡ true)) → Blanked q l s
+    whole d low found same free turns = record {
       depth = d;
       deep = low;
+      found = found;
+      free = free;
+      turns = turn_passes q l c d s turns;
       same = cells_passed q [] l s d c found same (turn_passes q l c d s turns) ∙ blank_started core_known q [] l (record { cursor = c; depth = d }) s (blank_here c);
     }
 
@@ -101,6 +108,7 @@ blank_listed q l mark s h known ends = by s.quotes refl
         whole (blank_depth s.opened) (deep mark h.inner s.opened h.first)
         (first_matched mark h.inner s.opened s.quotes h.first ∙ ap (λ (xs : List ℕ). (unwrap_or (find (λ x. nat_le 0 x) xs) (blank_depth s.opened), c)) e)
         (ap (λ (xs : List ℕ). touched_from (blank_depth s.opened) l.end l.number xs s.opened) e)
+        (λ end line os. ap (λ (xs : List ℕ). touched_from (suc (suc (blank_depth s.opened))) end line (map (λ i. suc (suc i)) xs) os) e)
         (inr (ends (no_quotes 0 s.opened (sym known ∙ e))))
     by (x ∷ xs) e =
         whole x low
@@ -109,6 +117,8 @@ blank_listed q l mark s h known ends = by s.quotes refl
         ∙ ap (λ b. (unwrap_or (cond b (Some x) (find (λ z. nat_le 0 z) xs)) (blank_depth s.opened), c)) (let z : nat_le 0 x ≡ true = grind (arith, nat_tests) in z))
         (ap (λ (zs : List ℕ). touched_from x l.end l.number zs s.opened) e
         ∙ ap (λ b. if b then s.opened else touched_from x l.end l.number xs (raised_at s.opened x l.end l.number)) (let z : nat_le x x ≡ true = grind (arith, nat_tests) in z))
+        (λ end line os. ap (λ (zs : List ℕ). touched_from (suc (suc x)) end line (map (λ i. suc (suc i)) zs) os) e
+        ∙ ap (λ b. if b then os else touched_from (suc (suc x)) end line (map (λ i. suc (suc i)) xs) (raised_at os (suc (suc x)) end line)) (let z : nat_le (suc (suc x)) (suc (suc x)) ≡ true = grind (arith, nat_tests) in z))
         (inl (let z : x < length s.opened = omega (arith, high, long) in let k : nat_le (length s.opened) x ≡ false = grind (arith, z, nat_tests) in k))
       where
         range : (1 ≤ x) × (x < 1 + length h.inner)

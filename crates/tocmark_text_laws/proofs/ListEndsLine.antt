@@ -111,7 +111,7 @@ list_goes : (cs : List Cell) (c : Cursor) (o : Opened) (mark : ℕ) → nat_le (
 unfolding passed going_on
 list_goes cs c o mark e k = ap (λ b. if b then None else going_on_as o.container cs c o.had) e ∙ ap (λ x. going_on_as x cs c o.had) k
 
-listed_matched : (cs : List Cell) (mark : ℕ) (inner : List Container) (os : List Opened) (qs : List ℕ) → Margin cs → containers os ≡ container.List mark ∷ inner → Behind inner → matched cs os qs ≡ (1, first_cursor cs)
+pub listed_matched : (cs : List Cell) (mark : ℕ) (inner : List Container) (os : List Opened) (qs : List ℕ) → Margin cs → containers os ≡ container.List mark ∷ inner → Behind inner → matched cs os qs ≡ (1, first_cursor cs)
 listed_matched cs mark inner [] qs m e h = absurd cc
 listed_matched cs mark inner (o ∷ os) qs m e h =
     ap (λ (p : Option Cursor). option_map_or (λ next. matched_from cs (o ∷ os) qs (plus 0 1) next os) p (stopped cs (o ∷ os) qs 0 (first_cursor cs), first_cursor cs)) (list_goes cs (first_cursor cs) o mark m.some (let z : o.container ≡ container.List mark = cc in z))
@@ -345,7 +345,7 @@ begins_same q cs l c mark n s long ink m h e d f =
     rest : LineStart → State → State × LineStart
     rest = λ p u. repeated once n p u
 
-core_container : (cs : List Cell) (tail : Tail) (c : Cursor) (p : Bool) → container_in CORE cs tail c p ≡ container_at cs tail c p
+pub core_container : (cs : List Cell) (tail : Tail) (c : Cursor) (p : Bool) → container_in CORE cs tail c p ≡ container_at cs tail c p
 unfolding container_in definition_start note_start
 core_container cs tail c p = refl
 

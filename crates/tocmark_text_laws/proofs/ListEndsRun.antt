@@ -56,7 +56,7 @@ use Rattle.tocmark_text_laws.proofs.ListEndsFirst.{First, first_from, ascend_bac
 
 -- the open quotes stay known
 
-abbrev Known : State → Type 0
+abbrev pub Known : State → Type 0
 Known s = s.quotes ≡ quotes_of 0 (containers s.opened)
 
 got_some : (os : List Opened) (k : ℕ) (o : Opened) → slice_get os k ≡ Some o → k < length os
@@ -123,17 +123,17 @@ unfolding closed_to
 closed_known t d s h = times_known (length (leaf_closed t s).opened - d) (leaf_closed t s) (leaf_known t s h)
 
 -- a page after the lines of a text that leaves a list open
-record Holds (mark : ℕ) (s : State) : Type 0 where
-  lists : Lists mark s
-  behind : Behind lists.inner
-  known : Known s
+pub record Holds (mark : ℕ) (s : State) : Type 0 where
+  pub lists : Lists mark s
+  pub behind : Behind lists.inner
+  pub known : Known s
 
 behind_take : (n : ℕ) (cs : List Container) → Behind cs → Behind (take n cs)
 behind_take zero cs h = tt
 behind_take (suc n) [] h = tt
 behind_take (suc n) (c ∷ cs) h = h
 
-waits_after : (q : List ℕ) (mark d : ℕ) (s : State) → 1 ≤ d → Holds mark s → Waits mark (closed_to q d s)
+pub waits_after : (q : List ℕ) (mark d : ℕ) (s : State) → 1 ≤ d → Holds mark s → Waits mark (closed_to q d s)
 waits_after q mark zero s low h = absurd (omega (arith, low))
 waits_after q mark (suc d) s low h = record {
   lists = record { inner = take d h.lists.inner; first = closed_containers q (suc d) s ∙ ap (take (suc d)) h.lists.first };
@@ -191,7 +191,7 @@ left_open : (k : Bool) (e : Bool) → (k || e) ≡ true → k ≡ false → e �
 left_open true e h f = absurd cc
 left_open false e h f = h
 
-holds_after : (t v : List ℕ) (mark n : ℕ) → LeavesList t mark → Onward t (t ++ v) alone n (fold (line_taken_in core_known (t ++ v)) first_page (lines_of t)) (after_lines t) → After (after_lines t) → Holds mark (fold (line_taken_in core_known (t ++ v)) first_page (lines_of t))
+pub holds_after : (t v : List ℕ) (mark n : ℕ) → LeavesList t mark → Onward t (t ++ v) alone n (fold (line_taken_in core_known (t ++ v)) first_page (lines_of t)) (after_lines t) → After (after_lines t) → Holds mark (fold (line_taken_in core_known (t ++ v)) first_page (lines_of t))
 holds_after t v mark n c first (a, m, r) = record {
   lists = lists;
   behind = behind_list mark lists.inner (subst (Chain false) lists.first (home.house).chain) (subst (AllByRecursion HasWidth) lists.first (lines_wide q (lines_of t) first_page first_core tt));
@@ -216,7 +216,7 @@ holds_after t v mark n c first (a, m, r) = record {
     lists : Lists mark there
     lists = let found : (inner : List Container) × (containers here.opened ≡ container.List mark ∷ inner) = outer_list mark here.opened c.list in record { inner = found.0; first = same ∙ found.1 }
 
-blank_ends : (f : Earlier) (there here : State) → Pairs (OpenedOn f) there.opened here.opened → there.leaf ≡ here.leaf → ends_leaf here ≡ true → has_quote there.opened ≡ false → ends_before_blank there.leaf ≡ true
+pub blank_ends : (f : Earlier) (there here : State) → Pairs (OpenedOn f) there.opened here.opened → there.leaf ≡ here.leaf → ends_leaf here ≡ true → has_quote there.opened ≡ false → ends_before_blank there.leaf ≡ true
 blank_ends f there here p same ends e = ap ends_before_blank same ∙ left_open (has_quote here.opened) (ends_before_blank here.leaf) ends (sym (pairs_quote f there.opened here.opened p) ∙ e)
 
 -- the page after the text and an empty line, if anything comes after them
@@ -226,11 +226,11 @@ record Left (t v : List ℕ) (mark : ℕ) : Type 0 where
   holds : Holds mark (fold (line_taken_in core_known ((t ++ 10 ∷ []) ++ v)) first_page (lines_of t))
   page : fold (line_taken_in core_known ((t ++ 10 ∷ []) ++ v)) first_page (lines_of (t ++ 10 ∷ [])) ≡ closed_to ((t ++ 10 ∷ []) ++ v) depth (fold (line_taken_in core_known ((t ++ 10 ∷ []) ++ v)) first_page (lines_of t))
 
-blank_cells : (q : List ℕ) (a b : ℕ) (s : State) → line_taken_in core_known q s (line a b b (b + 1)) ≡ cells_taken_in core_known q [] (line a b b (b + 1)) s
+pub blank_cells : (q : List ℕ) (a b : ℕ) (s : State) → line_taken_in core_known q s (line a b b (b + 1)) ≡ cells_taken_in core_known q [] (line a b b (b + 1)) s
 unfolding line_taken_in
 blank_cells q a b s = ap (λ bs. cells_taken_in core_known q (cells_of [] b bs) (line a b b (b + 1)) s) (none_between q b)
 
-feeds : (t : List ℕ) (mark : ℕ) → LeavesList t mark → Feed t
+pub feeds : (t : List ℕ) (mark : ℕ) → LeavesList t mark → Feed t
 feeds t mark c = subst (λ xs. Feed xs) (sym ((c.line).1)) (feed_end ((c.line).0))
 
 lines_more : (t : List ℕ) → length t < 2 ^ 64 - 1 → Feed t → (count : ℕ) × (lines_of (t ++ 10 ∷ []) ≡ lines_of t ++ line count (length t) (length t) (length t + 1) ∷ [])
@@ -346,7 +346,7 @@ line_closes p u mark l s w y bytes few ink other =
     cs : List Cell
     cs = cells_of [] l.start (first_line u)
 
-some_margin : (u : List ℕ) → begins_at_margin u ≡ true → 0 < length u
+pub some_margin : (u : List ℕ) → begins_at_margin u ≡ true → 0 < length u
 some_margin [] h = absurd cc
 some_margin (b ∷ bs) h = omega arith
 

@@ -18,7 +18,7 @@ use Rattle.tocmark_text_laws.proofs.Sorted.{Sorted, sorts_plain}
 use Rattle.tocmark_text_laws.proofs.Nesting.{Rests, calm, all_closed}
 use Rattle.tocmark_text_laws.proofs.NestWalk.{Any, cells_rest}
 
-any : (t : List ℕ) → Bounds Any t
+pub any : (t : List ℕ) → Bounds Any t
 any t = record { front = tt; end = tt; around = λ i b e k. (tt, tt) }
 
 line_rests : (c n : ℕ) (t : List ℕ) (l : Line) (s : State) → 4 * length t < 2 ^ 64 - 1 → c ≤ 2 ^ 64 - 1 → LineIn Any t n l → Rests 0 n c n s → Rests 0 l.end (suc c) l.end (line_taken_in core_known t s l)

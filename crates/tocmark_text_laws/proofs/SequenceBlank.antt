@@ -84,11 +84,11 @@ unfolding cells_taken_in touched passed stopped first_cursor
 quote_cells t l o os qs s = quote_at t l (record { column = 0; ink = ink_from [] 0 }) o os qs s
 
 -- the pages of which an empty line ends what is open
-data Blank (s : State) : Type 0 where
+pub data Blank (s : State) : Type 0 where
   leaf_alone : s.opened ≡ [] → ends_before_blank s.leaf ≡ true → Blank s
   quote_first : (o : Opened) → (os : List Opened) → (qs : List ℕ) → s.opened ≡ o ∷ os → s.quotes ≡ 0 ∷ qs → Blank s
 
-empty_cells : (t : List ℕ) (l : Line) (s : State) → Blank s → cells_taken_in core_known t [] l s ≡ closed_to t 0 s
+pub empty_cells : (t : List ℕ) (l : Line) (s : State) → Blank s → cells_taken_in core_known t [] l s ≡ closed_to t 0 s
 empty_cells t l s (leaf_alone o h) = ap (cells_taken_in core_known t [] l) same ∙ blank_cells t l s h ∙ ap (closed_to t 0) (sym same)
   where
     same : s ≡ shut s
@@ -109,7 +109,7 @@ pub quotes_known : (c n : ℕ) (s : State) → Rests 0 n c n s → s.quotes ≡ 
 quotes_known c n s (calm e k) = (k.2).quotes
 quotes_known c n s (leafed w low fs b k) = (k.sorted).quotes
 
-blank_page : (f : Earlier) (there here : State) → Pairs (OpenedOn f) there.opened here.opened → there.leaf ≡ here.leaf → there.quotes ≡ here.quotes → here.quotes ≡ quotes_of 0 (containers here.opened) → ends_all here.opened here.leaf ≡ true → Blank there
+pub blank_page : (f : Earlier) (there here : State) → Pairs (OpenedOn f) there.opened here.opened → there.leaf ≡ here.leaf → there.quotes ≡ here.quotes → here.quotes ≡ quotes_of 0 (containers here.opened) → ends_all here.opened here.leaf ≡ true → Blank there
 blank_page f there here p same qs known h = by there.opened here.opened refl p known h
   where
     by : (xs ys : List Opened) → there.opened ≡ xs → Pairs (OpenedOn f) xs ys → here.quotes ≡ quotes_of 0 (containers ys) → ends_all ys here.leaf ≡ true → Blank there

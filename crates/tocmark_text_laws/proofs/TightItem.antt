@@ -28,7 +28,7 @@ use Rattle.tocmark_text_laws.proofs.Tight.{IsTight}
 use Rattle.tocmark_text_laws.proofs.TightWalk.{or_more, or_left}
 use Rattle.tocmark_text_laws.proofs.TightIdle.{and_both, open_leaf, none_loose}
 
-ink_after : (xs ys : List ℕ) → has_ink ys ≡ true → has_ink (xs ++ ys) ≡ true
+pub ink_after : (xs ys : List ℕ) → has_ink ys ≡ true → has_ink (xs ++ ys) ≡ true
 ink_after [] ys h = h
 ink_after (x ∷ xs) ys h = or_more (is_inky x) (has_ink (xs ++ ys)) (ink_after xs ys h)
 
