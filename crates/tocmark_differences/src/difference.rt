@@ -2,14 +2,12 @@
 
 use crate::erase::Within;
 use crate::marks::Mark;
+use crate::phrases::SHOWN;
 use std::alloc::{AllocError, Global};
 use std::fmt;
 use tocmark_event::event::{
     Alignment, BlockQuoteKind, CodeBlockKind, Event, HeadingLevel, Tag, TagEnd,
 };
-
-/// How many characters of a text a message shows.
-const SHOWN: usize = 60;
 
 /// What kind of thing differs.
 #[derive(Clone, Copy, Debug, PartialEq, Eq)]
@@ -53,16 +51,16 @@ pub struct Difference {
     pub kind: Kind,
     /// What it is, in words.
     pub what: &'static str,
-    /// How many events are before it in the old text and in the new one. Only those that count are events here, and each stretch of
-    /// texts is one. The link definitions come after all others, and letters have no events.
+    /// How many events the old text and the new one have before the place where they part here. Only those that count are
+    /// events, and each stretch of texts is one. The link definitions come after all others, and letters have no events.
     pub before: (usize, usize),
     /// The first and the last line in the old text, counted from 1. If only the new text has it: where it would be.
     pub old: (usize, usize),
     /// The same in the new text.
     pub new: (usize, usize),
-    /// What the old text says, as far as it differs.
+    /// What the old text says, as far as it differs. If only the old text has the thing: what it is, its words, where it leads.
     pub was: String,
-    /// What the new text says, as far as it differs.
+    /// The same of the new text.
     pub is: String,
 }
 
@@ -122,6 +120,7 @@ fn container_word(end: TagEnd) -> &'static str {
 /// What a mark is, in words.
 pub fn word_of(mark: &Mark) -> &'static str {
     match &mark.event {
+        Event::Start(_) if mark.is_definition => "link definition",
         Event::Start(tag) => container_word(tag.to_end()),
         Event::End(_) => "end",
         Event::Text(_) => match mark.within {
@@ -187,7 +186,7 @@ fn quote_text(kind: Option<BlockQuoteKind>) -> &'static str {
 }
 
 /// The box of a task.
-fn box_text(is_done: bool) -> &'static str {
+pub fn box_text(is_done: bool) -> &'static str {
     if is_done { "[x]" } else { "[ ]" }
 }
 
@@ -217,7 +216,7 @@ fn number_text(alloc: Global, number: Option<u64>) -> Result<String, AllocError>
 }
 
 /// The bytes that two texts have in common at their front, up to a blank.
-fn common_front(was: &str, is: &str) -> usize {
+pub fn common_front(was: &str, is: &str) -> usize {
     let mut end = 0usize;
     for ((at, one), other) in was.char_indices().zip(is.chars()) {
         if one != other {
@@ -230,7 +229,16 @@ fn common_front(was: &str, is: &str) -> usize {
     end
 }
 
-/// The bytes that two texts have in common at their end, from a blank on.
+/// Whether a blank or a line end is before so many bytes at the end of a text.
+fn is_after_blank(text: &str, end: usize) -> bool {
+    let before = text.len().saturating_sub(end).saturating_sub(1);
+    match text.as_bytes().get(before) {
+        Some(byte) => *byte == b' ' || *byte == b'\n',
+        None => false,
+    }
+}
+
+/// The bytes that two texts have in common at their end, from a blank on. Both begin with a word.
 fn common_end(was: &str, is: &str) -> usize {
     let mut length = 0usize;
     let mut common = 0usize;
@@ -243,7 +251,12 @@ fn common_end(was: &str, is: &str) -> usize {
             common = length;
         }
     }
-    common
+    let longer = if was.len() > is.len() { was } else { is };
+    if is_after_blank(longer, length) {
+        length
+    } else {
+        common
+    }
 }
 
 /// How many lines two texts have in common at their front.
@@ -357,6 +370,17 @@ pub struct Change {
     pub line: usize,
 }
 
+impl Change {
+    /// Whether one of the texts has words more, and the other one none in their place.
+    pub fn has_more(&self) -> bool {
+        let (was, is) = (self.was.as_str().trim(), self.is.as_str().trim());
+        match self.kind {
+            Kind::Text => was.is_empty() != is.is_empty(),
+            _ => false,
+        }
+    }
+}
+
 /// What two marks of the same word say differently, in texts of their own.
 fn composed_change(
     alloc: Global,
@@ -447,26 +471,17 @@ fn write_quoted<W: fmt::Write>(f: &mut fmt::Formatter<W>, text: &str) -> fmt::Re
 }
 
 /// Writes that only one of the texts has a thing.
-fn write_alone<W: fmt::Write>(
-    f: &mut fmt::Formatter<W>,
-    how: &str,
-    what: &str,
-    text: &str,
-) -> fmt::Result {
-    write!(f, "{how}: {what}")?;
-    if text.is_empty() {
-        return Ok(());
-    }
-    f.write_str(" ")?;
-    write_quoted(f, text)
+fn write_alone<W: fmt::Write>(f: &mut fmt::Formatter<W>, how: &str, thing: &str) -> fmt::Result {
+    f.write_str(how)?;
+    f.write_str(thing)
 }
 
 impl fmt::Display for Difference {
     fn fmt<W: fmt::Write>(&self, f: &mut fmt::Formatter<W>) -> fmt::Result {
         let what = self.what;
         match self.kind {
-            Kind::Removed => return write_alone(f, "removed", what, self.was.as_str()),
-            Kind::Added => return write_alone(f, "added", what, self.is.as_str()),
+            Kind::Removed => return write_alone(f, "removed: ", self.was.as_str()),
+            Kind::Added => return write_alone(f, "added: ", self.is.as_str()),
             _ => {}
         }
         match part_word(self.kind) {

@@ -52,11 +52,43 @@ fn character_start(text: &str, at: usize) -> usize {
     at
 }
 
-/// The word at this place in a text, as far as it is near. There is none at the end.
-fn word_at(text: &str, at: usize) -> &str {
-    if at >= text.len() {
-        return "";
+/// Where the letters before this place end.
+fn end_of_letters(text: &[u8], at: usize) -> usize {
+    let front = text.get(..at).unwrap_or(&[]);
+    let mut end = at;
+    for byte in front.iter().rev() {
+        if is_letter(*byte) {
+            break;
+        }
+        end = end.saturating_sub(1);
     }
+    end
+}
+
+/// Whether a place is inside a word.
+fn is_in_word(text: &str, at: usize) -> bool {
+    let before = text.get(..at).unwrap_or("").chars().next_back();
+    let after = text.get(at..).unwrap_or("").chars().next();
+    match (before, after) {
+        (Some(one), Some(other)) => !one.is_whitespace() && !other.is_whitespace(),
+        _ => false,
+    }
+}
+
+/// The place after the white space at this place.
+fn after_white(text: &str, at: usize) -> usize {
+    let mut end = at;
+    for c in text.get(at..).unwrap_or("").chars() {
+        if !c.is_whitespace() {
+            break;
+        }
+        end = end.saturating_add(c.len_utf8());
+    }
+    end
+}
+
+/// The bytes of the word round this place, as far as they are near.
+fn word_round(text: &str, at: usize) -> (usize, usize) {
     let (mut from, mut to) = (at, at);
     for c in text.get(..at).unwrap_or("").chars().rev().take(SHOWN.0) {
         if c.is_whitespace() {
@@ -70,7 +102,37 @@ fn word_at(text: &str, at: usize) -> &str {
         }
         to = to.saturating_add(c.len_utf8());
     }
-    text.get(from..to).unwrap_or("")
+    (from, to)
+}
+
+/// The bytes of the word at a place, or of the next one, unless the other text goes on inside a word.
+fn word_at(text: &str, at: usize, is_inside: bool) -> (usize, usize) {
+    if is_inside {
+        return word_round(text, at);
+    }
+    let start = after_white(text, at);
+    if start >= text.len() {
+        return (start, start);
+    }
+    word_round(text, start)
+}
+
+/// The words round the place after the last common letter, or after that the first ones of which one has the letter that
+/// differs. Both are at the same place in the order of letters.
+fn words_apart(old: &str, new: &str, letters: (usize, usize)) -> ((usize, usize), (usize, usize)) {
+    let (mut at, mut other) = (
+        end_of_letters(old.as_bytes(), letters.0),
+        end_of_letters(new.as_bytes(), letters.1),
+    );
+    for _ in 0..old.len() {
+        let is_inside = is_in_word(old, at) || is_in_word(new, other);
+        let (was, is) = (word_at(old, at, is_inside), word_at(new, other, is_inside));
+        if was.1 > letters.0 || is.1 > letters.1 || (was.1 <= at && is.1 <= other) {
+            return (was, is);
+        }
+        (at, other) = (was.1, is.1);
+    }
+    (word_at(old, at, false), word_at(new, other, false))
 }
 
 /// The line of a byte, counted from 1; at the end, the last line.
@@ -83,16 +145,17 @@ fn line_of(alloc: Global, text: &str, at: usize) -> Result<usize, AllocError> {
 /// The first difference between the letters of two texts that have not the same ones.
 fn first_difference(alloc: Global, old: &str, new: &str) -> Result<Difference, AllocError> {
     let (was, is) = parting(old.as_bytes(), new.as_bytes());
-    let (was, is) = (character_start(old, was), character_start(new, is));
-    let (old_line, new_line) = (line_of(alloc, old, was)?, line_of(alloc, new, is)?);
+    let letters = (character_start(old, was), character_start(new, is));
+    let (was, is) = words_apart(old, new, letters);
+    let (old_line, new_line) = (line_of(alloc, old, was.0)?, line_of(alloc, new, is.0)?);
     Ok(Difference {
         kind: Kind::Letters,
         what: "letters",
         before: (0, 0),
         old: (old_line, old_line),
         new: (new_line, new_line),
-        was: String::from_str(alloc, word_at(old, was))?,
-        is: String::from_str(alloc, word_at(new, is))?,
+        was: String::from_str(alloc, old.get(was.0..was.1).unwrap_or(""))?,
+        is: String::from_str(alloc, new.get(is.0..is.1).unwrap_or(""))?,
     })
 }
 
@@ -114,8 +177,8 @@ fn only(alloc: Global, difference: Difference) -> Result<Vec<Difference>, AllocE
 /// ```
 /// assert!(rt; compared_letters(alloc, "* *a* b\n", "- _a_\n  b\n")?.is_empty());
 /// let found = compared_letters(alloc, "a\nthe words.\n", "a the word.\n\nEnd\n")?;
-/// assert_eq!(rt; (found[0].was.as_str(), found[0].is.as_str()), ("words.", "End"));
-/// assert_eq!(rt; (found[0].old, found[0].new), ((2, 2), (3, 3)));
+/// assert_eq!(rt; (found[0].was.as_str(), found[0].is.as_str()), ("words.", "word."));
+/// assert_eq!(rt; (found[0].old, found[0].new), ((2, 2), (1, 1)));
 /// ```
 pub fn compared_letters(alloc: Global, old: &str, new: &str) -> Result<Vec<Difference>, AllocError>
     ensures same { IfOk result (λ all. (all.items ≡ []) ↔ HaveSameLetters old.now new.now) }

@@ -2,8 +2,8 @@
 //!
 //! Enter at `compared` (`compare`). `allowed` names the kinds of things that may differ. `fold` and `erase` make of a reader's
 //! events those that count: white space as one blank, if it may differ, and one fixed value for all else that may. `marks` has
-//! these events as short texts, so that `align` finds which of them differ, and `difference` says what that is. `letters`
-//! compares the letters of two texts alone, without a reader.
+//! these events as short texts, so that `align` finds which of them differ. `told` notes what that is, in the words of
+//! `difference` and `phrases`. `letters` compares the letters of two texts alone, without a reader.
 #![tactic(auto)]
 
 pub mod align;
@@ -16,6 +16,8 @@ pub mod letters;
 pub mod marks;
 pub mod merge;
 pub mod parting;
+pub mod phrases;
+pub mod told;
 
 pub use allowed::{Allowed, KINDS};
 pub use compare::compared;
