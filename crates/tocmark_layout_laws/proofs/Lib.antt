@@ -1,0 +1,9 @@
+pub mod Starts
+pub mod Texts
+pub mod Fronts
+pub mod Paragraphs
+pub mod Codes
+pub mod RowBlocks
+pub mod LaidBlocks
+pub mod PlainBlocks
+pub mod DeclaredExamples

@@ -1,0 +1,12 @@
+//! A law of what CommonMark declares of a layout.
+
+ghost use Rattle.tocmark_layout_laws.specs.Declared.{LayoutsAreDeclared};
+
+/// The blocks that CommonMark declares of a tree's layout are that tree (chapters 4 and 5).
+///
+/// The leaves of the tree are paragraphs of plain lines, headings of one plain line, thematic breaks, and fenced code of
+/// ASCII lines. They are in block quotes, to any depth. The law holds under all flags. The options name `*` or `_` for
+/// emphasis, and backticks or tildes for fences. The layout has fewer than 2^64 bytes.
+pub fn layouts_are_declared()
+    ensures { LayoutsAreDeclared }
+{}

@@ -1,0 +1,4 @@
+//! Laws of what CommonMark declares of a document's layout.
+#![tactic(auto)]
+
+pub mod layouts;
