@@ -1,0 +1,244 @@
+-- The events that CommonMark declares of a layout are those of the document, so these are read.
+use Rattle.std.proofs.Common.{◌≡◌, ℕ, ◌+◌, ◌*◌, ◌^◌, ◌<◌, ◌≤◌, Bool, true, false, ◌==◌, ◌||◌, if◌then◌else◌, List, [], ◌∷◌, ◌++◌, codes, length, map, refl, ap, sym, subst, ◌∙◌, arith, append_assoc, append-nil, length-append, None, Some}
+use Rattle.std.proofs.lemmas.List.{map-append}
+use Rattle.std.proofs.lemmas.Str.{IsUtf8-from_ascii, utf8_lossy-IsUtf8}
+use Rattle.std.specs.Prelude.{slice_get}
+use Rattle.std.specs.List.{AllByRecursion, concat}
+use Rattle.tocmark_event.specs.Options.{OptionsView}
+use Rattle.tocmark_event.specs.View.{TagView, Paragraph, Heading, BlockQuote, CodeBlock, Fenced, EventView, Start, End, Leaf, Text, SoftBreak, Rule, end_of}
+use Rattle.tocmark_event.specs.declared.event.flags.ParserOptions.{ParserOptions}
+use Rattle.tocmark_read_scan.specs.PlainParts.{Part, meant, spelled}
+use Rattle.tocmark_read_scan.proofs.PlainContent.{get_behind}
+use Rattle.tocmark_reader.specs.Reading.{collected_from, collected_in, core_reading, found_under, reading_of}
+use Rattle.tocmark_read_scan.specs.declared.syntax.TheConstants.{CORE}
+use Rattle.tocmark_read_scan.specs.declared.syntax.Names.TheVariants.{All}
+use Rattle.tocmark_read_page.specs.Definitions.{DefinitionView}
+use Rattle.tocmark_read_blocks.specs.Blocks.{BlocksView, blocks_in}
+use Rattle.tocmark_read_spans.specs.Definitions.{distinct_labels}
+use Rattle.tocmark_block_laws.proofs.NamedBlocks.{names-change-none}
+use Rattle.tocmark_inline_laws.specs.Said.{commonmark}
+use Rattle.tocmark_reader.specs.PlainTexts.{line_events, text_parts}
+use Rattle.tocmark_reader.proofs.PlainEvents.{said}
+use Rattle.tocmark_reader.proofs.PlainReading.{IsPrintable, merged_lines}
+use Rattle.tocmark_commonmark.specs.Blocks.{blocks_of}
+use Rattle.tocmark_commonmark.specs.Events as said_of
+use Rattle.tocmark_commonmark.specs.Events.{element, inline_events, code_events, block_events, block_event}
+use Rattle.tocmark_commonmark.specs.Inlines.{inlines}
+use Rattle.tocmark_commonmark.specs.Leaves as leaves
+use Rattle.tocmark_commonmark.specs.Links.{Destination, destinations}
+use Rattle.tocmark_commonmark.specs.Tokens.{Backtick, Star, OpenBracket, Exclamation, CloseBracket, Angle, Space, LineFeed, Other, kind_of, literal, literal_at, literals, literals_at, and_literals, resolved}
+use Rattle.tocmark_commonmark.specs.Tree as block
+use Rattle.tocmark_standard_laws.specs.Lettered.{letter_events, lettered, tag_as_text, as_text}
+use Rattle.tocmark_standard_laws.proofs.CoveredTexts.{agreed-declared}
+use Rattle.tocmark_standard_laws.proofs.Ended.{lettered_append, letter_append, merged_lettered}
+use Rattle.tocmark_standard_laws.proofs.WellBlocks.{AreWell, IsWell, blocks-well}
+use Rattle.tocmark_state.specs.Walk.{nothing_yet, script}
+use Rattle.tocmark_state.specs.WorkView.{rendering}
+use Rattle.tocmark_laws.specs.TextBlocks.{HeadingKind, place_in}
+use Rattle.tocmark_laws.specs.Documents.{ArePlainTokens, PlainBlock, PlainParagraph, PlainHeading, PlainRule, PlainCode, IsPlainBlock, plain_events}
+use Rattle.tocmark_laws.proofs.DocumentCode.{IsInfo}
+use Rattle.tocmark_laws.proofs.DocumentCodeSpelling.{fence_rest}
+use Rattle.tocmark_laws.proofs.DocumentRows.{IsCode}
+use Rattle.tocmark_laws.proofs.DocumentsReadBack.{may_stand}
+use Rattle.tocmark_write_texts.specs.Escape.{escaped}
+use Rattle.tocmark_document_laws.specs.Blocks.{Blocks, Nothing, PlainThen, QuoteThen, BulletsThen, ItemThen, ArePlain, events_of, document}
+use Rattle.tocmark_document_laws.specs.DocumentLines.{Line, How, Beside, Below, Outside, no_lists, code_text, feeds_below, feeds_below_quote, layout, paragraph_lines}
+use Rattle.tocmark_document_laws.specs.LaidOut.{JoinTo}
+use Rattle.tocmark_document_laws.specs.ReadBack.{HasNoList}
+use Rattle.tocmark_document_laws.proofs.DocumentsLaidOut.{documents_laid_out}
+use Rattle.tocmark_layout_laws.specs.Declared.{declared, declared_block, declared_tree}
+use Rattle.tocmark_read_back_laws.specs.Documents.{IsReadAsEvents, LayoutsAreReadBack, WholeDocumentsAreReadBack}
+use Rattle.tocmark_read_back_laws.proofs.DeclaredContents.{parts_declared}
+use Rattle.tocmark_read_back_laws.proofs.LaidTrees.{Content, content_parts, heading_content, paragraph_content, layout_agrees, layout_declared, layout_undefined}
+use Rattle.tocmark_block_laws.specs.Quotes.{Agrees}
+use Rattle.tocmark_read_back_laws.proofs.SafeLines.{AreSafe, layout_safe, no_zeros, safe_ascii, safe_plain, shown_ascii}
+
+-- a container and what is after it
+element_on : (t : TagView) (es rest : List EventView) → lettered (element t es ++ rest) ≡ Start t ∷ (lettered es ++ End (end_of t) ∷ lettered rest)
+element_on t es rest = ap (λ xs. Start t ∷ lettered xs) (append_assoc es (End (end_of t) ∷ []) rest) ∙ ap (λ xs. Start t ∷ xs) (lettered_append es (End (end_of t) ∷ rest))
+
+-- two containers alike
+elements_on : (t : TagView) (es fs xs ys : List EventView) → lettered es ≡ lettered fs → lettered xs ≡ lettered ys → lettered (element t es ++ xs) ≡ lettered (element t fs ++ ys)
+elements_on t es fs xs ys h k =
+    element_on t es xs
+    ∙ ap (λ (zs : List EventView). Start t ∷ (zs ++ End (end_of t) ∷ lettered xs)) h
+    ∙ ap (λ (zs : List EventView). Start t ∷ (lettered fs ++ End (end_of t) ∷ zs)) k
+    ∙ sym (element_on t fs ys)
+
+-- texts
+
+texts_lettered : (ts : List (List ℕ)) → lettered (map (λ t. Leaf (Text t)) ts) ≡ letter_events (concat ts)
+texts_lettered [] = refl
+texts_lettered (t ∷ ts) = ap (λ (es : List EventView). letter_events t ++ es) (texts_lettered ts) ∙ sym (letter_append t (concat ts))
+
+code_lettered : (ls : List (List ℕ)) → lettered (map (λ l. Leaf (Text (l ++ codes "\n"))) ls) ≡ letter_events (code_text ls)
+code_lettered [] = refl
+code_lettered (l ∷ ls) = ap (λ (es : List EventView). letter_events (l ++ codes "\n") ++ es) (code_lettered ls) ∙ sym (letter_append (l ++ codes "\n") (code_text ls))
+
+said_lettered : (t : List ℕ) → lettered (code_events t) ≡ letter_events t
+said_lettered [] = refl
+said_lettered (b ∷ bs) = append-nil (letter_events (b ∷ bs))
+
+-- contents
+
+line_said : (first : List Part) (more : List (List Part)) (l : List ℕ) (ms : List (List ℕ)) → map meant (first ∷ more) ≡ l ∷ ms → line_events (meant first) (map meant more) ≡ line_events l ms
+line_said first more l ms e = ap (let f : List (List ℕ) → List EventView = by in f) e
+  where
+    by : List (List ℕ) → List EventView
+    by [] = []
+    by (x ∷ xs) = line_events x xs
+
+content_said : (labels : List Destination) (lines : List Line) (l : List ℕ) (ms : List (List ℕ)) → Content lines (l ∷ ms) → length (leaves.joined lines) + 2 < 2 ^ 64 → lettered (inline_events (inlines labels (leaves.joined lines))) ≡ lettered (line_events l ms)
+content_said labels lines l ms c small =
+    let same : leaves.joined lines ≡ spelled (text_parts c.first c.more) = content_parts lines (l ∷ ms) c in
+    ap (λ t. lettered (inline_events (inlines labels t))) same
+    ∙ parts_declared labels (text_parts c.first c.more) c.plain (subst (λ (t : List ℕ). length t + 2 < 2 ^ 64) same small)
+    ∙ sym (merged_lettered (said (text_parts c.first c.more)))
+    ∙ ap lettered (merged_lines c.first c.more c.lines_plain)
+    ∙ ap lettered (line_said c.first c.more l ms c.says)
+
+-- info strings
+
+no_literal : (bytes : List ℕ) (p b : ℕ) → (b == 92) ≡ false → (b == 38) ≡ false → literal_at bytes p b (kind_of b) ≡ literal b p None
+no_literal bytes p b h k = rw (h, k) (by (b == 96) ((b == 42) || (b == 95)) (b == 91) (b == 33) (b == 93) (b == 60) (b == 32) (b == 10))
+  where
+    by : (c d e f g i j l : Bool) → literal_at bytes p b (if c then Backtick else (if d then Star else (if e then OpenBracket else (if f then Exclamation else (if g then CloseBracket else (if i then Angle else (if j then Space else (if l then LineFeed else Other)))))))) ≡ literal b p None
+    by true d e f g i j l = refl
+    by false true e f g i j l = refl
+    by false false true f g i j l = refl
+    by false false false true g i j l = refl
+    by false false false false true i j l = refl
+    by false false false false false true j l = refl
+    by false false false false false false true l = refl
+    by false false false false false false false true = refl
+    by false false false false false false false false = refl
+
+get_first : (bytes pre rest : List ℕ) (p b : ℕ) → bytes ≡ pre ++ b ∷ rest → p ≡ length pre → slice_get bytes p ≡ Some b
+get_first bytes pre rest p b e at = ap (slice_get bytes) at ∙ ap (λ xs. slice_get xs (length pre)) e ∙ get_behind pre rest b
+
+info_literals : (token : ℕ) (bytes pre rest : List ℕ) (p : ℕ) → bytes ≡ pre ++ rest → p ≡ length pre → AllByRecursion (IsInfo token) rest → literals (length rest) bytes p ≡ rest
+info_literals token bytes pre [] p e at h = refl
+info_literals token bytes pre (b ∷ bs) p e at h =
+    let next : ℕ → List ℕ = λ q. literals (length bs) bytes q in
+    ap (literals_at next bytes p) (get_first bytes pre bs p b e at)
+    ∙ ap (and_literals next) (no_literal bytes p b (h.0).back (h.0).amp)
+    ∙ ap (λ t. b ∷ t) (info_literals token bytes (pre ++ b ∷ []) bs (p + 1) (e ∙ sym (append_assoc pre (b ∷ []) bs)) (ap (λ n. n + 1) at ∙ sym (length-append pre (b ∷ []))) (h.1))
+
+info_resolved : (token : ℕ) (info : List ℕ) → AllByRecursion (IsInfo token) info → resolved info ≡ info
+unfolding resolved
+info_resolved token info h = info_literals token info [] info 0 refl refl h
+
+module _ (o : OptionsView) (flags : ParserOptions) (tokens : ArePlainTokens o) (labels : List Destination) (n : ℕ) (small : n + 2 < 2 ^ 64) where
+  code_good : (info : List ℕ) (ls : List (List ℕ)) → IsPlainBlock (PlainCode info ls) → IsCode o.code_block_token (fence_rest o info ls) info ls
+  code_good info ls h = may_stand o (λ text flags. core_reading text) flags tokens.emphasis tokens.code (PlainCode info ls) h
+
+  block_said : (b : PlainBlock) (xs ys : List EventView) → IsPlainBlock b → IsWell n (declared_block o flags b) → lettered xs ≡ lettered ys → lettered (block_event labels false (declared_block o flags b) ++ xs) ≡ lettered (plain_events b ++ ys)
+  block_said (PlainParagraph l ms) xs ys h w k =
+      elements_on Paragraph (inline_events (inlines labels (leaves.joined (paragraph_lines o flags l ms)))) (line_events l ms) xs ys
+      (content_said labels (paragraph_lines o flags l ms) l ms (paragraph_content o flags tokens l ms h) (let most : length (leaves.joined (paragraph_lines o flags l ms)) ≤ n = w.1 in omega (arith, most, small))) k
+  block_said (PlainHeading level ts) xs ys h w k =
+      let t : List ℕ = escaped (place_in o flags (HeadingKind level)) (concat ts) in
+      let most : length t ≤ n = w.1 in
+      elements_on (Heading level None [] []) (inline_events (inlines labels t)) (map (λ t. Leaf (Text t)) ts) xs ys
+      (content_said labels (t ∷ []) (concat ts) [] (heading_content o flags tokens level (concat ts) h) (omega (arith, most, small)) ∙ append-nil (letter_events (concat ts)) ∙ sym (texts_lettered ts)) k
+  block_said PlainRule xs ys h w k = ap (λ (zs : List EventView). Leaf Rule ∷ zs) k
+  block_said (PlainCode info ls) xs ys h w k =
+      ap (λ i. lettered (element (CodeBlock (Fenced i)) (code_events (code_text ls)) ++ xs)) (info_resolved o.code_block_token info (code_good info ls h).info_is)
+      ∙ elements_on (CodeBlock (Fenced info)) (code_events (code_text ls)) (map (λ l. Leaf (Text (l ++ codes "\n"))) ls) xs ys (said_lettered (code_text ls) ∙ sym (code_lettered ls)) k
+
+  tree_said : (c : Outside) (how : How) (f : Blocks) → ArePlain f → HasNoList f → AreWell n (declared o flags c how f) → lettered (block_events labels false (declared o flags c how f)) ≡ lettered (events_of f)
+  tree_said c how Nothing h q w = refl
+  tree_said c how (PlainThen b f) h q w =
+      block_said b (block_events labels false (declared o flags c (Below (feeds_below o b) None) f)) (events_of f) (h.0) (w.0) (tree_said c (Below (feeds_below o b) None) f (h.1) q (w.1))
+  tree_said c how (QuoteThen kids f) h q w =
+      elements_on (BlockQuote None) (block_events labels false (declared o flags c Beside kids)) (events_of kids) (block_events labels false (declared o flags c (Below (feeds_below_quote o) None) f)) (events_of f)
+      (tree_said c Beside kids (h.0) (q.0) (w.0)) (tree_said c (Below (feeds_below_quote o) None) f (h.1) (q.1) (w.1))
+      ∙ ap (λ (zs : List EventView). Start (BlockQuote None) ∷ lettered zs) (append_assoc (events_of kids) (End (end_of (BlockQuote None)) ∷ []) (events_of f))
+  tree_said c how (BulletsThen items f) h q w = absurd q
+  tree_said c how (ItemThen kids f) h q w = absurd q
+
+-- words are texts
+
+letters_kept : (t : List ℕ) → map as_text (letter_events t) ≡ letter_events t
+letters_kept [] = refl
+letters_kept (b ∷ bs) = ap (λ (es : List EventView). Leaf (Text (b ∷ [])) ∷ es) (letters_kept bs)
+
+abbrev AreTexts : List EventView → Type 0
+AreTexts es = map as_text (lettered es) ≡ lettered es
+
+element_kept : (t : TagView) (es rest : List EventView) → tag_as_text t ≡ t → AreTexts es → AreTexts rest → AreTexts (element t es ++ rest)
+element_kept t es rest e h k =
+    ap (map as_text) (element_on t es rest)
+    ∙ ap (λ (xs : List EventView). Start (tag_as_text t) ∷ xs) (map-append as_text (lettered es) (End (end_of t) ∷ lettered rest))
+    ∙ ap (λ x. Start x ∷ (map as_text (lettered es) ++ End (end_of t) ∷ map as_text (lettered rest))) e
+    ∙ ap (λ (xs : List EventView). Start t ∷ (xs ++ End (end_of t) ∷ map as_text (lettered rest))) h
+    ∙ ap (λ (xs : List EventView). Start t ∷ (lettered es ++ End (end_of t) ∷ xs)) k
+    ∙ sym (element_on t es rest)
+
+lines_kept : (l : List ℕ) (ms : List (List ℕ)) → AreTexts (line_events l ms)
+lines_kept l [] = ap (map as_text) (append-nil (letter_events l)) ∙ letters_kept l ∙ sym (append-nil (letter_events l))
+lines_kept l (m ∷ ms) =
+    map-append as_text (letter_events l) (Leaf SoftBreak ∷ lettered (line_events m ms))
+    ∙ ap (λ (xs : List EventView). xs ++ Leaf SoftBreak ∷ map as_text (lettered (line_events m ms))) (letters_kept l)
+    ∙ ap (λ (xs : List EventView). letter_events l ++ Leaf SoftBreak ∷ xs) (lines_kept m ms)
+
+info_text : (token : ℕ) (info : List ℕ) → AllByRecursion IsPrintable info → tag_as_text (CodeBlock (Fenced info)) ≡ CodeBlock (Fenced info)
+info_text token info h = ap (λ t. CodeBlock (Fenced t)) (utf8_lossy-IsUtf8 info (IsUtf8-from_ascii info (shown_ascii info h)))
+
+module _ (o : OptionsView) (flags : ParserOptions) (tokens : ArePlainTokens o) where
+  kept : (f : Blocks) → ArePlain f → HasNoList f → AreTexts (events_of f)
+  kept Nothing h q = refl
+  kept (PlainThen (PlainParagraph l ms) f) h q = element_kept Paragraph (line_events l ms) (events_of f) refl (lines_kept l ms) (kept f (h.1) q)
+  kept (PlainThen (PlainHeading level ts) f) h q =
+      element_kept (Heading level None [] []) (map (λ t. Leaf (Text t)) ts) (events_of f) refl (ap (map as_text) (texts_lettered ts) ∙ letters_kept (concat ts) ∙ sym (texts_lettered ts)) (kept f (h.1) q)
+  kept (PlainThen PlainRule f) h q = ap (λ (es : List EventView). Leaf Rule ∷ es) (kept f (h.1) q)
+  kept (PlainThen (PlainCode info ls) f) h q =
+      element_kept (CodeBlock (Fenced info)) (map (λ l. Leaf (Text (l ++ codes "\n"))) ls) (events_of f)
+      (info_text o.code_block_token info (code_good o flags tokens [] 0 (omega arith) info ls (h.0)).info_printable)
+      (ap (map as_text) (code_lettered ls) ∙ letters_kept (code_text ls) ∙ sym (code_lettered ls)) (kept f (h.1) q)
+  kept (QuoteThen kids f) h q =
+      ap (λ (zs : List EventView). map as_text (Start (BlockQuote None) ∷ lettered zs)) (sym (append_assoc (events_of kids) (End (end_of (BlockQuote None)) ∷ []) (events_of f)))
+      ∙ element_kept (BlockQuote None) (events_of kids) (events_of f) refl (kept kids (h.0) (q.0)) (kept f (h.1) (q.1))
+      ∙ ap (λ (zs : List EventView). Start (BlockQuote None) ∷ lettered zs) (append_assoc (events_of kids) (End (end_of (BlockQuote None)) ∷ []) (events_of f))
+  kept (BulletsThen items f) h q = absurd q
+  kept (ItemThen kids f) h q = absurd q
+
+-- the declared events of a layout
+declared_said : (o : OptionsView) (flags : ParserOptions) (f : Blocks) (text : List ℕ) → ArePlainTokens o → ArePlain f → HasNoList f → blocks_of text ≡ declared_tree o flags f → AreWell (length text + 1) (blocks_of text) → length text + 3 < 2 ^ 64 → lettered (said_of.events_of text) ≡ lettered (events_of f)
+unfolding said_of.events_of
+declared_said o flags f text tokens h q e w small =
+    let bs : block.Blocks = blocks_of text in
+    let labels : List Destination = destinations (block.defined bs) in
+    merged_lettered (block_events labels false bs)
+    ∙ ap (λ x. lettered (block_events labels false x)) e
+    ∙ tree_said o flags tokens labels (length text + 1) (omega (arith, small)) no_lists Beside f h q (subst (AreWell (length text + 1)) e w)
+
+-- a text without definitions of links defines no label
+none_defined : (text : List ℕ) → (blocks_in CORE text).definitions ≡ [] → (reading_of commonmark text).defined ≡ []
+unfolding reading_of found_under collected_from
+none_defined text h =
+    let labels : List DefinitionView → List (List ℕ) = λ ds. distinct_labels (collected_in All ds).texts (collected_in All ds).labels in
+    ap (λ (v : BlocksView). labels v.definitions) (names-change-none All text) ∙ ap labels h
+
+pub layouts_read_back : LayoutsAreReadBack
+layouts_read_back options flags f tokens plain listless tabless small =
+    let text : List ℕ = layout options flags f in
+    let safe : AreSafe text = layout_safe options flags tokens f plain listless tabless in
+    let agrees : Agrees text = layout_agrees options flags tokens f plain listless tabless small in
+    record {
+      events =
+          agreed-declared text (record { plain = safe_plain text safe; agrees = agrees; utf8 = IsUtf8-from_ascii text (safe_ascii text safe); small = omega (arith, small) })
+          ∙ ap (map as_text) (declared_said options flags f text tokens plain listless (layout_declared options flags tokens f plain listless (omega (arith, small))) (blocks-well text (no_zeros text safe)) (omega (arith, small)))
+          ∙ kept options flags tokens f plain listless;
+      defined = none_defined text (layout_undefined options flags tokens f plain listless tabless small);
+    }
+
+pub documents_read_back : WholeDocumentsAreReadBack
+documents_read_back options reading flags source f unchecked tokens bullet plain listless tabless =
+    let laid : JoinTo (script (rendering options reading) source (nothing_yet flags) (document f)) (layout options flags f) = documents_laid_out options reading flags source f unchecked tokens bullet plain in
+    record {
+      ends_well = laid.ends_well;
+      read = λ small.
+          subst (λ (t : List ℕ). IsReadAsEvents t (events_of f)) (sym laid.is)
+          (layouts_read_back options flags f tokens plain listless tabless (subst (λ (t : List ℕ). 8 * length t + 28 < 2 ^ 64) laid.is small));
+    }
