@@ -1,8 +1,9 @@
-//! A law of what is told of the blocks of a text.
+//! A law of the tree of a text's blocks.
 
 ghost use Rattle.tocmark_read_back_laws.specs.Trees.{TreesAreBlocks};
 
-/// The blocks that the reader finds in a text are those of the trees that are told of it, as CommonMark has them.
+/// Two definitions make a tree of the blocks that the reader finds: `read_tree` and `tree_told`. In every text, both trees are the
+/// same.
 pub fn trees_are_blocks()
     ensures { TreesAreBlocks }
 {}
