@@ -60,7 +60,7 @@ pub struct Difference {
     pub new: (usize, usize),
     /// What the old text says, as far as it differs. If only the old text has the thing: what it is, its words, where it leads.
     pub was: String,
-    /// The same of the new text.
+    /// The same for the new text.
     pub is: String,
 }
 

@@ -587,7 +587,7 @@ impl Printer<'_> {
             .min(self.indent_behind(place))
     }
 
-    /// The same of a block that is or isn't of another dialect: all of such a block lose as many.
+    /// How many columns a block loses. All lines of a block of another dialect lose the same number.
     pub(crate) fn shift_of(&self, start: usize) -> usize {
         match self.foreign {
             Some(above) if above.depth == self.page.depth() => above.shift,

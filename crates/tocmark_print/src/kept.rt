@@ -74,7 +74,7 @@ fn comment_at(part: &Part, at: usize) -> Option<&str> {
     }
 }
 
-/// A text without the spaces in front, of which it loses so many at most.
+/// A text without its first spaces: at most so many are taken off.
 fn without_spaces(text: &str, count: usize) -> &str {
     let spaces = text
         .len()

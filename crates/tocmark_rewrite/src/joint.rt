@@ -179,8 +179,8 @@ impl<'e> Row<'_, 'e> {
         }
     }
 
-    /// Whether a new tree takes the place of blocks that were taken out: those up to the one that the tree after it stands for. Of
-    /// several new trees in a row, none does.
+    /// Whether a new tree takes the place of blocks that were taken out: those before the block that the next tree stands
+    /// for. Of several new trees in a row, none does.
     fn replaces(self, next: usize, last: Option<Joint>, behind: Option<&Plan>) -> bool {
         if let Some(joint) = last
             && joint.plan.stands_for.is_none()
