@@ -316,12 +316,21 @@ impl ReplaceableFile for OpenFile {
     }
 }
 
+/// Opens the regular file at a path, so that its text can be replaced. A link is followed.
+///
+/// [`ReplaceError::Read`]: there is none, or it can't be read.
+pub fn open_to_replace(rt: &HostRuntime, path: &str) -> Result<OpenFile, ReplaceError> {
+    let place = Place::find(rt, path).map_err(ReplaceError::Read)?;
+    place.open(rt).map_err(ReplaceError::Read)
+}
+
 impl<'r> Replacement<'r> {
     /// Gives an open file the new text, if it still has the old one and its name.
     ///
     /// After an error the file stays as it was. [`ReplaceError`] has the causes.
     pub fn put_in(&self, rt: &HostRuntime, file: &mut OpenFile) -> Result<(), ReplaceError>
-        ensures ok { OnOk result (IsGiven self.now.old.now self.now.new.now self.now.syncs file.old file.new) }
+        ensures ok { OnOk result
+            (IsGiven self.now.old.now self.now.new.now self.now.syncs file.old file.new) }
         ensures err { OnErr result (IsGivenNothing file.old file.new) }
     {
         let done = replace(rt, file, self.old, self.new, self.syncs);
@@ -331,14 +340,5 @@ impl<'r> Replacement<'r> {
             Ok(false) => Err(ReplaceError::Changed),
             Err(error) => Err(error),
         }
-    }
-
-    /// Gives the file at this path the new text, if it still has the old one. A link is followed.
-    ///
-    /// After an error the file stays as it was. [`ReplaceError`] has the causes.
-    pub fn put(&self, rt: &HostRuntime, path: &str) -> Result<(), ReplaceError> {
-        let place = Place::find(rt, path).map_err(ReplaceError::Read)?;
-        let mut old = place.open(rt).map_err(ReplaceError::Read)?;
-        self.put_in(rt, &mut old)
     }
 }

@@ -4,14 +4,17 @@
 //! path is moved last. After an error the old texts are put back. Meanwhile a file in the root says what is being done, so that
 //! a call that is killed leaves a trace, and no second call writes.
 
+ghost use Rattle.std.specs.Prelude.{OnErr, OnOk, string_bytes, true};
+ghost use Rattle.tocmark_files.specs.Replaced.{IsGiven, IsGivenNothing};
+
 use crate::fault::Fault;
 use crate::root::{Root, joined};
 use std::fs::OpenOptions;
 use std::io::Write;
 use std::{fs, io};
-use tocmark_files::place::OpenFolder;
+use tocmark_files::place::{OpenFile, OpenFolder};
 use tocmark_files::quoted::in_quotes;
-use tocmark_files::replace::{ReplaceError, Replacement};
+use tocmark_files::replace::{ReplaceError, Replacement, open_to_replace};
 use tocmark_links::paths::folder_and_name;
 
 /// The name of the file that says what is being done.
@@ -131,30 +134,52 @@ fn begin(rt: &HostRuntime, path: &str, text: &str) -> Result<(), Fault> {
 }
 
 impl Edit {
-    /// Gives the file its new text.
-    fn put(&self, rt: &HostRuntime, root: &Root) -> Result<(), ReplaceError> {
-        let path = root
-            .full(rt.alloc(), self.path.as_str())
-            .map_err(no_memory)?;
+    /// Gives an open file its new text, if it has the old one.
+    fn put_in(&self, rt: &HostRuntime, file: &mut OpenFile) -> Result<(), ReplaceError>
+        ensures given { OnOk result (IsGiven (string_bytes self.now.old)
+            (string_bytes self.now.new) true file.old file.new) }
+        ensures stays { OnErr result (IsGivenNothing file.old file.new) }
+    {
         let replacement = Replacement {
             old: self.old.as_str(),
             new: self.new.as_str(),
             syncs: true,
         };
-        replacement.put(rt, path.as_str())
+        replacement.put_in(rt, file)
     }
 
-    /// Gives the file its old text again.
-    fn take_back(&self, rt: &HostRuntime, root: &Root) -> Result<(), ReplaceError> {
-        let path = root
-            .full(rt.alloc(), self.path.as_str())
-            .map_err(no_memory)?;
+    /// Gives an open file its old text again, if it has the new one.
+    fn take_back_in(&self, rt: &HostRuntime, file: &mut OpenFile) -> Result<(), ReplaceError>
+        ensures given { OnOk result (IsGiven (string_bytes self.now.new)
+            (string_bytes self.now.old) true file.old file.new) }
+        ensures stays { OnErr result (IsGivenNothing file.old file.new) }
+    {
         let replacement = Replacement {
             old: self.new.as_str(),
             new: self.old.as_str(),
             syncs: true,
         };
-        replacement.put(rt, path.as_str())
+        replacement.put_in(rt, file)
+    }
+
+    /// Opens its file.
+    fn opened(&self, rt: &HostRuntime, root: &Root) -> Result<OpenFile, ReplaceError> {
+        let path = root
+            .full(rt.alloc(), self.path.as_str())
+            .map_err(no_memory)?;
+        open_to_replace(rt, path.as_str())
+    }
+
+    /// Gives the file its new text.
+    fn put(&self, rt: &HostRuntime, root: &Root) -> Result<(), ReplaceError> {
+        let mut file = self.opened(rt, root)?;
+        self.put_in(rt, &mut file)
+    }
+
+    /// Gives the file its old text again.
+    fn take_back(&self, rt: &HostRuntime, root: &Root) -> Result<(), ReplaceError> {
+        let mut file = self.opened(rt, root)?;
+        self.take_back_in(rt, &mut file)
     }
 }
 
