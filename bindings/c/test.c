@@ -56,6 +56,17 @@ struct call {
   enum way way;                      /* the source is rewritten to the text's events, or compared with the text */
 };
 
+/* Structs as a later header could have them: with one more field. */
+struct later_place {
+  struct tocmark_place known;
+  size_t more;
+};
+
+struct later_style {
+  struct tocmark_style known;
+  uint32_t more;
+};
+
 static const struct tocmark_style hyphens = {.size = sizeof hyphens, .bullet = '-', .numbering = 1, .emphasis = '_'};
 
 static ptrdiff_t made(const struct call *call, uint8_t *out, size_t out_len) {
@@ -272,10 +283,14 @@ static void rewriting(void) {
   is_at(SIZE_MAX, 0, 0);
   rewrites("[\"Rule\"]", "---\n", 1, "", TOCMARK_INVALID_OPTIONS);
   is_at(SIZE_MAX, 0, 0);
-  struct tocmark_place other = {sizeof other + 1, 7, 8, 9};
-  expect(tocmark_rewrite(NULL, 0, NULL, 0, 0, NULL, 0, &other, NULL, 0), TOCMARK_NOT_JSON, "no JSON");
-  if (other.size != sizeof other + 1 || other.event != 7 || other.first_line != 8 || other.last_line != 9)
-    wrong("a place of another size is filled", NULL);
+  struct tocmark_place smaller = {sizeof smaller - 1, 7, 8, 9};
+  expect(tocmark_rewrite(NULL, 0, NULL, 0, 0, NULL, 0, &smaller, NULL, 0), TOCMARK_NOT_JSON, "no JSON");
+  if (smaller.size != sizeof smaller - 1 || smaller.event != 7 || smaller.first_line != 8 || smaller.last_line != 9)
+    wrong("a smaller place is filled", NULL);
+  struct later_place larger = {{sizeof larger, 7, 8, 9}, 10};
+  expect(tocmark_rewrite(NULL, 0, NULL, 0, 0, NULL, 0, &larger.known, NULL, 0), TOCMARK_NOT_JSON, "no JSON");
+  if (larger.known.size != sizeof larger || larger.known.event != SIZE_MAX || larger.known.first_line != 0 || larger.more != 10)
+    wrong("the place of a later header isn't filled", NULL);
   expect(tocmark_rewrite(NULL, 0, NULL, 0, 0, (const uint8_t *)"\xFF", 1, NULL, NULL, 0), TOCMARK_OPTIONS_NOT_UTF8,
          "options and no place");
 }
@@ -311,10 +326,10 @@ static void places(void) {
     is_at(1, 2, 3);
     writes_at(writers[i], "[\"Rule\"", "", TOCMARK_NOT_JSON);
     is_at(SIZE_MAX, 0, 0);
-    struct tocmark_place other = {sizeof other + 1, 7, 8, 9};
-    expect(writers[i](NULL, 0, NULL, 0, 0, NULL, 0, &other, NULL, 0), TOCMARK_NOT_JSON, "no JSON");
-    if (other.size != sizeof other + 1 || other.event != 7 || other.first_line != 8 || other.last_line != 9)
-      wrong("a place of another size is filled", NULL);
+    struct tocmark_place smaller = {sizeof smaller - 1, 7, 8, 9};
+    expect(writers[i](NULL, 0, NULL, 0, 0, NULL, 0, &smaller, NULL, 0), TOCMARK_NOT_JSON, "no JSON");
+    if (smaller.size != sizeof smaller - 1 || smaller.event != 7 || smaller.first_line != 8 || smaller.last_line != 9)
+      wrong("a smaller place is filled", NULL);
     expect(writers[i](NULL, 0, NULL, 0, 0, (const uint8_t *)"\xFF", 1, NULL, NULL, 0), TOCMARK_OPTIONS_NOT_UTF8,
            "options and no place");
   }
@@ -474,10 +489,14 @@ static void styles(void) {
   expect(formats("-   a\n", (struct tocmark_style){.size = size}, "-   a\n"), 6, "indents of the source");
   expect(formats("- a\n\n  b\n", (struct tocmark_style){.size = size, .list_indent = 4}, "-   a\n\n    b\n"), 13,
          "indented items");
+  struct later_style later = {{.size = sizeof later, .bullet = '+'}, 1};
+  uint8_t out[100];
+  expect(tocmark_format((const uint8_t *)"* a", 3, 0, &later.known, out, sizeof out), 4, "the style of a later header");
+  if (memcmp(out, "+ a\n", 4) != 0)
+    wrong("another text in the style of a later header", NULL);
   expect(formats("\xFF", style, ""), TOCMARK_NOT_UTF8, "text that is formatted");
   struct tocmark_style wrongs[] = {{.size = 0},
                                    {.size = size - 4},
-                                   {.size = size + 4},
                                    {.size = size, .bullet = 'x'},
                                    {.size = size, .delimiter = ':'},
                                    {.size = size, .numbering = 3},

@@ -66,7 +66,7 @@ enum tocmark_error {
   TOCMARK_INVALID_SOURCE_RANGE = -12, /* a range is reversed, past the end of the source, or not between characters */
   TOCMARK_FINISHED = -13,             /* events after the end; these functions never return it */
   TOCMARK_FAILED = -14,               /* a call after an error; these functions never return it */
-  TOCMARK_INVALID_STYLE = -15,        /* a style has another size, or a number that means nothing */
+  TOCMARK_INVALID_STYLE = -15,        /* a style is too small, or has a number that means nothing */
   TOCMARK_CHANGED = -16,              /* the text would parse to other events */
   TOCMARK_TOO_LONG = -17              /* the bytes for Python would be more than 2,147,483,647 */
 };
@@ -123,7 +123,7 @@ ptrdiff_t tocmark_write_checked(const uint8_t *json, size_t json_len, const uint
 
 /* Where an error is: struct tocmark_place place = {sizeof place, 0, 0, 0}; */
 struct tocmark_place {
-  uint32_t size;     /* sizeof(struct tocmark_place); a struct of another size is left alone */
+  uint32_t size;     /* sizeof(struct tocmark_place); a smaller struct is left alone */
   size_t event;      /* the number of the event, counted from 0; SIZE_MAX if it isn't known */
   size_t first_line; /* the first line of the source that is concerned, counted from 1; 0 if it isn't known */
   size_t last_line;  /* the last one */

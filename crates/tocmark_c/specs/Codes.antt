@@ -103,7 +103,7 @@ error_text n =
     else if n == 12 then codes "a range is none of the source"
     else if n == 13 then codes "events after the end"
     else if n == 14 then codes "a call after one that was refused"
-    else if n == 15 then codes "the style has another size, or a number that means nothing"
+    else if n == 15 then codes "the style is too small, or has a number that means nothing"
     else if n == 16 then codes "the document would say something else than the events"
     else if n == 17 then codes "the events are too long for Python"
     else codes "no error of tocmark"

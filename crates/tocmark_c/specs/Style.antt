@@ -1,5 +1,5 @@
 -- The style that a struct of C stands for.
-use Rattle.std.specs.Prelude.{◌≡◌, ◌==◌, ◌&&◌, if◌then◌else◌, ℕ, Bool, Option, Some, None, is_some}
+use Rattle.std.specs.Prelude.{◌≡◌, ◌==◌, ◌&&◌, nat_le, if◌then◌else◌, ℕ, Bool, Option, Some, None, is_some}
 use Rattle.tocmark_print.specs.declared.style.Bullet.{Bullet}
 use Rattle.tocmark_print.specs.declared.style.Bullet.TheVariants as bullet
 use Rattle.tocmark_print.specs.declared.style.Delimiter.{Delimiter}
@@ -94,10 +94,10 @@ list_indent_of n =
     else if n == 4 then Some indent.Four
     else None
 
--- the size of the struct is known, and each number means something
+-- the struct has all these fields, and each number means something
 abbrev pub has_style : TocmarkStyle → Bool
 has_style s =
-    s.size == 56 && is_some (bullet_of s.bullet) && is_some (delimiter_of s.delimiter)
+    nat_le 56 s.size && is_some (bullet_of s.bullet) && is_some (delimiter_of s.delimiter)
     && is_some (numbering_of s.numbering) && is_some (marker_of s.emphasis)
     && is_some (marker_of s.strong) && is_some (fence_of s.fence)
     && is_some (hard_break_of s.hard_break) && is_some (rule_of s.rule)

@@ -39,7 +39,7 @@ pub enum Cause {
     Finished,
     /// A call after one that was refused. No function of this library returns it.
     Failed,
-    /// The style has another size, or a number that means nothing.
+    /// The style is too small, or has a number that means nothing.
     InvalidStyle,
     /// The document would parse to other events.
     Changed,
@@ -172,7 +172,7 @@ pub fn error_text(code: isize) -> &'static str
         12 => "a range is none of the source",
         13 => "events after the end",
         14 => "a call after one that was refused",
-        15 => "the style has another size, or a number that means nothing",
+        15 => "the style is too small, or has a number that means nothing",
         16 => "the document would say something else than the events",
         17 => "the events are too long for Python",
         _ => "no error of tocmark",

@@ -4,7 +4,7 @@ ghost use Rattle.tocmark_c.specs.Place.{IsFilled};
 
 use tocmark_rewrite::Place;
 
-/// The size of `TocmarkPlace` in bytes.
+/// The size of `TocmarkPlace` in bytes. A later header can have a larger one.
 const SIZE: u32 = 32;
 
 /// Where an error is: an event, and lines of the source.
@@ -22,11 +22,12 @@ pub struct TocmarkPlace {
 }
 
 impl TocmarkPlace {
-    /// Stores where an error is, or that it isn't known. A struct of another size stays as it is.
+    /// Stores where an error is, or that it isn't known. A smaller struct stays as it is. Of a larger one, only these fields
+    /// change.
     pub fn fill(&mut self, place: Option<Place>)
         ensures { IsFilled self.old self.new }
     {
-        if self.size != SIZE {
+        if self.size < SIZE {
             return;
         }
         let (event, lines) = match place {

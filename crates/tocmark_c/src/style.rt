@@ -7,7 +7,7 @@ use tocmark_print::{
     Bullet, Delimiter, Fence, HardBreak, ListIndent, Marker, Numbering, Rule, Style, Tables, Wrap,
 };
 
-/// The size of `TocmarkStyle` in bytes.
+/// The size of `TocmarkStyle` in bytes. A later header can have a larger one.
 const SIZE: u32 = 56;
 
 /// The style of a formatted document. A character is its own number, and 0 is the default.
@@ -160,12 +160,14 @@ fn tables_of(code: u32) -> Option<Tables>
     }
 }
 
-/// Reads a style from C. There is none if the struct has another size, or a number that means nothing.
+/// Reads a style from C. There is none if the struct is smaller, or has a number that means nothing.
+///
+/// A larger struct has fields of a later header after these. They are ignored.
 pub fn style_of(style: &TocmarkStyle) -> Option<Style>
     ensures there { is_some result ≡ has_style style.now }
     ensures style { IfSome result (λ found. IsStyleOf style.now found) }
 {
-    if style.size != SIZE {
+    if style.size < SIZE {
         return None;
     }
     Some(Style {
