@@ -1,12 +1,14 @@
 -- Events in which bare addresses are links, as they are between angle brackets.
-use Rattle.std.specs.Prelude.{ℕ, Bool, true, false, ◌-◌, ◌==◌, ◌&&◌, ◌||◌, if◌then◌else◌, List, [], ◌∷◌, ◌++◌, length, string_bytes}
+use Rattle.std.specs.Prelude.{ℕ, Bool, true, false, not, ◌-◌, ◌==◌, ◌&&◌, ◌||◌, nat_le, if◌then◌else◌, List, [], ◌∷◌, ◌++◌, drop, length, string_bytes, take_while}
 use Rattle.std.specs.List.{fold}
 use Rattle.tocmark_event.specs.Reading.{ReadingView}
 use Rattle.tocmark_event.specs.View.{EventView, Start, End, Leaf, Text, SoftBreak, HardBreak, Rule, TaskListMarker, TagView, Emphasis, Strong, Strikethrough, Superscript, Subscript, Link, Image, CodeBlock, HtmlBlock, MetadataBlock}
 use Rattle.tocmark_event.specs.declared.event.TagEnd.{TagEnd}
 use Rattle.tocmark_event.specs.declared.event.TagEnd.TheVariants as end
-use Rattle.tocmark_read_scan.specs.Basic.{plus, byte_at, starts_at}
-use Rattle.tocmark_bare_links.specs.Lines.{ScanView, is_separator, line_added, scan_view, words_start}
+use Rattle.tocmark_read_scan.specs.Basic.{plus, byte_at, bytes_between, starts_at}
+use Rattle.tocmark_bare_links.specs.Addresses.{kept_length}
+use Rattle.tocmark_bare_links.specs.Lines.{ScanView, is_separator, line_added, part, scan_view, text_events, words_start}
+use Rattle.tocmark_bare_links.specs.Signs.{sign_of}
 use Rattle.tocmark_bare_links.specs.declared.border.Border.{Border}
 use Rattle.tocmark_bare_links.specs.declared.border.Border.TheVariants as border
 use Rattle.tocmark_bare_links.specs.declared.linker.Linker.{Linker}
@@ -89,8 +91,8 @@ brackets_after border.Block n = 0
 
 -- ---- a stretch of texts
 
--- the events so far, the stretch of texts that is begun with its range, how many containers without links are open, and
--- whether the stretch begins a line
+-- the events so far, the stretch of texts that is begun with its range, how many containers without links are open, whether the
+-- stretch begins a line, and up to where the words of addresses are told
 pub record LinkingView : Type 0 where
   pub scan : ScanView
   pub stretch : List ℕ
@@ -98,6 +100,7 @@ pub record LinkingView : Type 0 where
   pub range : ℕ × ℕ
   pub closed : ℕ
   pub edge : Bool
+  pub told : ℕ
 
 abbrev pub linking_view : Linker → LinkingView
 linking_view l = record {
@@ -107,6 +110,7 @@ linking_view l = record {
   range = l.range;
   closed = l.closed;
   edge = l.edge;
+  told = l.told;
 }
 
 -- before the first event
@@ -118,6 +122,7 @@ linking_start = record {
   range = (0, 0);
   closed = 0;
   edge = true;
+  told = 0;
 }
 
 -- the stretch has one text more
@@ -129,6 +134,7 @@ with_text l text range = record {
   range = if l.begun then (l.range.0, range.1) else range;
   closed = l.closed;
   edge = l.edge;
+  told = l.told;
 }
 
 -- a text is its source byte for byte, without escapes and references
@@ -151,11 +157,15 @@ may_end source place is_cell = is_separator (byte_at source place) || (is_cell &
 unfoldable pub opened : ℕ → ℕ → ℕ
 opened n b = if b == 91 then plus n 1 else n
 
--- a text that isn't plain stays; its brackets may be open
-unfoldable pub other_added : List ℕ → ℕ × ℕ → ScanView → ScanView
-other_added text range s = record {
+-- a text that isn't plain: where programs look for an address, they see its escapes
+unfoldable pub other_text : List ℕ → List ℕ → ℕ × ℕ → List ℕ
+other_text source text range = if (sign_of text).any then part source range.0 range.1 else text
+
+-- it is no link, and its brackets may be open
+unfoldable pub other_added : List ℕ → List ℕ → ℕ × ℕ → ScanView → ScanView
+other_added source text range s = record {
   words = record s.words { brackets = fold opened s.words.brackets text };
-  events = s.events ++ (Leaf (Text text), range) ∷ [];
+  events = s.events ++ (Leaf (Text (other_text source text range)), range) ∷ [];
 }
 
 -- the stretch is added, with links if it is plain
@@ -163,20 +173,51 @@ unfoldable pub stretch_added : List ℕ → Bool → LinkingView → ScanView
 stretch_added source is_cell l =
     if is_plain source l.stretch l.range then
     line_added l.stretch l.range.0 (may_open source l.range.0 l.edge) (may_end source l.range.1 is_cell) l.scan
-    else other_added l.stretch l.range l.scan
+    else other_added source l.stretch l.range l.scan
+
+-- a byte that doesn't end a word
+unfoldable pub goes_on : ℕ → Bool
+goes_on b = not (is_separator b)
+
+-- where the word ends that is at a place of the source
+unfoldable pub word_end : List ℕ → ℕ → ℕ
+word_end source place = plus place (length (take_while goes_on (drop place source)))
+
+-- where it ends without punctuation
+unfoldable pub tail_end : List ℕ → ℕ → ℕ
+tail_end source place = plus place (kept_length (bytes_between source place (word_end source place)))
+
+-- an address may be in the last word of the stretch, and what follows goes on in it, with its marks: they are told once for a word
+unfoldable pub has_tail : List ℕ → Bool → LinkingView → Bool
+has_tail source is_cell l =
+    (sign_of l.stretch).word && not (may_end source l.range.1 is_cell) && nat_le l.told l.range.1
+
+-- what follows in that word, as it is in the source
+abbrev pub with_tail : List ℕ → LinkingView → LinkingView
+with_tail source l = record {
+  scan = record {
+    words = l.scan.words;
+    events = l.scan.events ++ text_events source 0 l.range.1 (tail_end source l.range.1);
+  };
+  stretch = l.stretch;
+  begun = l.begun;
+  range = l.range;
+  closed = l.closed;
+  edge = l.edge;
+  told = word_end source l.range.1;
+}
+
+unfoldable pub tail_added : List ℕ → Bool → LinkingView → LinkingView
+tail_added source is_cell l = if has_tail source is_cell l then with_tail source l else l
+
+-- the stretch is added, and what its last address goes on with
+abbrev pub with_stretch : List ℕ → Bool → LinkingView → LinkingView
+with_stretch source is_cell l = tail_added source is_cell (record l { scan = stretch_added source is_cell l })
 
 -- the stretch is ended, if one is begun
 unfoldable pub stretch_ended : List ℕ → Bool → LinkingView → LinkingView
 stretch_ended source is_cell l =
-    if l.begun then record {
-      scan = stretch_added source is_cell l;
-      stretch = [];
-      begun = false;
-      range = l.range;
-      closed = l.closed;
-      edge = l.edge;
-    }
-    else l
+    if l.begun then record (with_stretch source is_cell l) { stretch = []; begun = false } else l
 
 -- ---- all events
 
@@ -192,6 +233,7 @@ with_event l event range = record {
   range = l.range;
   closed = closed_after l.closed event;
   edge = begins_line (border_of event);
+  told = l.told;
 }
 
 -- it ends the stretch

@@ -4,15 +4,17 @@ ghost use Rattle.std.specs.Prelude.{◌≡◌, if◌then◌else◌, IfOk, OnOk, 
 ghost use Rattle.std.specs.List.{fold};
 ghost use Rattle.tocmark_event.specs.Text.{text_of};
 ghost use Rattle.tocmark_event.specs.View.{event_view};
-ghost use Rattle.tocmark_bare_links.specs.Linked.{added, is_delimiter, is_plain, linked, linking_view, may_end, may_open, opened, other_added, passed, stretch_added, stretch_ended, with_event, with_text};
+ghost use Rattle.tocmark_bare_links.specs.Linked.{added, goes_on, has_tail, is_delimiter, is_plain, linked, linking_view, may_end, may_open, opened, other_added, other_text, passed, stretch_added, stretch_ended, tail_added, tail_end, with_event, with_stretch, with_tail, with_text, word_end};
 ghost use Rattle.tocmark_bare_links.specs.Lines.{scan_view, shown};
 
 use crate::border::{border_of, closed_after, is_cell_end};
-use crate::scan::{Placed, Scan};
+use crate::scan::{Placed, Scan, add_text, part};
+use crate::sign::Sign;
+use crate::trail::kept_length;
 use crate::words::{Words, is_separator};
 use std::alloc::{AllocError, Global};
 use tocmark_event::event::{CowStr, Event};
-use tocmark_read_scan::basic::{byte_at, starts_at};
+use tocmark_read_scan::basic::{byte_at, bytes_between, rest, starts_at};
 
 /// The events so far, and the stretch of texts that is begun.
 #[derive(Drop)]
@@ -26,6 +28,8 @@ pub struct Linker {
     pub closed: usize,
     /// Whether the stretch begins a line.
     pub edge: bool,
+    /// Up to where the words of addresses are told.
+    pub told: usize,
 }
 
 /// The bytes of a stretch with one text more.
@@ -91,21 +95,65 @@ fn opened_in(count: usize, text: &[u8]) -> usize
     all
 }
 
-/// Adds a text as it is.
+/// A text that isn't plain. Where programs look for an address, it is the source of it, because they see its escapes.
+#[tactic(auto, unfolding(crate::specs::Linked::other_text))]
+fn other_text(
+    alloc: Global,
+    source: &[u8],
+    text: &str,
+    range: (usize, usize),
+) -> Result<CowStr<'static>, AllocError>
+    ensures { IfOk result (λ it. text_of it ≡ other_text source.now text.now range) }
+{
+    if Sign::of(text.as_bytes()).any {
+        part(alloc, source, range.0, range.1)
+    } else {
+        Ok(CowStr::Owned(String::from_str(alloc, text)?))
+    }
+}
+
+/// Adds a text that isn't plain.
 #[tactic(auto, unfolding(crate::specs::Linked::other_added))]
 fn add_other(
     alloc: Global,
     scan: &mut Scan,
+    source: &[u8],
     text: &str,
     range: (usize, usize),
 ) -> Result<(), AllocError>
     ensures { OnOk result (scan_view scan.new
-        ≡ other_added text.now range (scan_view scan.old)) }
+        ≡ other_added source.now text.now range (scan_view scan.old)) }
 {
-    let copy = CowStr::Owned(String::from_str(alloc, text)?);
+    let copy = other_text(alloc, source, text, range)?;
     scan.events.push((Event::Text(copy), range))?;
     scan.words.brackets = opened_in(scan.words.brackets, text.as_bytes());
     Ok(())
+}
+
+/// Whether a byte doesn't end a word.
+#[tactic(auto, unfolding(crate::specs::Linked::goes_on))]
+fn goes_on(byte: u8) -> bool
+    ensures { result ≡ goes_on byte }
+{
+    !is_separator(byte)
+}
+
+/// Where the word ends that is at a place of the source.
+#[tactic(auto, unfolding(crate::specs::Linked::word_end))]
+fn word_end(source: &[u8], place: usize) -> usize
+    ensures { result ≡ word_end source.now place }
+{
+    let word = rest(source, place);
+    place.saturating_add(word.iter().take_while(|byte| goes_on(**byte)).count())
+}
+
+/// Where it ends without punctuation.
+#[tactic(auto, unfolding(crate::specs::Linked::tail_end))]
+fn tail_end(source: &[u8], place: usize) -> usize
+    ensures { result ≡ tail_end source.now place }
+{
+    let word = bytes_between(source, place, word_end(source, place));
+    place.saturating_add(kept_length(word))
 }
 
 impl Linker {
@@ -130,6 +178,7 @@ impl Linker {
         ensures range { self.new.range ≡ self.old.range }
         ensures closed { self.new.closed ≡ self.old.closed }
         ensures edge { self.new.edge ≡ self.old.edge }
+        ensures told { self.new.told ≡ self.old.told }
     {
         let (text, (start, end)) = (self.stretch.as_str(), self.range);
         if is_plain(source, text.as_bytes(), self.range) {
@@ -138,8 +187,33 @@ impl Linker {
             self.scan
                 .add_line(alloc, text.as_bytes(), start, opens, ends)
         } else {
-            add_other(alloc, &mut self.scan, text, self.range)
+            add_other(alloc, &mut self.scan, source, text, self.range)
         }
+    }
+
+    /// Whether an address may be in the last word of the stretch, and what follows goes on in it, with its marks. Such words are
+    /// told once.
+    #[tactic(auto, unfolding(crate::specs::Linked::has_tail))]
+    fn has_tail(&self, source: &[u8], is_cell: bool) -> bool
+        ensures { result ≡ has_tail source.now is_cell (linking_view self.now) }
+    {
+        let end = self.range.1;
+        Sign::of(self.stretch.as_bytes()).word && !may_end(source, end, is_cell) && self.told <= end
+    }
+
+    /// Adds what follows in the last word of the stretch as it is in the source, if an address may go on there.
+    #[tactic(auto, unfolding(crate::specs::Linked::tail_added))]
+    fn add_tail(&mut self, alloc: Global, source: &[u8], is_cell: bool) -> Result<(), AllocError>
+        ensures { OnOk result (linking_view self.new
+            ≡ tail_added source.now is_cell (linking_view self.old)) }
+    {
+        if self.has_tail(source, is_cell) {
+            let end = self.range.1;
+            let tail = tail_end(source, end);
+            add_text(alloc, &mut self.scan.events, source, 0, end, tail)?;
+            self.told = word_end(source, end);
+        }
+        Ok(())
     }
 
     /// Ends the stretch, if one is begun.
@@ -150,6 +224,7 @@ impl Linker {
     {
         if self.begun {
             self.add_stretch(alloc, source, is_cell)?;
+            self.add_tail(alloc, source, is_cell)?;
             self.stretch.clear();
             self.begun = false;
         }
@@ -218,6 +293,7 @@ pub(crate) fn linked(
         range: (0, 0),
         closed: 0,
         edge: true,
+        told: 0,
     };
     for pair in events {
         linker.add(alloc, source.as_bytes(), pair)?;

@@ -23,7 +23,12 @@ pub struct Scan {
 
 /// A part of a text.
 #[tactic(auto, unfolding(crate::specs::Lines::part))]
-fn part(alloc: Global, text: &[u8], start: usize, end: usize) -> Result<CowStr<'static>, AllocError>
+pub(crate) fn part(
+    alloc: Global,
+    text: &[u8],
+    start: usize,
+    end: usize,
+) -> Result<CowStr<'static>, AllocError>
     ensures { IfOk result (λ it. text_of it ≡ part text.now start end) }
 {
     let bytes = bytes_between(text, start, end);
@@ -86,7 +91,7 @@ fn push_text(
 
 /// Adds a part of a text, if there is one.
 #[tactic(auto, unfolding(crate::specs::Lines::text_events))]
-fn add_text(
+pub(crate) fn add_text(
     alloc: Global,
     events: &mut Vec<Placed>,
     text: &[u8],
