@@ -179,9 +179,13 @@ stretch_added source is_cell l =
 unfoldable pub goes_on : ℕ → Bool
 goes_on b = not (is_separator b)
 
+-- the length of the word that bytes begin with
+unfoldable pub word_length : List ℕ → ℕ
+word_length bytes = length (take_while goes_on bytes)
+
 -- where the word ends that is at a place of the source
 unfoldable pub word_end : List ℕ → ℕ → ℕ
-word_end source place = plus place (length (take_while goes_on (drop place source)))
+word_end source place = plus place (word_length (drop place source))
 
 -- where it ends without punctuation
 unfoldable pub tail_end : List ℕ → ℕ → ℕ

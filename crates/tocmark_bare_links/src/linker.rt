@@ -4,7 +4,7 @@ ghost use Rattle.std.specs.Prelude.{◌≡◌, if◌then◌else◌, IfOk, OnOk, 
 ghost use Rattle.std.specs.List.{fold};
 ghost use Rattle.tocmark_event.specs.Text.{text_of};
 ghost use Rattle.tocmark_event.specs.View.{event_view};
-ghost use Rattle.tocmark_bare_links.specs.Linked.{added, goes_on, has_tail, is_delimiter, is_plain, linked, linking_view, may_end, may_open, opened, other_added, other_text, passed, stretch_added, stretch_ended, tail_added, tail_end, with_event, with_stretch, with_tail, with_text, word_end};
+ghost use Rattle.tocmark_bare_links.specs.Linked.{added, goes_on, has_tail, is_delimiter, is_plain, linked, linking_view, may_end, may_open, opened, other_added, other_text, passed, stretch_added, stretch_ended, tail_added, tail_end, with_event, with_stretch, with_tail, with_text, word_end, word_length};
 ghost use Rattle.tocmark_bare_links.specs.Lines.{scan_view, shown};
 
 use crate::border::{border_of, closed_after, is_cell_end};
@@ -138,13 +138,20 @@ fn goes_on(byte: u8) -> bool
     !is_separator(byte)
 }
 
+/// The length of the word that bytes begin with.
+#[tactic(auto, unfolding(crate::specs::Linked::word_length))]
+fn word_length(bytes: &[u8]) -> usize
+    ensures { result ≡ word_length bytes.now }
+{
+    bytes.iter().take_while(|byte| goes_on(**byte)).count()
+}
+
 /// Where the word ends that is at a place of the source.
 #[tactic(auto, unfolding(crate::specs::Linked::word_end))]
 fn word_end(source: &[u8], place: usize) -> usize
     ensures { result ≡ word_end source.now place }
 {
-    let word = rest(source, place);
-    place.saturating_add(word.iter().take_while(|byte| goes_on(**byte)).count())
+    place.saturating_add(word_length(rest(source, place)))
 }
 
 /// Where it ends without punctuation.
