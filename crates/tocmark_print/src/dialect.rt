@@ -499,6 +499,29 @@ impl Printer<'_> {
         false
     }
 
+    /// Whether items are indented by four columns, and a list has a line that Python-Markdown reads as one after the list,
+    /// because it is indented by less: the definition of a link after a blank line, or of a term.
+    fn has_outer_line(&self, start: usize, end: usize) -> bool {
+        if !matches!(self.look.list_indent, ListIndent::Four) {
+            return false;
+        }
+        let source = self.source;
+        let first = source.line_of(start).saturating_add(1);
+        let last = source.line_of(end.saturating_sub(1));
+        let mut is_apart = false;
+        for line in first..=last {
+            let text = source.line(line);
+            let bare = text.trim_start_matches(' ');
+            let indent = text.len().saturating_sub(bare.len());
+            let is_definition = is_apart && bare.starts_with('[') && begins_link_definition(bare);
+            if 0 < indent && indent < 4 && (is_definition || bare.starts_with(": ")) {
+                return true;
+            }
+            is_apart = bare.is_empty();
+        }
+        false
+    }
+
     /// Whether a quote begins with a callout of MkDocs, as `>? a`, or with text that is hidden, as `>! a`: no blank is
     /// between its sign and the mark. `>![a](b)` is an image.
     fn begins_marked_quote(&self, start: usize) -> bool {
@@ -540,6 +563,7 @@ impl Printer<'_> {
                     || self.begins_fenced_quote(start)
                     || self.has_foreign_line(start, end, true)
                     || self.has_task_below_marker(start, end)
+                    || (kind == Kind::List && self.has_outer_line(start, end))
                     || self.ends_openly(start, end)
             }
             Kind::List => self.ends_openly(start, end),

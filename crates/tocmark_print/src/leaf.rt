@@ -9,7 +9,7 @@ use crate::part::{Mark, Part};
 use crate::piece::{INDENT, Piece, Pieces, ends_with_backslash, push_repeated};
 use crate::printer::Printer;
 use crate::source::{is_blank, without_blanks, without_end_blanks};
-use crate::style::{Rule, Wrap};
+use crate::style::{ListIndent, Rule, Wrap};
 use crate::width::width;
 use std::alloc::AllocError;
 use std::mem;
@@ -216,6 +216,12 @@ impl<'d> Printer<'d> {
         }
     }
 
+    /// Whether a quote begins beside an item's marker, and items are indented by four columns. Python-Markdown reads only one
+    /// line of such a quote.
+    fn is_line_of_quote(&self) -> bool {
+        matches!(self.look.list_indent, ListIndent::Four) && self.page.quotes_beside_marker()
+    }
+
     /// Prints a paragraph's lines.
     pub(crate) fn print_text(
         &mut self,
@@ -232,7 +238,9 @@ impl<'d> Printer<'d> {
         self.keep_lazy_inlines(part, events);
         let wrap = self.look.wrap;
         let (_, end) = part.range(events.1.saturating_sub(1));
-        if wrap != Wrap::Keep && has_meant_breaks(self.source.slice(start, end)) {
+        if wrap != Wrap::Keep
+            && (self.is_line_of_quote() || has_meant_breaks(self.source.slice(start, end)))
+        {
             self.look.wrap = Wrap::Keep;
         }
         let (pieces, _) = self.pieces_of(part, events, start)?;

@@ -401,6 +401,18 @@ impl Page {
         (first, others)
     }
 
+    /// Whether the next line has the marker of an item and, after it, that of a block quote.
+    pub(crate) fn quotes_beside_marker(&self) -> bool {
+        let mut has_marker = false;
+        for frame in self.outer.iter() {
+            if has_marker && frame.kind == Kind::Quote {
+                return true;
+            }
+            has_marker = has_marker || (frame.kind == Kind::Item && frame.owes_sign());
+        }
+        has_marker && self.top.kind == Kind::Quote
+    }
+
     /// Puts after the text what the containers have before the next line. From here on their first lines are printed.
     fn push_prefixes(&mut self) -> Result<(), AllocError> {
         let mut signs = self.signs.as_str();

@@ -9,6 +9,7 @@ use crate::page::{Kind, Page};
 use crate::part::{Mark, Opening, Part, is_inline};
 use crate::piece::Pieces;
 use crate::source::Source;
+use crate::style::ListIndent;
 use std::alloc::{AllocError, Global};
 
 /// Prefixes may have so many bytes in a block, and four for each byte of it.
@@ -91,6 +92,8 @@ impl<'d> Printer<'d> {
         }
         let is_pair = match (last, kind) {
             (Kind::Html, Kind::Html) | (Kind::Footnote, Kind::Footnote) => true,
+            // to Python-Markdown the lines can be one paragraph
+            (Kind::Html, _) => matches!(self.look.list_indent, ListIndent::Four),
             (Kind::Definition, Kind::Definition) => true,
             (Kind::Title, Kind::Title | Kind::Definition) => true,
             (Kind::Definitions, _) => self.look.is_literal || kind == Kind::Rule,
