@@ -119,6 +119,10 @@ https = 104 ∷ 116 ∷ 116 ∷ 112 ∷ 115 ∷ 58 ∷ 47 ∷ 47 ∷ []
 abbrev pub http : List ℕ
 http = 104 ∷ 116 ∷ 116 ∷ 112 ∷ 58 ∷ 47 ∷ 47 ∷ []
 
+-- "ftp://"
+abbrev pub ftp : List ℕ
+ftp = 102 ∷ 116 ∷ 112 ∷ 58 ∷ 47 ∷ 47 ∷ []
+
 -- "www."
 abbrev pub www : List ℕ
 www = 119 ∷ 119 ∷ 119 ∷ 46 ∷ []
@@ -128,5 +132,6 @@ unfoldable pub address_of : List ℕ → Option Address
 address_of word =
     if starts_at word 0 https then of_kind Web (web_length word 8)
     else if starts_at word 0 http then of_kind Web (web_length word 7)
+    else if starts_at word 0 ftp then of_kind Web (web_length word 6)
     else if starts_at word 0 www then of_kind Named (web_length word 4)
     else of_kind Mail (mail_length word)

@@ -168,13 +168,6 @@ other_added source text range s = record {
   events = s.events ++ (Leaf (Text (other_text source text range)), range) ∷ [];
 }
 
--- the stretch is added, with links if it is plain
-unfoldable pub stretch_added : List ℕ → Bool → LinkingView → ScanView
-stretch_added source is_cell l =
-    if is_plain source l.stretch l.range then
-    line_added l.stretch l.range.0 (may_open source l.range.0 l.edge) (may_end source l.range.1 is_cell) l.scan
-    else other_added source l.stretch l.range l.scan
-
 -- a byte that doesn't end a word
 unfoldable pub goes_on : ℕ → Bool
 goes_on b = not (is_separator b)
@@ -187,21 +180,41 @@ word_length bytes = length (take_while goes_on bytes)
 unfoldable pub word_end : List ℕ → ℕ → ℕ
 word_end source place = plus place (word_length (drop place source))
 
--- where it ends without punctuation
-unfoldable pub tail_end : List ℕ → ℕ → ℕ
-tail_end source place = plus place (kept_length (bytes_between source place (word_end source place)))
+-- the bytes of a range
+abbrev pub bytes_of : List ℕ → ℕ × ℕ → List ℕ
+bytes_of source range = bytes_between source range.0 range.1
 
--- an address may be in the last word of the stretch, and what follows goes on in it, with its marks: they are told once for a word
-unfoldable pub has_tail : List ℕ → Bool → LinkingView → Bool
-has_tail source is_cell l =
-    (sign_of l.stretch).word && not (may_end source l.range.1 is_cell) && nat_le l.told l.range.1
+-- where the last word of a range begins
+unfoldable pub word_start : List ℕ → ℕ × ℕ → ℕ
+word_start source range = plus range.0 (sign_of (bytes_of source range)).start
 
--- what follows in that word, as it is in the source
+-- where that word, with what goes on in it after the range, ends without punctuation
+unfoldable pub tail_end : List ℕ → ℕ × ℕ → ℕ
+tail_end source range =
+    let start = word_start source range in plus start (kept_length (bytes_between source start (word_end source range.1)))
+
+-- programs look for an address in the last word of the stretch; a word is looked at once
+unfoldable pub is_looked_at : List ℕ → LinkingView → Bool
+is_looked_at source l = (sign_of (bytes_of source l.range)).word && nat_le l.told l.range.1
+
+-- an address ends in the stretch: what follows in its word is punctuation
+unfoldable pub is_ended : List ℕ → LinkingView → Bool
+is_ended source l = is_looked_at source l && nat_le (tail_end source l.range) l.range.1
+
+-- the stretch is added, with links if it is plain
+unfoldable pub stretch_added : List ℕ → Bool → LinkingView → ScanView
+stretch_added source is_cell l =
+    if is_plain source l.stretch l.range then
+    line_added l.stretch l.range.0 (may_open source l.range.0 l.edge)
+    (may_end source l.range.1 is_cell || is_ended source l) l.scan
+    else other_added source l.stretch l.range l.scan
+
+-- what goes on in the last word of the stretch with its marks, as it is in the source
 abbrev pub with_tail : List ℕ → LinkingView → LinkingView
 with_tail source l = record {
   scan = record {
     words = l.scan.words;
-    events = l.scan.events ++ text_events source 0 l.range.1 (tail_end source l.range.1);
+    events = l.scan.events ++ text_events source 0 l.range.1 (tail_end source l.range);
   };
   stretch = l.stretch;
   begun = l.begun;
@@ -211,8 +224,10 @@ with_tail source l = record {
   told = word_end source l.range.1;
 }
 
+-- it is added if an address may go on there
 unfoldable pub tail_added : List ℕ → Bool → LinkingView → LinkingView
-tail_added source is_cell l = if has_tail source is_cell l then with_tail source l else l
+tail_added source is_cell l =
+    if not (may_end source l.range.1 is_cell) && is_looked_at source l then with_tail source l else l
 
 -- the stretch is added, and what its last address goes on with
 abbrev pub with_stretch : List ℕ → Bool → LinkingView → LinkingView

@@ -1,6 +1,7 @@
 -- Whether other programs look for an address in a text.
-use Rattle.std.specs.Prelude.{ℕ, Bool, true, false, not, ◌==◌, ◌&&◌, ◌||◌, List}
+use Rattle.std.specs.Prelude.{ℕ, Bool, true, false, not, ◌==◌, ◌&&◌, ◌||◌, if◌then◌else◌, List}
 use Rattle.std.specs.List.{fold}
+use Rattle.tocmark_read_scan.specs.Basic.{plus}
 use Rattle.tocmark_bare_links.specs.Lines.{is_separator}
 use Rattle.tocmark_bare_links.specs.declared.sign.Sign.{Sign}
 
@@ -15,6 +16,8 @@ unfoldable pub sign_step : Sign → ℕ → Sign
 sign_step s b = record {
   any = s.any || is_sign s b;
   word = not (is_separator b) && (s.word || is_sign s b);
+  start = if is_separator b then plus s.place 1 else s.start;
+  place = plus s.place 1;
   first = s.second;
   second = s.third;
   third = b;
@@ -22,8 +25,8 @@ sign_step s b = record {
 
 -- before the first byte
 abbrev pub sign_start : Sign
-sign_start = record { any = false; word = false; first = 0; second = 0; third = 0 }
+sign_start = record { any = false; word = false; start = 0; place = 0; first = 0; second = 0; third = 0 }
 
--- whether a text has one of them, and whether its last word does
+-- whether a text has one of them, and whether its last word does, and where that begins
 unfoldable pub sign_of : List ℕ → Sign
 sign_of text = fold sign_step sign_start text

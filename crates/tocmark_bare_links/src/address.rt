@@ -11,7 +11,7 @@ use tocmark_read_scan::class::{Class, run_end};
 /// What an address begins with.
 #[derive(Clone, Copy)]
 pub enum Kind {
-    /// `http://` or `https://`
+    /// `http://`, `https://` or `ftp://`
     Web,
     /// `www.`
     Named,
@@ -103,6 +103,8 @@ pub(crate) fn address_of(word: &[u8]) -> Option<Address>
         of_kind(Kind::Web, web_length(word, 8))
     } else if starts_at(word, 0, b"http://") {
         of_kind(Kind::Web, web_length(word, 7))
+    } else if starts_at(word, 0, b"ftp://") {
+        of_kind(Kind::Web, web_length(word, 6))
     } else if starts_at(word, 0, b"www.") {
         of_kind(Kind::Named, web_length(word, 4))
     } else {

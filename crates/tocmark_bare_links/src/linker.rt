@@ -4,7 +4,7 @@ ghost use Rattle.std.specs.Prelude.{◌≡◌, if◌then◌else◌, IfOk, OnOk, 
 ghost use Rattle.std.specs.List.{fold};
 ghost use Rattle.tocmark_event.specs.Text.{text_of};
 ghost use Rattle.tocmark_event.specs.View.{event_view};
-ghost use Rattle.tocmark_bare_links.specs.Linked.{added, goes_on, has_tail, is_delimiter, is_plain, linked, linking_view, may_end, may_open, opened, other_added, other_text, passed, stretch_added, stretch_ended, tail_added, tail_end, with_event, with_stretch, with_tail, with_text, word_end, word_length};
+ghost use Rattle.tocmark_bare_links.specs.Linked.{added, goes_on, is_delimiter, is_ended, is_looked_at, is_plain, linked, linking_view, may_end, may_open, opened, other_added, other_text, passed, stretch_added, stretch_ended, tail_added, tail_end, with_event, with_stretch, with_tail, with_text, word_end, word_length, word_start};
 ghost use Rattle.tocmark_bare_links.specs.Lines.{scan_view, shown};
 
 use crate::border::{border_of, closed_after, is_cell_end};
@@ -154,13 +154,23 @@ fn word_end(source: &[u8], place: usize) -> usize
     place.saturating_add(word_length(rest(source, place)))
 }
 
-/// Where it ends without punctuation.
-#[tactic(auto, unfolding(crate::specs::Linked::tail_end))]
-fn tail_end(source: &[u8], place: usize) -> usize
-    ensures { result ≡ tail_end source.now place }
+/// Where the last word of a range begins.
+#[tactic(auto, unfolding(crate::specs::Linked::word_start))]
+fn word_start(source: &[u8], range: (usize, usize)) -> usize
+    ensures { result ≡ word_start source.now range }
 {
-    let word = bytes_between(source, place, word_end(source, place));
-    place.saturating_add(kept_length(word))
+    let sign = Sign::of(bytes_between(source, range.0, range.1));
+    range.0.saturating_add(sign.start)
+}
+
+/// Where that word, with what goes on in it after the range, ends without punctuation.
+#[tactic(auto, unfolding(crate::specs::Linked::tail_end))]
+fn tail_end(source: &[u8], range: (usize, usize)) -> usize
+    ensures { result ≡ tail_end source.now range }
+{
+    let start = word_start(source, range);
+    let word = bytes_between(source, start, word_end(source, range.1));
+    start.saturating_add(kept_length(word))
 }
 
 impl Linker {
@@ -175,6 +185,23 @@ impl Linker {
         Ok(())
     }
 
+    /// Whether programs look for an address in the last word of the stretch. A word is looked at once.
+    #[tactic(auto, unfolding(crate::specs::Linked::is_looked_at))]
+    fn is_looked_at(&self, source: &[u8]) -> bool
+        ensures { result ≡ is_looked_at source.now (linking_view self.now) }
+    {
+        let (start, end) = self.range;
+        Sign::of(bytes_between(source, start, end)).word && self.told <= end
+    }
+
+    /// Whether an address ends in the stretch: what follows in its word is punctuation.
+    #[tactic(auto, unfolding(crate::specs::Linked::is_ended))]
+    fn is_ended(&self, source: &[u8]) -> bool
+        ensures { result ≡ is_ended source.now (linking_view self.now) }
+    {
+        self.is_looked_at(source) && tail_end(source, self.range) <= self.range.1
+    }
+
     /// Adds the stretch.
     #[tactic(auto, unfolding(crate::specs::Linked::stretch_added))]
     fn add_stretch(&mut self, alloc: Global, source: &[u8], is_cell: bool) -> Result<(), AllocError>
@@ -187,10 +214,11 @@ impl Linker {
         ensures edge { self.new.edge ≡ self.old.edge }
         ensures told { self.new.told ≡ self.old.told }
     {
-        let (text, (start, end)) = (self.stretch.as_str(), self.range);
+        let (start, end) = self.range;
+        let ends = may_end(source, end, is_cell) || self.is_ended(source);
+        let text = self.stretch.as_str();
         if is_plain(source, text.as_bytes(), self.range) {
             let opens = may_open(source, start, self.edge);
-            let ends = may_end(source, end, is_cell);
             self.scan
                 .add_line(alloc, text.as_bytes(), start, opens, ends)
         } else {
@@ -198,25 +226,15 @@ impl Linker {
         }
     }
 
-    /// Whether an address may be in the last word of the stretch, and what follows goes on in it, with its marks. Such words are
-    /// told once.
-    #[tactic(auto, unfolding(crate::specs::Linked::has_tail))]
-    fn has_tail(&self, source: &[u8], is_cell: bool) -> bool
-        ensures { result ≡ has_tail source.now is_cell (linking_view self.now) }
-    {
-        let end = self.range.1;
-        Sign::of(self.stretch.as_bytes()).word && !may_end(source, end, is_cell) && self.told <= end
-    }
-
-    /// Adds what follows in the last word of the stretch as it is in the source, if an address may go on there.
+    /// Adds what goes on in the last word of the stretch with its marks, as it is in the source, if an address may go on there.
     #[tactic(auto, unfolding(crate::specs::Linked::tail_added))]
     fn add_tail(&mut self, alloc: Global, source: &[u8], is_cell: bool) -> Result<(), AllocError>
         ensures { OnOk result (linking_view self.new
             ≡ tail_added source.now is_cell (linking_view self.old)) }
     {
-        if self.has_tail(source, is_cell) {
-            let end = self.range.1;
-            let tail = tail_end(source, end);
+        let end = self.range.1;
+        if !may_end(source, end, is_cell) && self.is_looked_at(source) {
+            let tail = tail_end(source, self.range);
             add_text(alloc, &mut self.scan.events, source, 0, end, tail)?;
             self.told = word_end(source, end);
         }

@@ -13,6 +13,10 @@ pub struct Sign {
     pub any: bool,
     /// Whether one of them is in its last word.
     pub word: bool,
+    /// Where its last word begins.
+    pub start: usize,
+    /// Where the front ends.
+    pub place: usize,
     /// Its last three bytes, or zeros before its first byte.
     pub first: u8,
     pub second: u8,
@@ -36,9 +40,16 @@ impl Sign {
         ensures { result ≡ sign_step self byte }
     {
         let ends = self.is_ended(byte);
+        let place = self.place.saturating_add(1);
         Sign {
             any: self.any || ends,
             word: !is_separator(byte) && (self.word || ends),
+            start: if is_separator(byte) {
+                place
+            } else {
+                self.start
+            },
+            place,
             first: self.second,
             second: self.third,
             third: byte,
@@ -53,6 +64,8 @@ impl Sign {
         let mut sign = Sign {
             any: false,
             word: false,
+            start: 0,
+            place: 0,
             first: 0,
             second: 0,
             third: 0,
