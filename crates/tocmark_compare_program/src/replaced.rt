@@ -24,7 +24,7 @@ pub struct Replaced<'r, R> {
 }
 
 impl<'r, R: PartReader> Replaced<'r, R> {
-    /// Gives an open file the new text, if it still has the old one and its name. Both are the same under the terms of the call.
+    /// Gives an open file the new text, if it still has the old one and its name. Both are the same under the terms of a call.
     ///
     /// After an error the file stays as it was.
     fn put_in(&self, rt: &HostRuntime, file: &mut OpenFile) -> Result<(), ReplaceError>

@@ -35,21 +35,21 @@ use decide::{Decision, decided};
 use fault::Fault;
 use list::add_list;
 use lookup::Refused;
-use outcome::{Outcome, first_change, outcome_of, status_of};
-use replace::{Change, replace_text};
+use outcome::{Outcome, status_of};
+use replace::format_file;
 use report::{Form, Report};
 use search::{Found, Origin, Search, Target};
 use std::alloc::{AllocError, Global};
 use std::io::{BufWriter, IsTerminal, Read, Stderr, Write};
 use std::process::ExitCode;
 use std::{env, fs, io};
-use stream::{Passed, READER, format_stream};
+use stream::{Passed, READER, format_stream, passed_by};
 use text::text_in;
 use tocmark_command::program::Program;
 use tocmark_command::streams::{wants_color, write_out};
 use tocmark_command::syntax::syntax_help;
 use tocmark_files::diff::{Look, unified_diff};
-use tocmark_files::place::{OpenFile, Place};
+use tocmark_files::place::Place;
 use tocmark_files::quoted::Quoted;
 use tocmark_files::replace::remove_left;
 use tocmark_settings::Settings;
@@ -94,18 +94,6 @@ fn shown_change(
     Ok(unified_diff(alloc, old, new, look)?)
 }
 
-/// What became of a text by a decision that is carried out.
-fn passed_by(decision: Decision) -> Passed {
-    let outcome = outcome_of(&decision);
-    let line = first_change(&decision);
-    let Decision { left, .. } = decision;
-    Passed {
-        outcome,
-        line,
-        left,
-    }
-}
-
 /// Shows what a decision would change in the text of a file. The name alone isn't shown where a program is told.
 fn show_change(rt: &HostRuntime, work: Work, name: &str, decision: &Decision) -> Result<(), Fault> {
     let Some(new) = &decision.new else {
@@ -131,33 +119,14 @@ fn preview(
     Ok(passed_by(decision))
 }
 
-/// Formats a file in place. A file whose text stays isn't touched.
-fn format_file(
-    rt: &HostRuntime,
-    work: Work,
-    settings: Settings,
-    file: &mut OpenFile,
-    text: String,
-) -> Result<Passed, Fault> {
-    let decision = decided(rt.alloc(), text, &READER, settings)?;
-    let change = Change {
-        reader: &READER,
-        decision: &decision,
-        syncs: work.task.syncs,
-    };
-    replace_text(rt, file, &change).map_err(Fault::Replace)?;
-    Ok(passed_by(decision))
-}
-
 /// Formats a file that was found, or shows what would change in it.
 fn done_in(rt: &HostRuntime, work: Work, target: &Target, place: &Place) -> Result<Passed, Fault> {
     let mut file = place.open(rt).map_err(Fault::Read)?;
-    let text = text_in(rt.alloc(), &mut file.file)?;
-    if work.task.is_dry() {
-        preview(rt, work, target.settings, target.path.as_str(), text)
-    } else {
-        format_file(rt, work, target.settings, &mut file, text)
+    if !work.task.is_dry() {
+        return format_file(rt, &mut file, &READER, target, work.task.syncs);
     }
+    let text = text_in(rt.alloc(), &mut file.file)?;
+    preview(rt, work, target.settings, target.path.as_str(), text)
 }
 
 /// Formats standard input to standard output.

@@ -2,12 +2,17 @@
 
 ghost use Rattle.std.specs.Prelude.{◌≡◌, MatchOption, OnErr, OnOk, string_bytes};
 ghost use Rattle.tocmark_files.specs.Replaced.{IsGiven, IsGivenNothing, steps_on};
-ghost use Rattle.tocmark_format_program.specs.Formats.{KeepsWhatItSays};
+ghost use Rattle.tocmark_format_program.specs.Formats.{IsFormattedBy, KeepsWhatItSays};
 
-use crate::decide::Decision;
+use crate::decide::{Decision, decided};
+use crate::fault::Fault;
+use crate::search::Target;
+use crate::stream::{Passed, passed_by};
+use crate::text::text_in;
 use tocmark_event::reader::Reader;
 use tocmark_files::place::OpenFile;
 use tocmark_files::replace::{ReplaceError, Replacement};
+use tocmark_judge::PartReader;
 
 /// A decision that is carried out, and the reader of its texts.
 #[derive(Drop)]
@@ -43,4 +48,30 @@ pub fn replace_text<R: Reader>(
         syncs: change.syncs,
     };
     replacement.put_in(rt, file)
+}
+
+/// Formats an open file by the settings of a target. A file whose text stays isn't touched. After an `Err` the file is as it
+/// was.
+pub fn format_file<R: PartReader>(
+    rt: &HostRuntime,
+    file: &mut OpenFile,
+    reader: &R,
+    target: &Target,
+    syncs: bool,
+) -> Result<Passed, Fault>
+    ensures given { OnOk result (IsFormattedBy target.now.settings (R.reading reader.now) syncs
+        file.old file.new) }
+    ensures stays { OnErr result (IsGivenNothing file.old file.new) }
+{
+    let text = text_in(rt.alloc(), &mut file.file)?;
+    let decision = decided(rt.alloc(), text, reader, target.settings)?;
+    let change = Change {
+        reader,
+        decision: &decision,
+        syncs,
+    };
+    match replace_text(rt, file, &change) {
+        Ok(()) => Ok(passed_by(decision)),
+        Err(error) => Err(Fault::Replace(error)),
+    }
 }

@@ -30,6 +30,18 @@ pub struct Passed {
     pub left: Vec<Left>,
 }
 
+/// What became of a text by a decision that is carried out.
+pub fn passed_by(decision: Decision) -> Passed {
+    let outcome = outcome_of(&decision);
+    let line = first_change(&decision);
+    let Decision { left, .. } = decision;
+    Passed {
+        outcome,
+        line,
+        left,
+    }
+}
+
 /// A text as it is formatted, and what became of it.
 fn formatted_text<R: PartReader>(
     alloc: Global,
