@@ -6,7 +6,7 @@ use Rattle.std.proofs.lemmas.Bool.{cases_lt}
 use Rattle.std.proofs.lemmas.Bool.Decides.{eqb_tells}
 use Rattle.std.proofs.lemmas.Cmp.{nat_list_eq_equiv}
 use Rattle.std.proofs.lemmas.Slice.Eq.{bytes_eq-Decides}
-use Rattle.tocmark_links.specs.Anchors.{numbered, is_taken, IsFirstFree, HasItsName, names_after, AreNumbered, unnumbered}
+use Rattle.tocmark_links.specs.Anchors.{numbered, is_taken, reserved, IsFirstFree, HasItsName, names_after, AreNumbered, unnumbered}
 use Rattle.tocmark_links.specs.Numbering.{Counts, IsFirstFrom, IsGivenBy}
 use Rattle.tocmark_links.specs.Slug.{slug_of}
 use Rattle.tocmark_links.specs.declared.anchors.Anchor.{Anchor}
@@ -146,18 +146,18 @@ module _ {Y S : Type 0} (slugs : Slugs) where
 
   -- the anchors so far have their names
   pub record Reached (before xs : List Anchor) (i : ℕ) (taken : HashMap (String Y) ℕ S) : Type 0 where
-    pub numbered : AreNumbered slugs [] (take i xs)
-    pub counts : Counts slugs (names-of [] (take i xs)) taken
+    pub numbered : AreNumbered slugs (reserved slugs) (take i xs)
+    pub counts : Counts slugs (names-of (reserved slugs) (take i xs)) taken
     pub kept : map unnumbered xs ≡ map unnumbered before
 
   pub reached-more : (before xs : List Anchor) (i : ℕ) (d new : Anchor) (m n : HashMap (String Y) ℕ S) → i < length xs → IsGivenBy slugs m n new → unnumbered new ≡ unnumbered (slice_index_or xs i d) → Reached before xs i m → Reached before (slice_set xs i new) (suc i) n
   reached-more before xs i d new m n l given same h =
-      let is = given (names-of [] (take i xs)) h.counts in
+      let is = given (names-of (reserved slugs) (take i xs)) h.counts in
       record {
-        numbered = numbered-more slugs [] xs i new l h.numbered is.0;
-        counts = subst (λ names. Counts slugs names n) (sym (names-more [] xs i new l)) is.1;
+        numbered = numbered-more slugs (reserved slugs) xs i new l h.numbered is.0;
+        counts = subst (λ names. Counts slugs names n) (sym (names-more (reserved slugs) xs i new l)) is.1;
         kept = kept-more unnumbered xs i d new l same ∙ h.kept;
       }
 
-  pub reached-all : (before xs : List Anchor) (i : ℕ) (m : HashMap (String Y) ℕ S) → length xs ≤ i → Reached before xs i m → AreNumbered slugs [] xs
-  reached-all before xs i m l h = subst (AreNumbered slugs []) (take_all i xs l) h.numbered
+  pub reached-all : (before xs : List Anchor) (i : ℕ) (m : HashMap (String Y) ℕ S) → length xs ≤ i → Reached before xs i m → AreNumbered slugs (reserved slugs) xs
+  reached-all before xs i m l h = subst (AreNumbered slugs (reserved slugs)) (take_all i xs l) h.numbered

@@ -19,6 +19,12 @@ joint Python = 95
 abbrev pub numbered : Slugs → List ℕ → ℕ → List ℕ
 numbered slugs base number = if number == 0 then base else base ++ (joint slugs ∷ decimal number)
 
+-- the names that are taken before the first heading: Python-Markdown gives no heading an empty one
+abbrev pub reserved : Slugs → List (List ℕ)
+reserved GitHub = []
+reserved MdBook = []
+reserved Python = [] ∷ []
+
 -- whether a name is one of those that are taken
 abbrev pub is_taken : List (List ℕ) → List ℕ → Bool
 is_taken names name = list_any (bytes_eq name) names

@@ -1,8 +1,8 @@
 //! The anchors of a file: those of its headings, numbered where the same one is taken, and those of its HTML.
 
-ghost use Rattle.std.specs.Prelude.{◌≡◌, ◌∷◌, List, [], ℕ, IfOk, OnOk, map, string_bytes, unwrap_or};
+ghost use Rattle.std.specs.Prelude.{◌≡◌, ◌∷◌, List, ℕ, IfOk, OnOk, map, string_bytes, unwrap_or};
 ghost use Rattle.std.specs.HashMap.{get_by_text};
-ghost use Rattle.tocmark_links.specs.Anchors.{numbered, AreNumbered, unnumbered};
+ghost use Rattle.tocmark_links.specs.Anchors.{numbered, reserved, AreNumbered, unnumbered};
 ghost use Rattle.tocmark_links.specs.Numbering.{Counts, IsFirstFrom, IsNext, IsGivenBy};
 
 use crate::slug::{Slugs, slug};
@@ -39,7 +39,7 @@ pub struct Anchor {
 /// Each anchor that a heading has, and the last number after it.
 type Taken = HashMap<String, usize>;
 
-/// Takes an anchor that a heading names itself.
+/// Takes an anchor that no heading after it can get.
 fn take(alloc: Global, taken: &mut Taken, name: &str) -> Result<(), AllocError>
     ensures { OnOk result ((slugs : Slugs) (names : List (List ℕ)) → Counts slugs names taken.old
         → Counts slugs (name.now ∷ names) taken.new) }
@@ -48,6 +48,20 @@ fn take(alloc: Global, taken: &mut Taken, name: &str) -> Result<(), AllocError>
         taken.insert(String::from_str(alloc, name)?, 0)?;
     }
     Ok(())
+}
+
+/// The anchors that are taken before the first heading: Python-Markdown gives no heading an empty one.
+fn reserved(alloc: Global, slugs: Slugs) -> Result<Taken, AllocError>
+    ensures { IfOk result (λ taken. Counts slugs (reserved slugs) taken) }
+{
+    let mut taken: Taken = HashMap::new(alloc);
+    match slugs {
+        Slugs::GitHub | Slugs::MdBook => Ok(taken),
+        Slugs::Python => {
+            take(alloc, &mut taken, "")?;
+            Ok(taken)
+        }
+    }
 }
 
 /// The last number after an anchor; 0 if it isn't taken.
@@ -125,10 +139,10 @@ fn give(
 
 /// Gives the headings of a page their anchors.
 pub fn number(alloc: Global, slugs: Slugs, anchors: &mut [Anchor]) -> Result<(), AllocError>
-    ensures numbered { OnOk result (AreNumbered slugs [] anchors.new) }
+    ensures numbered { OnOk result (AreNumbered slugs (reserved slugs) anchors.new) }
     ensures kept { OnOk result (map unnumbered anchors.new ≡ map unnumbered anchors.old) }
 {
-    let mut taken: Taken = HashMap::new(alloc);
+    let mut taken = reserved(alloc, slugs)?;
     for anchor in anchors.iter_mut() {
         give(alloc, slugs, &mut taken, anchor)?;
     }

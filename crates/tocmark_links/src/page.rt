@@ -1,7 +1,7 @@
 //! What one Markdown text has: its links and its anchors.
 
-ghost use Rattle.std.specs.Prelude.{[], IfOk};
-ghost use Rattle.tocmark_links.specs.Anchors.{AreNumbered};
+ghost use Rattle.std.specs.Prelude.{IfOk};
+ghost use Rattle.tocmark_links.specs.Anchors.{reserved, AreNumbered};
 
 use crate::anchors::{Anchor, AnchorKind, number};
 use crate::html::{Value, values};
@@ -572,7 +572,7 @@ fn numbered_page(
     links: Vec<Link>,
     mut anchors: Vec<Anchor>,
 ) -> Result<Page, AllocError>
-    ensures { IfOk result (λ page. AreNumbered slugs [] page.anchors.items) }
+    ensures { IfOk result (λ page. AreNumbered slugs (reserved slugs) page.anchors.items) }
 {
     number(alloc, slugs, &mut anchors)?;
     Ok(Page { links, anchors })
@@ -584,7 +584,8 @@ impl Page {
     /// Links are inline links and images, definitions of links, used or not, and `href` and `src` of HTML. Anchors are those of
     /// headings, `{#id}` and `{: #id}` after their words, and `id` and `name` of HTML. A heading that names no anchor itself has
     /// the slug of its words, with the first number after it by which no heading before it has the same anchor. Of words for
-    /// mdBook, `--` outside of code is a dash. It fails if memory runs out.
+    /// mdBook, `--` outside of code is a dash. Under Python-Markdown's rule, headings of whose words nothing is left are
+    /// `_1`, `_2` and so on. It fails if memory runs out.
     ///
     /// ```
     /// let page = Page::read(alloc, "# One\n\n[two](b.md#two)\n", flags, Slugs::GitHub)?;
@@ -596,7 +597,7 @@ impl Page {
         flags: ParserOptions,
         slugs: Slugs,
     ) -> Result<Page, AllocError>
-        ensures { IfOk result (λ page. AreNumbered slugs [] page.anchors.items) }
+        ensures { IfOk result (λ page. AreNumbered slugs (reserved slugs) page.anchors.items) }
     {
         let mut collecting = Collecting::new(alloc, text, slugs);
         let (blocks, definitions) = READER.blocks_and_definitions(alloc, text, flags)?;
