@@ -17,9 +17,13 @@ use tocmark_links::tree::Led;
 const NO_MARKDOWN: &str =
     "is no Markdown file: its name would end with .md, .markdown, .mdown or .mkd";
 
-/// What is said of a named path at which no page is read.
+/// What is said of a folder in which no page is read.
 const NO_PAGES: &str =
-    "warning: no Markdown file is checked here; .gitignore and --exclude leave out some";
+    "warning: there is no Markdown file in this folder, or .gitignore and --exclude leave out all of them";
+
+/// What is said of a named path that isn't looked into.
+const LEFT_OUT: &str =
+    "warning: .gitignore or --exclude leaves this out, so nothing is checked here";
 
 /// How many links were checked.
 #[derive(Clone, Copy)]
@@ -112,10 +116,16 @@ impl Site {
         false
     }
 
-    /// Says that no page is checked at what a word of the command line names.
-    fn warn_of_none(&self, rt: &HostRuntime, word: &str) -> Result<(), AllocError> {
+    /// Says why no page is checked at what a word of the command line names: the path in the tree is left out, or is that of a
+    /// folder without pages.
+    fn warn_of_none(&self, rt: &HostRuntime, path: &str, word: &str) -> Result<(), AllocError> {
         let name = Quoted(word);
-        let line = format!(in rt.alloc(); "{name}: {NO_PAGES}")?;
+        let why = if self.leaves_out(path) {
+            LEFT_OUT
+        } else {
+            NO_PAGES
+        };
+        let line = format!(in rt.alloc(); "{name}: {why}")?;
         LINKS.complain(&mut rt.stderr(), &line.as_str());
         Ok(())
     }
@@ -132,17 +142,27 @@ impl Site {
             return Err(Fault::path(rt.alloc(), word, NO_MARKDOWN));
         }
         if !self.has_pages(path.as_str()) && (is_folder || self.leaves_out(path.as_str())) {
-            self.warn_of_none(rt, word)?;
+            self.warn_of_none(rt, path.as_str(), word)?;
         }
         Ok(path)
     }
 
+    /// The path in the tree of its root, which is checked if no word names anything.
+    fn asked_root(&self, rt: &HostRuntime) -> Result<String, AllocError> {
+        let root = String::new(rt.alloc());
+        if !self.has_pages(root.as_str()) {
+            let shown = self.root.shown(rt.alloc(), root.as_str())?;
+            self.warn_of_none(rt, root.as_str(), shown.as_str())?;
+        }
+        Ok(root)
+    }
+
     /// The paths in the tree of what words of the command line name; that of the root, if there are none. Standard error names
-    /// each word that can't be checked.
+    /// each word that can't be checked, and each folder without pages.
     pub fn asked_paths(&mut self, rt: &HostRuntime, words: &[&str]) -> Result<Vec<String>, Fault> {
         let mut asked = Vec::new(rt.alloc());
         if words.is_empty() {
-            asked.push(String::new(rt.alloc()))?;
+            asked.push(self.asked_root(rt)?)?;
         }
         for word in words {
             match self.asked_path(rt, word) {
