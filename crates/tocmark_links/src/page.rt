@@ -38,8 +38,7 @@ pub struct Link {
     pub kind: LinkKind,
     /// Where it leads, without escapes and character references.
     pub destination: String,
-    /// The bytes of its destination in the text, with `<` and `>` if it has them; `None`, if that place isn't found, as for a
-    /// destination on another line of a quote than its link's text.
+    /// The bytes of its destination in the text, with `<` and `>` if it has them; `None`, if that place isn't found.
     pub place: Option<(usize, usize)>,
     /// The line of the text where it begins, from 1 on.
     pub line: usize,
@@ -138,16 +137,26 @@ fn number_of(level: HeadingLevel) -> usize {
     }
 }
 
-/// The place of the destination of an inline link, whose text ends at a byte: after the next `](`.
-fn destination_place(bytes: &[u8], from: usize, end: usize) -> Option<(usize, usize)> {
+/// Where the destination of an inline link begins, whose text ends at a byte: after the next `](`.
+fn destination_start(bytes: &[u8], from: usize, end: usize) -> Option<usize> {
     for at in from..end {
         if starts_at(bytes, at, b"](") {
-            let start = run_end(bytes, at.saturating_add(2), Class::White);
-            let word = destination(bytes, start)?;
-            return Some((start, word.next));
+            return Some(run_end(bytes, at.saturating_add(2), Class::White));
         }
     }
     None
+}
+
+/// The byte after the signs of quotes at a byte, with the white space after each.
+fn after_signs(bytes: &[u8], from: usize, end: usize) -> usize {
+    let mut at = from;
+    for _ in from..end {
+        if byte_at(bytes, at) != b'>' {
+            break;
+        }
+        at = run_end(bytes, at.saturating_add(1), Class::White);
+    }
+    at
 }
 
 /// The bytes of a destination without `<` and `>`.
@@ -160,23 +169,42 @@ pub(crate) fn without_brackets(bytes: &[u8], place: (usize, usize)) -> (usize, u
     }
 }
 
-/// A place whose bytes stand for a destination; otherwise none.
-fn checked_place(
+/// The place of a destination that begins at a byte, if its bytes stand for this one.
+fn place_at(
     alloc: Global,
     bytes: &[u8],
-    place: Option<(usize, usize)>,
-    destination: &str,
+    at: usize,
+    wanted: &str,
 ) -> Result<Option<(usize, usize)>, AllocError> {
-    let Some(place) = place else {
+    let Some(word) = destination(bytes, at) else {
         return Ok(None);
     };
+    let place = (at, word.next);
     let (start, end) = without_brackets(bytes, place);
     let found = unescaped(alloc, Names::All, bytes_between(bytes, start, end))?;
-    if found.as_slice() == destination.as_bytes() {
+    if found.as_slice() == wanted.as_bytes() {
         Ok(Some(place))
     } else {
         Ok(None)
     }
+}
+
+/// The place of the destination of an inline link between two bytes. If that begins a line of a quote, the signs of the quote are
+/// before it.
+fn destination_place(
+    alloc: Global,
+    bytes: &[u8],
+    (from, end): (usize, usize),
+    wanted: &str,
+) -> Result<Option<(usize, usize)>, AllocError> {
+    let Some(start) = destination_start(bytes, from, end) else {
+        return Ok(None);
+    };
+    let place = place_at(alloc, bytes, start, wanted)?;
+    if place.is_some() {
+        return Ok(place);
+    }
+    place_at(alloc, bytes, after_signs(bytes, start, end), wanted)
 }
 
 /// The words of a heading before `{#id}` or `{: #id}`, and that id.
@@ -308,8 +336,8 @@ impl<'t> Collecting<'t> {
         } = link;
         if is_inline {
             let bytes = self.text.as_bytes();
-            let place = destination_place(bytes, self.end.max(start), end);
-            let place = checked_place(self.alloc, bytes, place, destination.as_str())?;
+            let within = (self.end.max(start), end);
+            let place = destination_place(self.alloc, bytes, within, destination.as_str())?;
             self.links.push(FoundLink {
                 kind,
                 destination,
