@@ -62,8 +62,56 @@ fn begins_at_slash(path: &str, end: &str) -> bool {
     }
 }
 
-/// Whether a line names a path.
+/// Whether a path can begin after this front of a line: after what ends another one, with `/` or `./` in front of it or without.
+fn begins_after(front: &str) -> bool {
+    let front = match front.strip_suffix('/') {
+        Some(above) => above.strip_suffix('.').unwrap_or(above),
+        None => front,
+    };
+    front.is_empty() || front.ends_with(ends_path)
+}
+
+/// Whether a path ends before this rest of a line. A name alone, without an ending, counts only as that of a folder.
+fn ends_before(path: &str, rest: &str) -> bool {
+    if rest.starts_with('/') {
+        return true;
+    }
+    let is_end = rest.is_empty() || rest.starts_with(ends_path);
+    is_end && (path.contains('/') || path.contains('.'))
+}
+
+/// Whether a line has a path as a whole, with blanks or signs in it.
+fn has_path(line: &str, path: &str) -> bool {
+    for (at, _) in line.match_indices(path) {
+        let (front, rest) = line.split_at(at);
+        if begins_after(front) && ends_before(path, rest.strip_prefix(path).unwrap_or("")) {
+            return true;
+        }
+    }
+    false
+}
+
+/// Whether a line has a path as a whole, from some folder above that on, with or without `.md`.
+fn has_whole(line: &str, old: &str) -> bool {
+    let mut path = old;
+    for _ in 0..old.len() {
+        let stem = path.strip_suffix(".md").unwrap_or(path);
+        if has_path(line, path) || (stem.contains('/') && has_path(line, stem)) {
+            return true;
+        }
+        match path.split_once('/') {
+            Some((_, below)) => path = below,
+            None => break,
+        }
+    }
+    false
+}
+
+/// Whether a line names a path. A path with what ends others in it, such as a blank, is looked for as a whole.
 fn is_named(line: &str, old: &str) -> bool {
+    if old.contains(ends_path) {
+        return has_whole(line, old);
+    }
     for word in line.split(ends_path) {
         if !word.is_empty() && names(word, old) {
             return true;
