@@ -12,7 +12,7 @@ use crate::paths::{folder_and_name, push_part, relative, resolved};
 use crate::slug::Slugs;
 use indexmap::{IndexMap, IndexSet};
 use std::alloc::{AllocError, Global};
-use strsim::levenshtein;
+use strsim::osa_distance;
 
 /// How a path names the place that it leads to.
 #[derive(Clone, Copy)]
@@ -147,7 +147,13 @@ fn in_lower_case(alloc: Global, name: &str) -> Result<String, AllocError> {
     Ok(lower)
 }
 
-/// The first of the names that is spelled most like another one, if at most so many characters differ.
+/// How many characters of a name can differ from another one that is like it: a third of them.
+fn most_of(name: &str) -> usize {
+    name.chars().count() / 3
+}
+
+/// The first of the names that is spelled most like another one, if at most so many characters differ. Two neighbours in the
+/// wrong order count as one.
 fn most_alike(
     alloc: Global,
     names: &IndexSet<String>,
@@ -161,7 +167,7 @@ fn most_alike(
     let mut found = None;
     for name in names.iter().take(COMPARED) {
         if name.len() <= LONGEST {
-            let distance = levenshtein(alloc, wanted, name.as_str())?;
+            let distance = osa_distance(alloc, wanted, name.as_str())?;
             if distance < least {
                 least = distance;
                 found = Some(name.as_str());
@@ -188,7 +194,7 @@ impl Tree {
         Tree::of_site(alloc, Slugs::GitHub)
     }
 
-    /// A tree without files, of which the site is made whose anchors these are.
+    /// A tree without files, for the site whose anchors these are.
     pub fn of_site(alloc: Global, slugs: Slugs) -> Tree {
         Tree {
             alloc,
@@ -482,7 +488,7 @@ impl Tree {
         let Some(names) = self.by_folder.get(folder) else {
             return Ok(None);
         };
-        let Some(found) = most_alike(self.alloc, names, name, stem(name).len() / 3)? else {
+        let Some(found) = most_alike(self.alloc, names, name, most_of(stem(name)))? else {
             return Ok(None);
         };
         let mut path = String::from_str(self.alloc, folder)?;
@@ -490,14 +496,16 @@ impl Tree {
         Ok(Some(path))
     }
 
-    /// What is nearest to where a broken link leads. For a path, that is one with the same name in any folder, or else the one in
-    /// its folder that is spelled most alike. For an anchor, it is the anchor of its page that is spelled most alike.
+    /// What is nearest to where a broken link leads; `None` if nothing is near. It fails if memory runs out.
+    ///
+    /// For a path, that is one with the same name in any folder, or else the one in its folder that is spelled most alike. For an
+    /// anchor, it is the anchor of its page that is spelled most alike. Of those, a third of the characters differ at most.
     pub fn nearest(&self, led: &Led) -> Result<Option<String>, AllocError> {
         match led {
             Led::Nowhere { path } => self.nearest_path(path.as_str()),
             Led::NoAnchor { path, anchor } => match self.entries.get(path.as_str()) {
                 Some(Entry::Page(names)) => {
-                    most_alike(self.alloc, names, anchor.as_str(), anchor.len() / 2)
+                    most_alike(self.alloc, names, anchor.as_str(), most_of(anchor.as_str()))
                 }
                 _ => Ok(None),
             },
