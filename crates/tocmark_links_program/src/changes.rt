@@ -12,6 +12,10 @@ use tocmark_links::moved::relocated;
 use tocmark_links::moves::Moves;
 use tocmark_links::page::{Link, Page};
 
+/// What is said of a line with a link that would lead to another heading, or to none.
+const ASTRAY: &str =
+    "with these words, a link of this line would lead elsewhere; nothing was changed, so choose others";
+
 /// Why destinations change.
 #[derive(Drop)]
 pub enum Reason {
@@ -40,7 +44,7 @@ impl Site {
             Err(Astray::OutOfMemory) => Err(Fault::OutOfMemory),
             Err(Astray::Elsewhere) => {
                 let shown = self.root.shown(alloc, from)?;
-                Err(Fault::Astray(in_quotes(alloc, shown.as_str())?, link.line))
+                Err(Fault::Line(in_quotes(alloc, shown.as_str())?, link.line, ASTRAY))
             }
         }
     }

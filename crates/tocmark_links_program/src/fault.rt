@@ -9,6 +9,14 @@ use tocmark_links::changed;
 /// What is said of a file without a place for its contents.
 const NO_CONTENTS: &str = "has no line <!-- toc --> with a line <!-- tocstop --> below it";
 
+/// What is said of a line that would parse differently in more than what is changed.
+const MISREAD: &str =
+    "this block would parse differently; nothing was changed, so edit it yourself first";
+
+/// What is said of a line where more than a list is between the lines for the contents of a file.
+const NO_LIST: &str =
+    "only a list can be between <!-- toc --> and <!-- tocstop -->; nothing was changed";
+
 /// What is said of a path at which nothing is.
 pub const MISSING: &str = "there is no such file or folder";
 
@@ -22,10 +30,8 @@ pub enum Fault {
     Unreadable(String, io::Error),
     /// A file and its first line that isn't UTF-8.
     NotUtf8(String, usize),
-    /// A file, and a line of it that would parse differently in more than what is changed.
-    Misread(String, usize),
-    /// A file, and a line of it where more than a list is between the lines for its contents.
-    NoList(String, usize),
+    /// A file, a line of it, and why nothing is changed.
+    Line(String, usize, &'static str),
     /// A file that isn't replaced, and why. All others are as they were.
     NotReplaced(String, ReplaceError),
     /// A path that can't be moved or made, and why. All files are as they were.
@@ -36,12 +42,6 @@ pub enum Fault {
     Running(String, String),
     /// A place of the command line that names no heading, and one that is near.
     NoHeading(String, Option<String>),
-    /// A file, and a line of it with a link that would lead to another heading, or to none.
-    Astray(String, usize),
-    /// A file, and a line of it whose heading can't have the new words, but can have others.
-    Words(String, usize),
-    /// A file, and a line of it where `<!-- toc -->` or `<!-- tocstop -->` doesn't begin the line.
-    Indented(String, usize),
     Output(io::Error),
     /// Everything is changed, but standard output can't say so.
     Unreported(io::Error),
@@ -94,12 +94,12 @@ impl Fault {
 pub fn fault_of(path: String, fault: changed::Fault) -> Fault {
     match fault {
         changed::Fault::OutOfMemory => Fault::OutOfMemory,
-        changed::Fault::Misread { line } => Fault::Misread(path, line),
+        changed::Fault::Misread { line } => Fault::Line(path, line, MISREAD),
         changed::Fault::NoWords => Fault::Usage(
             "the words of a heading are one line, and not empty",
         ),
         changed::Fault::NoContents => Fault::Path(path, NO_CONTENTS),
-        changed::Fault::NoList { line } => Fault::NoList(path, line),
+        changed::Fault::NoList { line } => Fault::Line(path, line, NO_LIST),
     }
 }
 
@@ -110,14 +110,7 @@ impl fmt::Display for Fault {
             Fault::Path(path, why) => write!(f, "{path}: {why}"),
             Fault::Unreadable(path, error) => write!(f, "{path}: cannot be read: {error}"),
             Fault::NotUtf8(path, line) => write!(f, "{path}: line {line} is not UTF-8"),
-            Fault::Misread(path, line) => write!(
-                f,
-                "{path}:{line}: this block would parse differently; nothing was changed, so edit it yourself first"
-            ),
-            Fault::NoList(path, line) => write!(
-                f,
-                "{path}:{line}: only a list can be between <!-- toc --> and <!-- tocstop -->; nothing was changed"
-            ),
+            Fault::Line(path, line, why) => write!(f, "{path}:{line}: {why}"),
             Fault::NotReplaced(path, error) => write!(f, "{path}: {error}; nothing was changed"),
             Fault::NotMoved(path, error) => {
                 write!(f, "{path}: cannot be moved: {error}; nothing was changed")
@@ -134,18 +127,6 @@ impl fmt::Display for Fault {
                 write!(f, "{place}: no heading has this anchor; {near} is near")
             }
             Fault::NoHeading(place, None) => write!(f, "{place}: no heading has this anchor"),
-            Fault::Words(path, line) => write!(
-                f,
-                "{path}:{line}: not all of these words would be read as the heading's; nothing was changed, so choose others"
-            ),
-            Fault::Astray(path, line) => write!(
-                f,
-                "{path}:{line}: with these words, a link of this line would lead elsewhere; nothing was changed, so choose others"
-            ),
-            Fault::Indented(path, line) => write!(
-                f,
-                "{path}:{line}: <!-- toc --> and <!-- tocstop --> have to begin their lines; nothing was changed"
-            ),
             Fault::Output(error) => write!(f, "standard output cannot be written: {error}"),
             Fault::Unreported(error) => write!(
                 f,

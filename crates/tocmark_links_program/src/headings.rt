@@ -33,6 +33,14 @@ const TAKEN: &str =
 const ASTRAY: &str =
     "with these words, the anchor of another heading would lead elsewhere; nothing was changed, so choose other words";
 
+/// What is said of a heading that can't have the new words, but can have others.
+const WORDS: &str =
+    "not all of these words would be read as the heading's; nothing was changed, so choose others";
+
+/// What is said of a line that `<!-- toc -->` or `<!-- tocstop -->` doesn't begin.
+const INDENTED: &str =
+    "<!-- toc --> and <!-- tocstop --> have to begin their lines; nothing was changed";
+
 /// The heading of a page that has an anchor.
 fn heading_of<'p>(page: &'p Page, name: &str) -> Option<&'p Anchor> {
     for anchor in &page.anchors {
@@ -105,7 +113,7 @@ fn contents_fault(file: String, text: &str, fault: changed::Fault) -> Fault {
         changed::Fault::Misread { .. } | changed::Fault::NoContents
     );
     if is_of_place && let Some(line) = indented_line(text) {
-        return Fault::Indented(file, line);
+        return Fault::Line(file, line, INDENTED);
     }
     fault_of(file, fault)
 }
@@ -152,12 +160,12 @@ impl Site {
         let file = in_quotes(alloc, shown)?;
         let is_line = !words.is_empty() && !words.contains('\n') && !words.contains('\r');
         if is_line && matches!(fault, changed::Fault::NoWords) {
-            return Err(Fault::Words(file, heading.line));
+            return Err(Fault::Line(file, heading.line, WORDS));
         }
         if let changed::Fault::Misread { line } = &fault
             && with_heading(alloc, old, flags, heading, "x").is_ok()
         {
-            return Err(Fault::Words(file, *line));
+            return Err(Fault::Line(file, *line, WORDS));
         }
         Err(fault_of(file, fault))
     }
