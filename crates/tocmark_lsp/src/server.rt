@@ -123,6 +123,9 @@ const ABILITIES: &str = "\"textDocumentSync\":{\"openClose\":true,\"change\":2,\
 \"completionProvider\":{\"triggerCharacters\":[\"(\",\"/\",\"#\",\"[\"]},\
 \"workspace\":{\"fileOperations\":{\"willRename\":{\"filters\":[{\"scheme\":\"file\",\"pattern\":{\"glob\":\"**/*\"}}]}}}";
 
+/// What the server is, as JSON.
+const INFO: &str = "\"serverInfo\":{\"name\":\"tocmark-lsp\",\"version\":\"0.1.0\"}";
+
 /// What has a client say which files change, as JSON: Markdown files, and those that say how documents are formatted.
 const WATCHED: &str =
     "{\"registrations\":[{\"id\":\"files\",\"method\":\"workspace/didChangeWatchedFiles\",\
@@ -427,19 +430,13 @@ impl Server {
 
     /// How texts are read that have no configuration.
     fn terms(&self) -> Terms {
-        Terms {
-            flags: self.settings.format.flags,
-            slugs: self.settings.slugs,
-        }
+        Terms::of_site(self.settings.format.flags, self.settings.slugs)
     }
 
     /// How a document is read, by its configuration if that is right.
     fn terms_by(&self, configured: &Result<Configured, Unknown>) -> Terms {
         match configured {
-            Ok(configured) => Terms {
-                flags: configured.settings.flags,
-                slugs: self.settings.slugs,
-            },
+            Ok(configured) => Terms::of_site(configured.settings.flags, self.settings.slugs),
             Err(_) => self.terms(),
         }
     }
@@ -533,7 +530,7 @@ impl Server {
             "true"
         };
         let answer = format!(in self.alloc;
-            "{{\"capabilities\":{{\"positionEncoding\":\"{name}\",\"renameProvider\":{renames},{ABILITIES}}},\"serverInfo\":{{\"name\":\"tocmark-lsp\",\"version\":\"0.1.0\"}}}}"
+            "{{\"capabilities\":{{\"positionEncoding\":\"{name}\",\"renameProvider\":{renames},{ABILITIES}}},{INFO}}}"
         )?;
         self.settings = settings;
         self.client = client;

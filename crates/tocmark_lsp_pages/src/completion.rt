@@ -130,7 +130,11 @@ impl Items {
         self.count = self.count.saturating_add(1);
         write!(
             self.json,
-            "{{\"label\":{text},\"kind\":{kind},\"detail\":{detail},\"sortText\":\"{number:03}\",\"textEdit\":{{\"range\":{span},\"newText\":{text}}}}}"
+            "{{\"label\":{text},\"kind\":{kind},\"detail\":{detail},\"sortText\":\"{number:03}\","
+        )?;
+        write!(
+            self.json,
+            "\"textEdit\":{{\"range\":{span},\"newText\":{text}}}}}"
         )
     }
 

@@ -276,7 +276,7 @@ impl<'a, F: Files> Asking<'a, F> {
 
     /// Where a destination leads.
     pub(crate) fn led_to(&self, page: &Page, destination: &str) -> Result<Led, AllocError> {
-        let mut tree = Tree::new(self.alloc());
+        let mut tree = Tree::of_site(self.alloc(), self.gathering.terms.slugs);
         let path = self.place().path.as_str();
         tree.add(path, Some(page))?;
         self.gathering.add_targets(&mut tree, destination)?;

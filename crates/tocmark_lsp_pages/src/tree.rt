@@ -33,11 +33,28 @@ pub trait Files {
 /// What is after a link's path in the path of a page that it can lead to.
 const FORMS: [&str; 4] = ["", ".md", "/README.md", "/index.md"];
 
+/// The names that the page of a folder can have.
+const FOLDER_PAGES: [&str; 2] = ["README.md", "index.md"];
+
 /// How pages are read.
 #[derive(Clone, Copy)]
 pub struct Terms {
     pub flags: ParserOptions,
     pub slugs: Slugs,
+}
+
+impl Terms {
+    /// How the pages of a site are read under these flags: mdBook always reads attributes of headings.
+    pub fn of_site(flags: ParserOptions, slugs: Slugs) -> Terms {
+        let more = match slugs {
+            Slugs::MdBook => ParserOptions::ENABLE_HEADING_ATTRIBUTES,
+            Slugs::GitHub | Slugs::Python => ParserOptions(0),
+        };
+        Terms {
+            flags: ParserOptions(flags.0 | more.0),
+            slugs,
+        }
+    }
 }
 
 /// Where a document is: the root of its tree, and its path from there on.
@@ -161,6 +178,20 @@ impl<F: Files> Gathering<'_, F> {
         }
     }
 
+    /// Adds the pages of a folder that a site calls by this path of an index.
+    fn add_folder_pages(&self, tree: &mut Tree, path: &str) -> Result<(), AllocError> {
+        let (folder, name) = folder_and_name(path);
+        if name != "index.md" && name != "index.html" {
+            return Ok(());
+        }
+        for page in &FOLDER_PAGES {
+            if let Some(path) = resolved(self.alloc, folder, page)? {
+                self.add(tree, path.as_str())?;
+            }
+        }
+        Ok(())
+    }
+
     /// Adds what a destination can lead to.
     pub(crate) fn add_targets(&self, tree: &mut Tree, destination: &str) -> Result<(), AllocError> {
         let written = parts(destination).path;
@@ -171,6 +202,7 @@ impl<F: Files> Gathering<'_, F> {
             return Ok(());
         };
         self.add(tree, path.as_str())?;
+        self.add_folder_pages(tree, path.as_str())?;
         let stem = stem(path.as_str());
         for form in &FORMS {
             let path = format!(in self.alloc; "{stem}{form}")?;
@@ -181,7 +213,7 @@ impl<F: Files> Gathering<'_, F> {
 
     /// The tree of a page and the files that its links lead to.
     pub(crate) fn tree(&self, page: &Page) -> Result<Tree, AllocError> {
-        let mut tree = Tree::new(self.alloc);
+        let mut tree = Tree::of_site(self.alloc, self.terms.slugs);
         tree.add(self.place.path.as_str(), Some(page))?;
         for link in &page.links {
             self.add_targets(&mut tree, link.destination.as_str())?;

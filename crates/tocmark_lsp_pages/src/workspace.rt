@@ -81,7 +81,7 @@ impl<F: Files> Workspace<'_, F> {
     pub(crate) fn site(&self, root: &str) -> Result<(Site, Vec<String>), AllocError> {
         let mut site = Site {
             root: String::from_str(self.alloc, root)?,
-            tree: Tree::new(self.alloc),
+            tree: Tree::of_site(self.alloc, self.terms.slugs),
         };
         let mut paths = Vec::new(self.alloc);
         if root == self.root {
