@@ -83,8 +83,9 @@ fn ends_before(path: &str, rest: &str) -> bool {
 /// Whether a line has a path as a whole, with blanks or signs in it.
 fn has_path(line: &str, path: &str) -> bool {
     for (at, _) in line.match_indices(path) {
-        let (front, rest) = line.split_at(at);
-        if begins_after(front) && ends_before(path, rest.strip_prefix(path).unwrap_or("")) {
+        let front = line.get(..at).unwrap_or("");
+        let rest = line.get(at..).and_then(|rest| rest.strip_prefix(path));
+        if begins_after(front) && ends_before(path, rest.unwrap_or("")) {
             return true;
         }
     }
