@@ -522,7 +522,8 @@ static ptrdiff_t compares(const char *old, const char *new, uint32_t flags, uint
 }
 
 static void comparing(void) {
-  static const char linked[] = "[a](/b)", defined[] = "[a][]\n\n[a]: /b";
+  static const char linked[] = "[a](/b)", defined[] = "[a][]\n\n[a]: /b", bare[] = "see http://a.b/c";
+  static const char angled[] = "see <http://a.b/c>";
   expect(compares("", "", 0, 0, "[]"), 2, "two empty texts");
   expect(compares("*  a\n*  _b_", "- a\n- *b*\n", 0, 0, "[]"), 2, "another spelling");
   expect(compares("\xEF\xBB\xBF" "a", "a", 0, 0, "[]"), 2, "a byte order mark");
@@ -532,6 +533,11 @@ static void comparing(void) {
   expect(compares("# a", "## a", 0, TOCMARK_ALLOW_LEVELS, "[]"), 2, "a level that may differ");
   expect(compares("\n# a", "## a", 0, ~TOCMARK_ALLOW_LEVELS, level), sizeof level - 1, "a level that may not differ");
   expect(compares(linked, defined, 0, TOCMARK_ALLOW_UNRENDERED, "[]"), 2, "what no page shows");
+  expect(compares(bare, angled, TOCMARK_GFM, TOCMARK_ALLOW_UNRENDERED | TOCMARK_BARE_LINKS, "[]"), 2, "a bare address");
+  expect(compares("x@y.zz", "<x@y.zz>", 0, TOCMARK_BARE_LINKS, "[]"), 2, "a bare mail address");
+  expect(tocmark_compare((const uint8_t *)bare, strlen(bare), (const uint8_t *)angled, strlen(angled), TOCMARK_GFM,
+                         TOCMARK_ALLOW_UNRENDERED, NULL, 0) > 2,
+         1, "a bare address that is text");
   expect(compares("a b", "a\nb", 0, TOCMARK_ALLOW_WRAP, "[]"), 2, "where lines break");
   expect(compares("~~a~~", "~~b~~", 0, TOCMARK_ALLOW_TEXT, "[]"), 2, "words");
   expect(tocmark_compare((const uint8_t *)"~~a~~", 5, (const uint8_t *)"a", 1, TOCMARK_GFM, TOCMARK_ALLOW_TEXT, NULL, 0) > 2, 1,

@@ -260,6 +260,10 @@ ptrdiff_t tocmark_format_also(const uint8_t *text, size_t text_len, uint32_t fla
 /* What no page shows: how links are spelled and defined, and whether code is fenced or indented. */
 #define TOCMARK_ALLOW_UNRENDERED (TOCMARK_ALLOW_LABELS | TOCMARK_ALLOW_FENCES | TOCMARK_ALLOW_DEFINITIONS)
 
+/* Another bit of `allowed`: web and mail addresses in texts are links, as GitHub shows them. With TOCMARK_GFM and
+ * TOCMARK_ALLOW_UNRENDERED | TOCMARK_BARE_LINKS, texts are compared as tocmark-compare does. CommonMark has no such links. */
+#define TOCMARK_BARE_LINKS (1u << 13)
+
 /* Compares two texts by what they say under these flags, and writes a JSON array of what differs. The array is [] exactly if both
  * texts parse to the same events and define the same links, but for what may differ; texts side by side count as one. A byte
  * order mark at the front isn't parsed. Other bits of `allowed` don't count. Each difference is an object:

@@ -599,6 +599,18 @@ class Comparing(unittest.TestCase):
                 self.assertFalse(tocmark.same(old, new, exact=True))
                 self.assertTrue(tocmark.same(old, new, exact=True, allow=["labels", "fences", "definitions"]))
 
+    def test_a_page_shows_bare_addresses_as_links(self):
+        pairs = [("see http://a.b/c", "see <http://a.b/c>"), ("x@y.zz", "<x@y.zz>"), ("www.a.b", "[www.a.b](http://www.a.b)")]
+        for old, new in pairs:
+            with self.subTest(old=old):
+                self.assertEqual(tocmark.compare(old, new), [])
+                self.assertTrue(tocmark.same(old, new, syntax="all"))
+                self.assertTrue(tocmark.same(old, new, extensions=["no-tables"]))
+                self.assertFalse(tocmark.same(old, new, exact=True))
+                self.assertFalse(tocmark.same(old, new, exact=True, allow=["labels", "fences", "definitions"]))
+                self.assertFalse(tocmark.same(old, new, syntax="commonmark"))
+                self.assertFalse(tocmark.same(old, new, syntax="commonmark", extensions=["tables"]))
+
     def test_each_kind_may_differ(self):
         pairs = {"wrap": ("a b", "a\nb"), "text": ("a", "b"), "destinations": ("[a](/b)", "[a](/c)"),
                  "titles": ("[a](/b 'c')", "[a](/b 'd')"), "labels": ("[a][b]\n\n[b]: /c", "[a][B]\n\n[b]: /c"),

@@ -14,6 +14,9 @@ KINDS: Mapping[str, int] = {
     "definitions": 1 << 12,
 }
 
+#: The bit that makes links of bare web and mail addresses.
+_BARE_LINKS = 1 << 13
+
 #: What no page shows.
 _UNRENDERED = KINDS["labels"] | KINDS["fences"] | KINDS["definitions"]
 
@@ -39,8 +42,8 @@ class Difference(NamedTuple):
         return self.message
 
 
-def _allowed(allow: Iterable[str], exact: bool) -> int:
-    """Returns the bits of what may differ."""
+def _allowed(allow: Iterable[str], exact: bool, syntax: str) -> int:
+    """Returns the bits of what may differ, and that of bare addresses, which a page shows as links unless it is CommonMark."""
     if isinstance(allow, str):
         raise TypeError(f"allow must be a list of kinds, and not the str {allow!r}")
     bits = 0 if exact else _UNRENDERED
@@ -48,7 +51,7 @@ def _allowed(allow: Iterable[str], exact: bool) -> int:
         if kind not in KINDS:
             raise ValueError(f"{kind!r} is none of {', '.join(KINDS)}")
         bits |= KINDS[kind]
-    return bits
+    return bits if exact or syntax == "commonmark" else bits | _BARE_LINKS
 
 
 def _difference(found: Any) -> Difference:
@@ -62,9 +65,10 @@ def compare(old: str, new: str, *, allow: Iterable[str] = (), exact: bool = Fals
     """Returns what two Markdown texts say differently. The list is empty exactly if both parse to the same events and define
     the same links, but for what may differ. Texts side by side count as one.
 
-    What no page shows may differ: how links are spelled and defined, and whether code is fenced or indented. With `exact`, that
-    may not differ. `allow` names further kinds that may differ, of `KINDS`, such as "wrap", white space in texts and where lines
-    break.
+    What no page shows may differ: how links are spelled and defined, and whether code is fenced or indented. A web or mail
+    address in a text is a link, as GitHub shows it, unless `syntax` is "commonmark". With `exact`, what no page shows may not
+    differ, and such an address is text. `allow` names further kinds that may differ, of `KINDS`, such as "wrap", white space in
+    texts and where lines break.
 
     >>> import tocmark
     >>> tocmark.compare("*  a\\n*  [b](/c)\\n", "* a\\n* [b][]\\n\\n[b]: /c\\n")
@@ -76,6 +80,8 @@ def compare(old: str, new: str, *, allow: Iterable[str] = (), exact: bool = Fals
     ('destination', (1, 1))
     >>> tocmark.compare("a b\\n", "a\\nb\\n", allow=["wrap"])
     []
+    >>> tocmark.compare("see http://a.b/c", "see <http://a.b/c>")
+    []
     >>> tocmark.compare("a", "b", allow=["words"])
     Traceback (most recent call last):
     ValueError: 'words' is none of wrap, text, destinations, titles, labels, fences, levels, numbers, code, info, html, \
@@ -85,7 +91,7 @@ front-matter, definitions
     """
     before, after = encoded("old", old), encoded("new", new)
     code, text = _library.answer(_library.compare, before, len(before), after, len(after), flags_of(syntax, extensions),
-                                 _allowed(allow, exact), guess=4096)
+                                 _allowed(allow, exact, syntax), guess=4096)
     if code < 0:
         raise error_of(code)
     return [_difference(found) for found in json.loads(text)]
@@ -99,6 +105,8 @@ def same(old: str, new: str, *, allow: Iterable[str] = (), exact: bool = False, 
     >>> tocmark.same("Title\\n=====\\n", "# Title\\n")
     True
     >>> tocmark.same("[a](/b)", "[a][]\\n\\n[a]: /b", exact=True)
+    False
+    >>> tocmark.same("see http://a.b/c", "see <http://a.b/c>", exact=True)
     False
     """
     return not compare(old, new, allow=allow, exact=exact, syntax=syntax, extensions=extensions)

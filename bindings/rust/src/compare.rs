@@ -7,8 +7,9 @@ use crate::value::{value_of, Value};
 use pulldown_cmark::Options as ParserOptions;
 use std::fmt;
 
-/// What may differ between texts that count as the same. The default is what no page shows: how links are spelled and defined, and
-/// whether code is fenced or indented. `Allowed { text: true, ..Default::default() }` allows one more thing.
+/// What may differ between texts that count as the same. The default is what no page shows: how links are spelled and defined,
+/// whether code is fenced or indented, and whether an address is between angle brackets.
+/// `Allowed { text: true, ..Default::default() }` allows one more thing.
 #[derive(Clone, Copy, Debug, PartialEq, Eq, Hash)]
 pub struct Allowed {
     /// White space in texts, and where lines break.
@@ -37,6 +38,9 @@ pub struct Allowed {
     pub front_matter: bool,
     /// Link definitions.
     pub definitions: bool,
+    /// Whether a web or mail address is between angle brackets: in a text it is a link, as GitHub shows it. Without flags, this
+    /// allows nothing, because CommonMark has no such links.
+    pub bare_links: bool,
 }
 
 impl Default for Allowed {
@@ -45,6 +49,7 @@ impl Default for Allowed {
             labels: true,
             fences: true,
             definitions: true,
+            bare_links: true,
             ..Allowed::nothing()
         }
     }
@@ -67,11 +72,12 @@ impl Allowed {
             html: false,
             front_matter: false,
             definitions: false,
+            bare_links: false,
         }
     }
 
-    /// The bits that `tocmark.h` has for these.
-    fn bits(self) -> u32 {
+    /// The bits that `tocmark.h` has for these, under the flags by which texts are parsed.
+    fn bits(self, flags: ParserOptions) -> u32 {
         let all = [
             self.wrap,
             self.text,
@@ -86,6 +92,7 @@ impl Allowed {
             self.html,
             self.front_matter,
             self.definitions,
+            self.bare_links && !flags.is_empty(),
         ];
         all.iter()
             .rev()
@@ -203,6 +210,8 @@ fn difference_of(value: &Value) -> Option<Difference> {
 /// assert_eq!(found[0].kind, Kind::Destination);
 /// assert_eq!(found[0].new, (1, 1));
 /// assert_eq!(found[0].to_string(), "the link's destination \"/old\" became \"/new\"");
+/// let found = compare("see http://a.b/c", "see <http://a.b/c>", Options::ENABLE_GFM, Allowed::default())?;
+/// assert!(found.is_empty());
 /// # Ok::<(), tocmark::Error>(())
 /// ```
 pub fn compare(
@@ -211,8 +220,9 @@ pub fn compare(
     flags: ParserOptions,
     allowed: Allowed,
 ) -> Result<Vec<Difference>, Error> {
-    let json = library::compare(old, new, written_flags(flags).bits(), allowed.bits())
-        .map_err(Error::from_code)?;
+    let flags = written_flags(flags);
+    let allowed = allowed.bits(flags);
+    let json = library::compare(old, new, flags.bits(), allowed).map_err(Error::from_code)?;
     let found = value_of(&json).and_then(|list| list.each(difference_of));
     Ok(found.expect("the library writes the JSON of differences"))
 }

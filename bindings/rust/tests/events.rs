@@ -816,6 +816,28 @@ fn what_no_page_shows_may_differ() {
 }
 
 #[test]
+fn a_page_shows_bare_addresses_as_links() {
+    for (old, new) in [
+        ("see http://a.b/c", "see <http://a.b/c>"),
+        ("x@y.zz", "<x@y.zz>"),
+        ("www.a.b", "[www.a.b](http://www.a.b)"),
+    ] {
+        let says_same = |flags, allowed| same(old, new, flags, allowed).unwrap();
+        let text = Allowed {
+            bare_links: false,
+            ..Allowed::default()
+        };
+        for flags in [ParserOptions::ENABLE_GFM, ParserOptions::ENABLE_TABLES] {
+            assert!(says_same(flags, Allowed::default()), "{old:?}");
+            assert!(!says_same(flags, text), "{old:?}");
+            assert!(!says_same(flags, Allowed::nothing()), "{old:?}");
+        }
+        // CommonMark has no such links.
+        assert!(!says_same(NONE, Allowed::default()), "{old:?}");
+    }
+}
+
+#[test]
 fn differences_have_places_and_words() {
     let (old, new) = ("# a\n\nb \"c\"\n", "## a\n\nb \\\\d\n\n- e\n");
     let found = compare(old, new, NONE, Allowed::default()).unwrap();

@@ -1,6 +1,9 @@
 -- What a comparison of two texts writes, and what causes each error.
-use Rattle.std.specs.Prelude.{◌≡◌, ◌↔◌, ◌==◌, ◌++◌, ◌∷◌, [], ℕ, List, Bool, IsUtf8, bit_and, codes, decimal, map, string_bytes}
+use Rattle.std.specs.Prelude.{◌≡◌, ◌↔◌, ◌==◌, ◌++◌, ◌∷◌, [], ℕ, List, Bool, true, false, IsUtf8, bit_and, codes, decimal, map, string_bytes}
 use Rattle.json.specs.Token.{Token, begin_array, begin_object, end_array, end_object, key, number, string}
+use Rattle.tocmark_bare_links.specs.Linked.{linked_reading}
+use Rattle.tocmark_event.specs.Reading.{ReadingView}
+use Rattle.tocmark_event.specs.declared.event.flags.ParserOptions.{ParserOptions}
 use Rattle.tocmark_judge.specs.LinkDefinitions.{unplaced}
 use Rattle.tocmark_reader.specs.Definitions.{definitions_of}
 use Rattle.tocmark_reader.specs.Flags.{syntax_of}
@@ -34,11 +37,19 @@ allowed_of bits = record {
   definitions = has_bit bits 4096;
 }
 
+-- bare web and mail addresses are links: a bit after those of the kinds
+abbrev pub links_addresses : ℕ → Bool
+links_addresses bits = has_bit bits 8192
+
+-- what is found in a text, where bare addresses are links, or text
+abbrev pub found_in : Bool → List ℕ → ParserOptions → ReadingView
+found_in true = λ t flags. linked_reading t (reading_of (syntax_of All flags) t)
+found_in false = λ t flags. reading_of (syntax_of All flags) t
+
 -- both texts say the same under these flags, but for what these bits allow to differ
 abbrev pub AreTheSame : ℕ → ℕ → List ℕ → List ℕ → Type 0
 AreTheSame bits allowed old new =
-    SayTheSame (allowed_of allowed) (flags_of bits)
-    (λ t flags. reading_of (syntax_of All flags) t)
+    SayTheSame (allowed_of allowed) (flags_of bits) (found_in (links_addresses allowed))
     (λ t flags. map unplaced (definitions_of (syntax_of All flags) t)) old new
 
 -- an array of the differences is written, which is empty exactly if both texts say the same

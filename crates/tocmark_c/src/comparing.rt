@@ -1,14 +1,18 @@
 //! What two texts say differently, as JSON.
 
 ghost use Rattle.std.specs.Prelude.{◌≡◌, ◌↔◌, ◌++◌, [], IfErr, IfOk, OnOk, codes};
-ghost use Rattle.tocmark_c.specs.Comparing.{IsCompareCause, IsComparison, OpensObject, allowed_of, has_bit, lines_tokens, object_tokens, text_tokens};
+ghost use Rattle.tocmark_c.specs.Comparing.{AreTheSame, IsCompareCause, IsComparison, OpensObject, allowed_of, has_bit, lines_tokens, object_tokens, text_tokens};
 
 use crate::cause::Cause;
 use json::Writer;
 use std::alloc::{AllocError, Global};
+use tocmark_bare_links::BareLinks;
 use tocmark_differences::{Allowed, Difference, compared};
 use tocmark_event::event::ParserOptions;
 use tocmark_reader::{ExtendedReader, Names};
+
+/// The bit for reading bare web and mail addresses as links.
+const BARE_LINKS: u32 = 8192;
 
 /// Whether a number has a bit.
 fn has_bit(bits: u32, bit: u32) -> bool
@@ -35,6 +39,26 @@ fn allowed_of(bits: u32) -> Allowed
         html: has_bit(bits, 1024),
         front_matter: has_bit(bits, 2048),
         definitions: has_bit(bits, 4096),
+    }
+}
+
+/// What two texts say differently. Whether bare addresses are links is a bit beside those of what may differ.
+fn differences(
+    alloc: Global,
+    flags: u32,
+    allowed: u32,
+    old: &str,
+    new: &str,
+) -> Result<Vec<Difference>, AllocError>
+    ensures { IfOk result (λ all. (all.items ≡ []) ↔ AreTheSame flags allowed old.now new.now) }
+{
+    let reader = ExtendedReader { names: Names::All };
+    let flags = ParserOptions(flags);
+    let kinds = allowed_of(allowed);
+    if has_bit(allowed, BARE_LINKS) {
+        compared(alloc, &BareLinks { reader }, flags, kinds, old, new)
+    } else {
+        compared(alloc, &reader, flags, kinds, old, new)
     }
 }
 
@@ -108,7 +132,8 @@ fn listing(alloc: Global, all: &[Difference]) -> Result<Vec<u8>, AllocError>
     Ok(writer.into_inner())
 }
 
-/// The JSON array of what two texts say differently, but for what is allowed to differ.
+/// The JSON array of what two texts say differently, but for what is allowed to differ. It fails if one of them isn't UTF-8, or
+/// if memory runs out.
 pub fn compare(
     alloc: Global,
     old: &[u8],
@@ -123,9 +148,7 @@ pub fn compare(
     let (Ok(old), Ok(new)) = (std::str::from_utf8(old), std::str::from_utf8(new)) else {
         return Err(Cause::NotUtf8);
     };
-    let reader = ExtendedReader { names: Names::All };
-    let flags = ParserOptions(flags);
-    let Ok(all) = compared(alloc, &reader, flags, allowed_of(allowed), old, new) else {
+    let Ok(all) = differences(alloc, flags, allowed, old, new) else {
         return Err(Cause::OutOfMemory);
     };
     match listing(alloc, &all) {

@@ -7,8 +7,8 @@
 //! `writing` and `packed_events` write events, too, and `rewriting` rewrites a source. `comparing` lists what two texts say
 //! differently, and `outlining` what a text has.
 //!
-//! The crate uses `tocmark_documents` for events, `tocmark_format` for formatting, `tocmark_differences` for comparing, and
-//! `tocmark_outline` for lists.
+//! The crate uses `tocmark_documents` for events, `tocmark_format` for formatting, `tocmark_differences` and
+//! `tocmark_bare_links` for comparing, and `tocmark_outline` for lists.
 #![tactic(auto)]
 
 mod cause;
@@ -332,7 +332,9 @@ pub extern "C" fn tocmark_format_also(
 }
 
 /// Compares two texts by what they say under these flags, and writes a JSON array of what differs into `out`. It is empty
-/// exactly if both say the same but for what `allowed` has a bit for, in the order of `tocmark_differences::KINDS`.
+/// exactly if both say the same but for what `allowed` has a bit for, in the order of `tocmark_differences::KINDS`. The bit
+/// after these, 8192, makes links of bare web and mail addresses, as `BareLinks` does. The errors are those of texts that are
+/// not UTF-8, and of memory.
 #[unsafe(no_mangle)]
 #[tactic(auto, using(crate::proofs::Answers::text_answered, crate::proofs::Answers::cause_answered))]
 pub extern "C" fn tocmark_compare(
