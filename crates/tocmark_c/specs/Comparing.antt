@@ -46,11 +46,16 @@ abbrev pub found_in : Bool → List ℕ → ParserOptions → ReadingView
 found_in true = λ t flags. linked_reading t (reading_of (syntax_of All flags) t)
 found_in false = λ t flags. reading_of (syntax_of All flags) t
 
+-- both texts say the same under these flags but for what may differ, where bare addresses are links, or text
+abbrev pub AreTheSameBut : Allowed → Bool → ℕ → List ℕ → List ℕ → Type 0
+AreTheSameBut kinds bare bits old new =
+    SayTheSame kinds (flags_of bits) (found_in bare)
+    (λ t flags. map unplaced (definitions_of (syntax_of All flags) t)) old new
+
 -- both texts say the same under these flags, but for what these bits allow to differ
 abbrev pub AreTheSame : ℕ → ℕ → List ℕ → List ℕ → Type 0
 AreTheSame bits allowed old new =
-    SayTheSame (allowed_of allowed) (flags_of bits) (found_in (links_addresses allowed))
-    (λ t flags. map unplaced (definitions_of (syntax_of All flags) t)) old new
+    AreTheSameBut (allowed_of allowed) (links_addresses allowed) bits old new
 
 -- an array of the differences is written, which is empty exactly if both texts say the same
 abbrev pub IsComparison : ℕ → ℕ → List ℕ → List ℕ → List ℕ → Type 0
