@@ -4,6 +4,7 @@ import importlib
 import io
 import json
 import os
+import pathlib
 import pickle
 import stat
 import struct
@@ -302,6 +303,11 @@ class Listing(unittest.TestCase):
         self.assertEqual(tocmark.headings("# a {#b}", extensions=["heading-attributes"])[0].id, "b")
         self.assertEqual(tocmark.text("~~a~~", syntax="commonmark"), "~~a~~\n")
         self.assertEqual([it.kind for it in tocmark.links("x\n|[a](b)|\n|-|\n")], ["Inline"])
+        with tempfile.TemporaryDirectory() as folder:
+            path = pathlib.Path(folder, "a.md")
+            path.write_bytes(b"# A\r\n\r\n[b](c.md)\r\n")
+            self.assertEqual([(it.destination, it.range) for it in tocmark.links(path)], [("c.md", range(7, 16))])
+            self.assertRaises(FileNotFoundError, tocmark.links, pathlib.Path(folder, "b.md"))
         for call in (tocmark.links, tocmark.headings, tocmark.text, tocmark.definitions, tocmark.read_json):
             with self.assertRaisesRegex(ValueError, "'html' is none of commonmark"):
                 call("a", syntax="html")

@@ -1,6 +1,7 @@
 """What a text has: links, headings, words, and definitions of links."""
 import json
-from typing import Any, Iterable, Iterator, List, NamedTuple, Optional, Tuple
+import os
+from typing import Any, Iterable, Iterator, List, NamedTuple, Optional, Tuple, Union
 
 from . import _library
 from ._calls import encoded
@@ -62,6 +63,14 @@ def _listed(function: Any, text: str, flags: int, guess: int) -> bytes:
     return found
 
 
+def _text_of(text: Union[str, "os.PathLike[str]"]) -> str:
+    """Returns a text, or that of the file at a path, with its line ends."""
+    if isinstance(text, str):
+        return text
+    with open(text, encoding="utf-8", newline="") as file:
+        return file.read()
+
+
 def _range_of(place: Any) -> range:
     return range(place["start"], place["end"])
 
@@ -95,8 +104,8 @@ def _containers(found: bytes, names: Tuple[str, ...]) -> Iterator[Tuple[str, Any
     yield from done
 
 
-def links(text: str, *, syntax: str = "gfm", extensions: Iterable[str] = ()) -> List[Link]:
-    """Returns the links and images of a Markdown text, in their order.
+def links(text: Union[str, "os.PathLike[str]"], *, syntax: str = "gfm", extensions: Iterable[str] = ()) -> List[Link]:
+    """Returns the links and images of a Markdown text, or of the file at a `pathlib.Path`, in their order.
 
     >>> import tocmark
     >>> for link in tocmark.links("See [a *b*](/c) and ![d][e].\\n\\n[e]: f.png\\n"):
@@ -104,10 +113,11 @@ def links(text: str, *, syntax: str = "gfm", extensions: Iterable[str] = ()) -> 
     a b /c Inline False range(4, 15)
     d f.png Reference True range(20, 27)
 
-    Raises what `read` does.
+    Raises what `read` does; for a path also `OSError`, or `UnicodeDecodeError` if the file isn't UTF-8.
     """
+    listed = _listed(_library.links, _text_of(text), flags_of(syntax, extensions), 2)
     found = []
-    for name, link, words, place in _containers(_listed(_library.links, text, flags_of(syntax, extensions), 2), ("Link", "Image")):
+    for name, link, words, place in _containers(listed, ("Link", "Image")):
         kind = link["link_type"] if isinstance(link["link_type"], str) else next(iter(link["link_type"]))
         found.append(Link(link["dest_url"], link["title"], words, kind, link["id"], name == "Image", place))
     return found
