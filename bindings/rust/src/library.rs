@@ -94,6 +94,14 @@ extern "C" {
         out_len: usize,
     ) -> isize;
 
+    fn tocmark_definitions(
+        text: *const u8,
+        text_len: usize,
+        flags: u32,
+        out: *mut u8,
+        out_len: usize,
+    ) -> isize;
+
     fn tocmark_write_packed_at(
         packed: *const u8,
         packed_len: usize,
@@ -141,6 +149,22 @@ pub fn read(text: &str, flags: u32) -> Result<String, isize> {
         // A slice's pointer is never null, and `out` overlaps nothing that is read.
         unsafe {
             tocmark_read_json(
+                text.as_ptr(),
+                text.len(),
+                flags,
+                out.as_mut_ptr(),
+                out.len(),
+            )
+        }
+    })
+}
+
+/// The JSON of a text's definitions of links.
+pub fn definitions(text: &str, flags: u32) -> Result<String, isize> {
+    text_of(2 * text.len() + 256, |out| {
+        // A slice's pointer is never null, and `out` overlaps nothing that is read.
+        unsafe {
+            tocmark_definitions(
                 text.as_ptr(),
                 text.len(),
                 flags,

@@ -305,7 +305,7 @@ pub fn events_of(text: &str) -> Option<Vec<(Event<'static>, Range<usize>)>> {
             return None;
         };
         let (value, place) = (parts.first()?, parts.get(1)?);
-        let range = place.part("start")?.number()? as usize..place.part("end")?.number()? as usize;
+        let range = place.range()?;
         let event = match value.part("End") {
             Some(_) => Event::End(open.pop()?),
             None => event_of(value)?,

@@ -1,6 +1,7 @@
 //! Reads the JSON that the library writes.
 
 use pulldown_cmark::CowStr;
+use std::ops::Range;
 
 /// A value of JSON.
 pub enum Value {
@@ -151,6 +152,12 @@ impl Value {
             Value::Number(number) => Some(*number),
             _ => None,
         }
+    }
+
+    /// The range that `{"start": .., "end": ..}` is.
+    pub fn range(&self) -> Option<Range<usize>> {
+        let number = |key| Some(self.part(key)?.number()? as usize);
+        Some(number("start")?..number("end")?)
     }
 
     pub fn each<T>(&self, item: impl Fn(&Value) -> Option<T>) -> Option<Vec<T>> {

@@ -7,8 +7,8 @@ use pulldown_cmark::{
 use std::fmt;
 use tocmark::{
     calculate_code_block_token_count, cmark, cmark_with_options, cmark_with_source_range,
-    cmark_with_source_range_and_options, compare, edit, format, read, rewrite, same, Allowed,
-    Bullet, Delimiter, Error, Fault, FormatOptions, Kind, ListIndent, Marker, Options,
+    cmark_with_source_range_and_options, compare, definitions, edit, format, read, rewrite, same,
+    Allowed, Bullet, Delimiter, Error, Fault, FormatOptions, Kind, ListIndent, Marker, Options,
     OptionsError, Place, Progress, State, Tables, Wrap, DEFAULT_CODE_BLOCK_TOKEN_COUNT,
     SUPPORTED_PARSER_OPTIONS,
 };
@@ -801,6 +801,38 @@ fn each_kind_may_differ() {
         }
         assert!(!same(old, new, flags, others).unwrap(), "{old:?}");
     }
+}
+
+#[test]
+fn definitions_have_their_places() {
+    assert_eq!(definitions("a [b](/c)\n", NONE).unwrap(), []);
+    let source = "\u{feff}é [a]\n\n[a]: /b?c&amp;d 'e \\'f'\n> [g\\]]: <>\n\n[A]: /second\n";
+    let found = definitions(source, NONE).unwrap();
+    let said: Vec<_> = found
+        .iter()
+        .map(|it| {
+            (
+                it.label.as_str(),
+                it.destination.as_str(),
+                it.title.as_str(),
+                it.is_used,
+            )
+        })
+        .collect();
+    assert_eq!(
+        said,
+        [
+            ("a", "/b?c&d", "e 'f", true),
+            ("g\\]", "", "", false),
+            ("A", "/second", "", false),
+        ]
+    );
+    let first = &found[0];
+    assert_eq!(&source[first.range.clone()], "[a]: /b?c&amp;d 'e \\'f'");
+    assert_eq!(&source[first.destination_range.clone()], "/b?c&amp;d");
+    assert_eq!(&source[first.title_range.clone()], "'e \\'f'");
+    assert!(found[1].title_range.is_empty());
+    assert_eq!(&source[found[2].destination_range.clone()], "/second");
 }
 
 #[test]
