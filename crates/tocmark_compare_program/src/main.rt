@@ -2,13 +2,14 @@
 //!
 //! `tocmark_differences` finds what two texts say differently, and `tocmark_command` has what all programs share. `arguments`
 //! has the command line. `texts` reads texts and finds the files of folders. `outcome` judges texts and has the status.
-//! `replaced` gives a file a text that was judged the same. `report` writes differences, and `fault` has the messages on standard
-//! error.
+//! `replaced` gives a file a text that was judged the same. `report` writes differences, and `painted` has the colours of lines.
+//! `fault` has the messages on standard error.
 #![tactic(auto)]
 
 mod arguments;
 mod fault;
 mod outcome;
+mod painted;
 mod replaced;
 mod report;
 mod texts;
@@ -23,7 +24,7 @@ use std::process::ExitCode;
 use texts::{Shared, files_below, is_folder, joined, text_of};
 use tocmark_bare_links::BareLinks;
 use tocmark_command::program::{Program, words_of};
-use tocmark_command::streams::write_out;
+use tocmark_command::streams::{wants_color, write_out};
 use tocmark_command::syntax::syntax_help;
 use tocmark_judge::PartReader;
 use tocmark_reader::{ExtendedReader, Names};
@@ -165,7 +166,7 @@ impl Comparison {
 fn perform(rt: &HostRuntime, terms: Terms, pair: Pair<'_>) -> Result<u8, Fault> {
     let mut comparison = Comparison {
         terms,
-        report: Report::new(rt.alloc(), terms.form)?,
+        report: Report::new(rt.alloc(), terms.form, wants_color(rt))?,
         outcomes: Vec::new(rt.alloc()),
     };
     comparison.compare(rt, pair)?;

@@ -1,11 +1,13 @@
 //! How differences are written.
 
 use crate::arguments::INPUT;
+use crate::painted::{Paint, Painted};
 use std::alloc::{AllocError, Global};
 use std::fmt;
 use std::fmt::Write;
 use tocmark_command::escaped::{Escaped, Quoting};
 use tocmark_differences::Difference;
+use tocmark_differences::phrases::SHOWN;
 use tocmark_files::quoted::{OneLine, Quoted};
 
 /// How differences are written.
@@ -29,6 +31,9 @@ pub enum Way {
 /// The kind of what only the old text has.
 const REMOVED: &str = "removed";
 
+/// The kind of what only the new text has.
+const ADDED: &str = "added";
+
 /// The kind of a difference between letters.
 const LETTERS: &str = "letters";
 
@@ -38,6 +43,10 @@ struct Spot<'d> {
     file: &'d str,
     lines: Option<(usize, usize)>,
 }
+
+/// A text between quotation marks, as a difference shows it: of a long one the front.
+#[derive(Clone, Copy)]
+struct Shown<'d>(&'d str);
 
 /// What is written of a difference.
 #[derive(Drop)]
@@ -67,16 +76,27 @@ impl fmt::Display for Spot<'_> {
     }
 }
 
-/// What is different; and where it was, if that is in the other text than the place that is shown.
+impl fmt::Display for Shown<'_> {
+    fn fmt<W: fmt::Write>(&self, f: &mut fmt::Formatter<W>) -> fmt::Result {
+        let text = self.0;
+        match text.char_indices().nth(SHOWN) {
+            Some((end, _)) => {
+                let front = text.get(..end).unwrap_or(text);
+                write!(f, "\"{front}...\"")
+            }
+            None => write!(f, "\"{text}\""),
+        }
+    }
+}
+
+/// What is different, and where it was.
 impl<M: fmt::Display> fmt::Display for Entry<'_, M> {
     fn fmt<W: fmt::Write>(&self, f: &mut fmt::Formatter<W>) -> fmt::Result {
         let phrase = OneLine(self.phrase);
         write!(f, "{phrase}")?;
-        match (self.old, self.new) {
-            (Some(old), Some(new)) if !new.is_input() && self.names_old() => {
-                write!(f, " (was {old})")
-            }
-            _ => Ok(()),
+        match self.old_spot() {
+            Some(old) => write!(f, " (was {old})"),
+            None => Ok(()),
         }
     }
 }
@@ -96,11 +116,53 @@ impl<M: fmt::Display> Entry<'_, M> {
         }
     }
 
+    /// Where it was, if that is named beside the place that is shown.
+    fn old_spot(&self) -> Option<Spot<'_>> {
+        match (self.old, self.new) {
+            (Some(old), Some(new)) if !new.is_input() && self.names_old() => Some(old),
+            _ => None,
+        }
+    }
+
     fn write_line(&self, out: &mut String) -> Result<(), AllocError> {
         if let Some(spot) = self.spot() {
             write!(out, "{spot}: ")?;
         }
         writeln!(out, "{self}")
+    }
+
+    /// Writes the same line for a terminal: places are bold, what was is red, and what is is green.
+    fn write_painted_line(&self, alloc: Global, out: &mut String) -> Result<(), AllocError> {
+        if let Some(spot) = self.spot() {
+            let spot = Painted(&spot, Paint::Bold);
+            write!(out, "{spot}: ")?;
+        }
+        self.write_painted(alloc, out)?;
+        if let Some(old) = self.old_spot() {
+            let old = Painted(&old, Paint::Bold);
+            write!(out, " (was {old})")?;
+        }
+        out.push('\n')
+    }
+
+    /// Writes what is different, for a terminal.
+    fn write_painted(&self, alloc: Global, out: &mut String) -> Result<(), AllocError> {
+        let phrase = OneLine(self.phrase);
+        if self.kind == REMOVED {
+            let phrase = Painted(&phrase, Paint::Red);
+            return write!(out, "{phrase}");
+        }
+        if self.kind == ADDED {
+            let phrase = Painted(&phrase, Paint::Green);
+            return write!(out, "{phrase}");
+        }
+        let mut line = String::new(alloc);
+        write!(line, "{phrase}")?;
+        let (front, _) = line.split_once('"').unwrap_or((line.as_str(), ""));
+        let (was, is) = (Shown(self.was), Shown(self.is));
+        let (was, is) = (OneLine(&was), OneLine(&is));
+        let (was, is) = (Painted(&was, Paint::Red), Painted(&is, Paint::Green));
+        write!(out, "{front}{was} became {is}")
     }
 
     fn write_annotation(&self, out: &mut String) -> Result<(), AllocError> {
@@ -144,21 +206,26 @@ fn write_spot(out: &mut String, spot: Option<Spot<'_>>) -> Result<(), AllocError
 /// The differences that are to be written.
 #[derive(Drop)]
 pub struct Report {
+    alloc: Global,
     form: Form,
+    /// Lines have the colours of a terminal.
+    is_colored: bool,
     text: String,
     /// Whether a difference was added.
     has_any: bool,
 }
 
 impl Report {
-    /// A report of nothing. It fails if memory runs out.
-    pub fn new(alloc: Global, form: Form) -> Result<Report, AllocError> {
+    /// A report of nothing. Colours are for lines alone. It fails if memory runs out.
+    pub fn new(alloc: Global, form: Form, is_colored: bool) -> Result<Report, AllocError> {
         let text = match form {
             Form::Json => "[",
             _ => "",
         };
         Ok(Report {
+            alloc,
             form,
+            is_colored,
             text: String::from_str(alloc, text)?,
             has_any: false,
         })
@@ -178,6 +245,7 @@ impl Report {
         let had_any = self.has_any;
         self.has_any = true;
         match self.form {
+            Form::Lines if self.is_colored => entry.write_painted_line(self.alloc, &mut self.text),
             Form::Lines => entry.write_line(&mut self.text),
             Form::Annotations => entry.write_annotation(&mut self.text),
             Form::Json => {
@@ -215,7 +283,7 @@ impl Report {
         let spot = Some(Spot { file, lines: None });
         let (kind, old, new) = match way {
             Way::Removed => (REMOVED, spot, None),
-            Way::Added => ("added", None, spot),
+            Way::Added => (ADDED, None, spot),
         };
         let phrase = match way {
             Way::Removed => "removed: file",
