@@ -68,9 +68,9 @@ host_step h b =
 abbrev pub host_start : Host
 host_start = record { length = 0; hyphen = false; dotted = false; fine = true }
 
--- labels with dots between, two at least
-unfoldable pub is_host : List ℕ → Bool
-is_host text = let h = fold host_step host_start text in is_label h && h.dotted
+-- labels with dots between: two at least, or one alone
+unfoldable pub is_host : Bool → List ℕ → Bool
+is_host is_short text = let h = fold host_step host_start text in is_label h && (is_short || h.dotted)
 
 -- what may come after a host: no `_`, no backslash, and no letter past ASCII
 unfoldable pub may_follow : ℕ → Bool
@@ -78,12 +78,12 @@ may_follow b = nat_lt b 128 && not (b == 95) && not (b == 92)
 
 -- ---- addresses at the front of a word
 
--- the length of an address whose host is at a place
-unfoldable pub web_length : List ℕ → ℕ → Option ℕ
-web_length word place =
+-- the length of an address whose host is at a place, and may be one label
+unfoldable pub web_length : Bool → List ℕ → ℕ → Option ℕ
+web_length is_short word place =
     let end = kept_length word in
     let last = run_end word place Domain in
-    if may_follow (byte_at word last) && is_host (bytes_between word place (min last end)) then Some end else None
+    if may_follow (byte_at word last) && is_host is_short (bytes_between word place (min last end)) then Some end else None
 
 -- a byte of a mail address before the `@`
 unfoldable pub is_local : ℕ → Bool
@@ -97,7 +97,7 @@ local_length word = length (take_while is_local word)
 unfoldable pub is_mail_host : List ℕ → ℕ → ℕ → Bool
 is_mail_host word place end =
     let last = run_end word place Domain in
-    may_follow (byte_at word last) && nat_le end last && is_host (bytes_between word place end) && is_ascii_alphabetic (byte_at word (end - 1))
+    may_follow (byte_at word last) && nat_le end last && is_host false (bytes_between word place end) && is_ascii_alphabetic (byte_at word (end - 1))
 
 -- the length of a mail address
 unfoldable pub mail_length : List ℕ → Option ℕ
@@ -127,11 +127,15 @@ ftp = 102 ∷ 116 ∷ 112 ∷ 58 ∷ 47 ∷ 47 ∷ []
 abbrev pub www : List ℕ
 www = 119 ∷ 119 ∷ 119 ∷ 46 ∷ []
 
+-- a web address may be at a place: a scheme is there, or `www.`
+unfoldable pub has_scheme : List ℕ → ℕ → Bool
+has_scheme word place = starts_at word place https || starts_at word place http || starts_at word place ftp || starts_at word place www
+
 -- the address that a word begins with
 unfoldable pub address_of : List ℕ → Option Address
 address_of word =
-    if starts_at word 0 https then of_kind Web (web_length word 8)
-    else if starts_at word 0 http then of_kind Web (web_length word 7)
-    else if starts_at word 0 ftp then of_kind Web (web_length word 6)
-    else if starts_at word 0 www then of_kind Named (web_length word 4)
+    if starts_at word 0 https then of_kind Web (web_length true word 8)
+    else if starts_at word 0 http then of_kind Web (web_length true word 7)
+    else if starts_at word 0 ftp then of_kind Web (web_length true word 6)
+    else if starts_at word 0 www then of_kind Named (web_length false word 4)
     else of_kind Mail (mail_length word)

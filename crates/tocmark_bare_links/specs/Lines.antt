@@ -1,5 +1,5 @@
 -- The addresses of a line, and the events that show them as links.
-use Rattle.std.specs.Prelude.{ℕ, Bool, not, ◌-◌, ◌==◌, ◌&&◌, ◌||◌, nat_lt, nat_le, if◌then◌else◌, List, [], ◌∷◌, ◌++◌, length, drop, map, take_while, Option, Some, None}
+use Rattle.std.specs.Prelude.{ℕ, Bool, not, is_none, ◌-◌, ◌==◌, ◌&&◌, ◌||◌, nat_lt, nat_le, if◌then◌else◌, List, [], ◌∷◌, ◌++◌, length, drop, map, take_while, Option, Some, None}
 use Rattle.std.specs.List.{fold}
 use Rattle.std.specs.Str.Lossy.{utf8_lossy}
 use Rattle.tocmark_event.specs.Text.{ParserEvent, text_of}
@@ -8,10 +8,11 @@ use Rattle.tocmark_event.specs.declared.event.LinkType.{LinkType}
 use Rattle.tocmark_event.specs.declared.event.LinkType.TheVariants as link
 use Rattle.tocmark_event.specs.declared.event.TagEnd.TheVariants as end
 use Rattle.tocmark_read_scan.specs.Basic.{plus, bytes_between}
-use Rattle.tocmark_bare_links.specs.Addresses.{address_of}
+use Rattle.tocmark_bare_links.specs.Addresses.{address_of, has_scheme}
 use Rattle.tocmark_bare_links.specs.declared.address.Kind.{Kind}
 use Rattle.tocmark_bare_links.specs.declared.address.Kind.TheVariants.{Web, Named, Mail}
 use Rattle.tocmark_bare_links.specs.declared.address.Address.{Address}
+use Rattle.tocmark_bare_links.specs.declared.words.Lead.{Lead}
 use Rattle.tocmark_bare_links.specs.declared.words.Words.{Words}
 use Rattle.tocmark_bare_links.specs.declared.words.Spot.{Spot}
 use Rattle.tocmark_bare_links.specs.declared.scan.Scan.{Scan}
@@ -63,13 +64,36 @@ abbrev pub spot_from : ℕ → Option Address → Option Spot
 spot_from start None = None
 spot_from start (Some a) = Some (record { kind = a.kind; start = start; end = plus start a.length })
 
+-- before the first byte of a word: whether an address may begin there
+abbrev pub lead_start : Bool → Lead
+lead_start opens = record { place = 0; opens = opens; brackets = 0; found = None }
+
+-- one byte further: a web address may be after one of ( * ~, if no `[` before it in the word lacks its `]`
+unfoldable pub lead_step : List ℕ → Lead → ℕ → Lead
+lead_step word l b = record {
+  place = plus l.place 1;
+  opens = is_lead b;
+  brackets = bracketed l.brackets b;
+  found = if is_none l.found && l.opens && (l.brackets == 0) && has_scheme word l.place then Some l.place else l.found;
+}
+
+-- where the first web address of a word may be
+unfoldable pub web_start : Bool → List ℕ → Option ℕ
+web_start opens word = (fold (lead_step word) (lead_start opens) word).found
+
+-- where the address of a word is whose web address may be at a place; a mail address is at its front
+abbrev pub spot_from_lead : Bool → ℕ → List ℕ → Option ℕ → Option Spot
+spot_from_lead opens start word None =
+    if opens then spot_from (plus start (lead_length word)) (address_of (drop (lead_length word) word)) else None
+spot_from_lead opens start word (Some lead) = spot_from (plus start lead) (address_of (drop lead word))
+
 -- where the address of a word is
-unfoldable pub spot_in : ℕ → List ℕ → Option Spot
-spot_in start word = let lead = lead_length word in spot_from (plus start lead) (address_of (drop lead word))
+unfoldable pub spot_in : Bool → ℕ → List ℕ → Option Spot
+spot_in opens start word = spot_from_lead opens start word (web_start opens word)
 
 -- where the address of the last word is; a word within an open bracket has none
 unfoldable pub spot_of : List ℕ → Words → Option Spot
-spot_of text w = if w.opens && (w.around == 0) then spot_in w.start (bytes_between text w.start w.place) else None
+spot_of text w = if w.around == 0 then spot_in w.opens w.start (bytes_between text w.start w.place) else None
 
 -- ---- events
 

@@ -1,7 +1,7 @@
 //! The address at the front of a word.
 
 ghost use Rattle.std.specs.Prelude.{◌≡◌};
-ghost use Rattle.tocmark_bare_links.specs.Addresses.{address_of, is_local, is_mail_host, local_length, mail_length, of_kind, web_length};
+ghost use Rattle.tocmark_bare_links.specs.Addresses.{address_of, has_scheme, is_local, is_mail_host, local_length, mail_length, of_kind, web_length};
 
 use crate::host::{is_host, may_follow};
 use crate::trail::kept_length;
@@ -27,15 +27,15 @@ pub struct Address {
     pub length: usize,
 }
 
-/// The length of the address that a word begins with, whose host is at a place.
+/// The length of the address that a word begins with, whose host is at a place, and may be one label.
 #[tactic(auto, unfolding(crate::specs::Addresses::web_length))]
-fn web_length(word: &[u8], place: usize) -> Option<usize>
-    ensures { result ≡ web_length word.now place }
+fn web_length(is_short: bool, word: &[u8], place: usize) -> Option<usize>
+    ensures { result ≡ web_length is_short word.now place }
 {
     let end = kept_length(word);
     let last = run_end(word, place, Class::Domain);
     let follows = may_follow(byte_at(word, last));
-    if follows && is_host(bytes_between(word, place, last.min(end))) {
+    if follows && is_host(is_short, bytes_between(word, place, last.min(end))) {
         Some(end)
     } else {
         None
@@ -65,7 +65,7 @@ fn is_mail_host(word: &[u8], place: usize, end: usize) -> bool
 {
     let last = run_end(word, place, Class::Domain);
     let ends = may_follow(byte_at(word, last)) && end <= last;
-    let is_host = ends && is_host(bytes_between(word, place, end));
+    let is_host = ends && is_host(false, bytes_between(word, place, end));
     is_host && byte_at(word, end.saturating_sub(1)).is_ascii_alphabetic()
 }
 
@@ -94,19 +94,30 @@ fn of_kind(kind: Kind, length: Option<usize>) -> Option<Address>
     }
 }
 
+/// Whether a web address may be at a place: a scheme is there, or `www.`.
+#[tactic(auto, unfolding(crate::specs::Addresses::has_scheme))]
+pub(crate) fn has_scheme(word: &[u8], place: usize) -> bool
+    ensures { result ≡ has_scheme word.now place }
+{
+    starts_at(word, place, b"https://")
+        || starts_at(word, place, b"http://")
+        || starts_at(word, place, b"ftp://")
+        || starts_at(word, place, b"www.")
+}
+
 /// The address that a word begins with.
 #[tactic(auto, unfolding(crate::specs::Addresses::address_of))]
 pub(crate) fn address_of(word: &[u8]) -> Option<Address>
     ensures { result ≡ address_of word.now }
 {
     if starts_at(word, 0, b"https://") {
-        of_kind(Kind::Web, web_length(word, 8))
+        of_kind(Kind::Web, web_length(true, word, 8))
     } else if starts_at(word, 0, b"http://") {
-        of_kind(Kind::Web, web_length(word, 7))
+        of_kind(Kind::Web, web_length(true, word, 7))
     } else if starts_at(word, 0, b"ftp://") {
-        of_kind(Kind::Web, web_length(word, 6))
+        of_kind(Kind::Web, web_length(true, word, 6))
     } else if starts_at(word, 0, b"www.") {
-        of_kind(Kind::Named, web_length(word, 4))
+        of_kind(Kind::Named, web_length(false, word, 4))
     } else {
         of_kind(Kind::Mail, mail_length(word))
     }

@@ -48,10 +48,10 @@ impl Host {
     }
 }
 
-/// Whether bytes are labels with dots between, two at least.
+/// Whether bytes are labels with dots between: two at least, or one alone, if that is enough.
 #[tactic(auto, unfolding(crate::specs::Addresses::is_host))]
-pub(crate) fn is_host(text: &[u8]) -> bool
-    ensures { result ≡ is_host text.now }
+pub(crate) fn is_host(is_short: bool, text: &[u8]) -> bool
+    ensures { result ≡ is_host is_short text.now }
 {
     let mut host = Host {
         length: 0,
@@ -62,7 +62,7 @@ pub(crate) fn is_host(text: &[u8]) -> bool
     for byte in text {
         host = host.after(*byte);
     }
-    host.is_label() && host.dotted
+    host.is_label() && (is_short || host.dotted)
 }
 
 /// Whether a byte may come after a host. Programs disagree on a `_`, a backslash, and letters past ASCII.

@@ -1,9 +1,9 @@
 //! The words of a line, and where the address of a word is.
 
 ghost use Rattle.std.specs.Prelude.{◌≡◌};
-ghost use Rattle.tocmark_bare_links.specs.Lines.{bracketed, is_lead, is_separator, lead_length, spot_from, spot_in, spot_of, words_start, words_step};
+ghost use Rattle.tocmark_bare_links.specs.Lines.{bracketed, is_lead, is_separator, lead_length, lead_step, spot_from, spot_in, spot_of, web_start, words_start, words_step};
 
-use crate::address::{Address, Kind, address_of};
+use crate::address::{Address, Kind, address_of, has_scheme};
 use tocmark_read_scan::basic::{bytes_between, rest};
 
 /// The words of the front of a line.
@@ -21,6 +21,19 @@ pub struct Words {
     pub around: usize,
     /// Where the last link ends.
     pub linked: usize,
+}
+
+/// What the front of a word says about its web address.
+#[derive(Clone, Copy)]
+pub struct Lead {
+    /// Where the front ends.
+    pub place: usize,
+    /// Whether an address may begin there.
+    pub opens: bool,
+    /// How many `[` of the word have no `]`.
+    pub brackets: usize,
+    /// Where the first web address may be.
+    pub found: Option<usize>,
 }
 
 /// An address in a line.
@@ -83,13 +96,58 @@ fn spot_from(start: usize, address: Option<Address>) -> Option<Spot>
     }
 }
 
+impl Lead {
+    /// One byte further.
+    #[tactic(auto, unfolding(crate::specs::Lines::lead_step))]
+    fn after(self, word: &[u8], byte: u8) -> Lead
+        ensures { result ≡ lead_step word.now self byte }
+    {
+        let begins = self.found.is_none() && self.opens && self.brackets == 0;
+        Lead {
+            place: self.place.saturating_add(1),
+            opens: is_lead(byte),
+            brackets: bracketed(self.brackets, byte),
+            found: if begins && has_scheme(word, self.place) {
+                Some(self.place)
+            } else {
+                self.found
+            },
+        }
+    }
+}
+
+/// Where the first web address of a word may be.
+#[tactic(auto, unfolding(crate::specs::Lines::web_start))]
+fn web_start(opens: bool, word: &[u8]) -> Option<usize>
+    ensures { result ≡ web_start opens word.now }
+{
+    let mut lead = Lead {
+        place: 0,
+        opens,
+        brackets: 0,
+        found: None,
+    };
+    for byte in word {
+        lead = lead.after(word, *byte);
+    }
+    lead.found
+}
+
 /// Where the address of a word is, which begins at a place.
 #[tactic(auto, unfolding(crate::specs::Lines::spot_in))]
-fn spot_in(start: usize, word: &[u8]) -> Option<Spot>
-    ensures { result ≡ spot_in start word.now }
+fn spot_in(opens: bool, start: usize, word: &[u8]) -> Option<Spot>
+    ensures { result ≡ spot_in opens start word.now }
 {
-    let lead = lead_length(word);
-    spot_from(start.saturating_add(lead), address_of(rest(word, lead)))
+    match web_start(opens, word) {
+        Some(lead) => spot_from(start.saturating_add(lead), address_of(rest(word, lead))),
+        None => {
+            if !opens {
+                return None;
+            }
+            let lead = lead_length(word);
+            spot_from(start.saturating_add(lead), address_of(rest(word, lead)))
+        }
+    }
 }
 
 impl Words {
@@ -139,8 +197,9 @@ impl Words {
     pub(crate) fn spot(self, text: &[u8]) -> Option<Spot>
         ensures { result ≡ spot_of text.now self }
     {
-        if self.opens && self.around == 0 {
-            spot_in(self.start, bytes_between(text, self.start, self.place))
+        if self.around == 0 {
+            let word = bytes_between(text, self.start, self.place);
+            spot_in(self.opens, self.start, word)
         } else {
             None
         }
