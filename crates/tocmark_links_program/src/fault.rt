@@ -4,6 +4,7 @@ use std::alloc::{AllocError, AllocFailed, Global};
 use std::{fmt, io};
 use tocmark_files::quoted::in_quotes;
 use tocmark_files::replace::ReplaceError;
+use tocmark_files::trust::Distrust;
 use tocmark_links::changed;
 
 /// What is said of a file without a place for its contents.
@@ -28,6 +29,8 @@ pub enum Fault {
     /// A path, and what is wrong with it.
     Path(String, &'static str),
     Unreadable(String, io::Error),
+    /// A file that says what is ignored, and why it doesn't count. Its folder isn't looked into.
+    Distrusted(String, Distrust),
     /// A file and its first line that isn't UTF-8.
     NotUtf8(String, usize),
     /// A file, a line of it, and why nothing is changed.
@@ -109,6 +112,7 @@ impl fmt::Display for Fault {
             Fault::Usage(why) => f.write_str(why),
             Fault::Path(path, why) => write!(f, "{path}: {why}"),
             Fault::Unreadable(path, error) => write!(f, "{path}: cannot be read: {error}"),
+            Fault::Distrusted(path, why) => write!(f, "{path}: {why}"),
             Fault::NotUtf8(path, line) => write!(f, "{path}: line {line} is not UTF-8"),
             Fault::Line(path, line, why) => write!(f, "{path}:{line}: {why}"),
             Fault::NotReplaced(path, error) => write!(f, "{path}: {error}; nothing was changed"),

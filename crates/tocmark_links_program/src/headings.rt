@@ -255,7 +255,7 @@ impl Site {
         word: &str,
         report: &mut Report,
     ) -> Result<Option<Edit>, Fault> {
-        let path = self.root.inner(rt, word)?;
+        let path = self.root.followed(rt, word)?;
         let shown = self.root.shown(rt.alloc(), path.as_str())?;
         let source = self.source_at(rt, path.as_str())?;
         let old = source.text.as_str();

@@ -2,7 +2,7 @@
 
 use crate::site::{LINKS, Site};
 use std::alloc::AllocError;
-use std::fs;
+use std::io;
 use tocmark_files::quoted::Quoted;
 
 /// What the names of files end with that are searched.
@@ -122,15 +122,18 @@ fn is_named(line: &str, old: &str) -> bool {
 }
 
 impl Site {
+    /// The text of a file of the tree, if it isn't too long. A link is no file.
+    fn short_text(&self, rt: &HostRuntime, path: &str) -> io::Result<Option<String>> {
+        let file = self.root.file(rt, path)?;
+        if file.file.metadata()?.len() > LONGEST {
+            return Ok(None);
+        }
+        Ok(Some(io::read_to_string(rt.alloc(), file.file)?))
+    }
+
     /// Warns of each line of a file that names a path.
     fn warn_of(&self, rt: &HostRuntime, path: &str, old: &str) -> Result<(), AllocError> {
-        let full = self.root.full(rt.alloc(), path)?;
-        let is_short = fs::metadata(rt, full.as_str()).is_ok_and(|found| found.is_file()
-            && found.len() <= LONGEST);
-        if !is_short {
-            return Ok(());
-        }
-        let Ok(text) = fs::read_to_string(rt, full.as_str()) else {
+        let Ok(Some(text)) = self.short_text(rt, path) else {
             return Ok(());
         };
         let shown = self.root.shown(rt.alloc(), path)?;

@@ -12,9 +12,9 @@ use crate::root::{Root, joined};
 use std::fs::OpenOptions;
 use std::io::Write;
 use std::{fs, io};
-use tocmark_files::place::{OpenFile, OpenFolder};
+use tocmark_files::place::OpenFile;
 use tocmark_files::quoted::in_quotes;
-use tocmark_files::replace::{ReplaceError, Replacement, open_to_replace};
+use tocmark_files::replace::{ReplaceError, Replacement};
 use tocmark_links::paths::folder_and_name;
 
 /// The name of the file that says what is being done.
@@ -37,7 +37,7 @@ pub struct Plan {
     pub way: Option<(String, String)>,
 }
 
-/// Makes a folder and those above it, if they aren't there, and adds them to a list. A link is no folder.
+/// Makes a folder and those above it, if they aren't there, and adds their paths in the tree to a list. A link is no folder.
 fn make_folder(
     rt: &HostRuntime,
     root: &Root,
@@ -46,26 +46,37 @@ fn make_folder(
 ) -> io::Result<()> {
     let mut path = String::new(rt.alloc());
     for name in folder.split('/') {
+        if name.is_empty() {
+            continue;
+        }
+        let above = root.folder(rt, path.as_str())?;
         path = joined(rt.alloc(), path.as_str(), name)?;
-        let full = root.full(rt.alloc(), path.as_str())?;
-        match fs::symlink_metadata(rt, full.as_str()) {
+        match above.find(rt, name) {
             Ok(found) if found.is_dir() => {}
             Ok(_) => return Err(io::Error::from(io::ErrorKind::NotADirectory)),
-            Err(_) => {
-                fs::create_dir(rt, full.as_str())?;
-                made.push(full)?;
+            Err(error) if error.kind() == io::ErrorKind::NotFound => {
+                fs::create_dir(rt, above.path_of(rt, name)?.as_str())?;
+                made.push(String::from_str(rt.alloc(), path.as_str())?)?;
             }
+            Err(error) => return Err(error),
         }
     }
     Ok(())
+}
+
+/// Removes a folder in which nothing is.
+fn remove_folder(rt: &HostRuntime, root: &Root, path: &str) -> io::Result<()> {
+    let (above, name) = folder_and_name(path);
+    let above = root.folder(rt, above)?;
+    fs::remove_dir(rt, above.path_of(rt, name)?.as_str())
 }
 
 /// Renames a path, if nothing has the new one. Both folders are there.
 fn rename(rt: &HostRuntime, root: &Root, old: &str, new: &str) -> io::Result<()> {
     let (old_folder, old_name) = folder_and_name(old);
     let (new_folder, new_name) = folder_and_name(new);
-    let from = OpenFolder::open(rt, root.full(rt.alloc(), old_folder)?.as_str())?;
-    let to = OpenFolder::open(rt, root.full(rt.alloc(), new_folder)?.as_str())?;
+    let from = root.folder(rt, old_folder)?;
+    let to = root.folder(rt, new_folder)?;
     match to.find(rt, new_name) {
         Ok(_) => return Err(io::Error::from(io::ErrorKind::AlreadyExists)),
         Err(error) if error.kind() == io::ErrorKind::NotFound => {}
@@ -85,7 +96,7 @@ fn move_path(rt: &HostRuntime, root: &Root, old: &str, new: &str) -> io::Result<
     }
     if done.is_err() {
         for folder in made.iter().rev() {
-            let _ = fs::remove_dir(rt, folder.as_str());
+            let _ = remove_folder(rt, root, folder.as_str());
         }
     }
     done
@@ -164,10 +175,8 @@ impl Edit {
 
     /// Opens its file.
     fn opened(&self, rt: &HostRuntime, root: &Root) -> Result<OpenFile, ReplaceError> {
-        let path = root
-            .full(rt.alloc(), self.path.as_str())
-            .map_err(no_memory)?;
-        open_to_replace(rt, path.as_str())
+        root.file(rt, self.path.as_str())
+            .map_err(ReplaceError::Read)
     }
 
     /// Gives the file its new text.
@@ -181,11 +190,6 @@ impl Edit {
         let mut file = self.opened(rt, root)?;
         self.take_back_in(rt, &mut file)
     }
-}
-
-/// The error of a call that runs out of memory.
-fn no_memory(_fault: std::alloc::AllocError) -> ReplaceError {
-    ReplaceError::Write(io::Error::from(io::ErrorKind::OutOfMemory))
 }
 
 impl Plan {

@@ -2,8 +2,10 @@
 
 use crate::fault::Fault;
 use std::alloc::{AllocError, Global};
+use std::io::Read;
 use std::path::Path;
 use std::{fs, io};
+use tocmark_files::place::{Identity, OpenFile, OpenFolder, Place};
 use tocmark_links::paths::{folder_and_name, relative, resolved};
 
 /// What is wrong with a path that isn't in the tree.
@@ -12,6 +14,9 @@ const ELSEWHERE: &str =
 
 /// What is said of an argument that is no path.
 const EMPTY: &str = "a path is missing: an argument is empty, or has nothing before #";
+
+/// Why a file isn't opened.
+const NOT_REGULAR: &str = "is no regular file";
 
 /// The root of a tree.
 #[derive(Drop)]
@@ -165,6 +170,44 @@ impl Root {
             Some(path) => Ok(path),
             None => Err(Fault::path(alloc, word, ELSEWHERE)),
         }
+    }
+
+    /// Opens the folder at a path in the tree. No link is followed, so it is below the root.
+    pub fn folder(&self, rt: &HostRuntime, path: &str) -> io::Result<OpenFolder> {
+        let mut folder = OpenFolder::open(rt, self.path.as_str())?;
+        for name in path.split('/') {
+            if name.is_empty() {
+                continue;
+            }
+            let found = folder.find(rt, name)?;
+            if !found.is_dir() {
+                return Err(io::Error::from(io::ErrorKind::NotADirectory));
+            }
+            let path = folder.path_of(rt, name)?;
+            folder = OpenFolder::open_known(rt, path.as_str(), Identity::of(&found))?;
+        }
+        Ok(folder)
+    }
+
+    /// Opens the regular file at a path in the tree. No link is followed, so it is below the root.
+    pub fn file(&self, rt: &HostRuntime, path: &str) -> io::Result<OpenFile> {
+        let (folder, name) = folder_and_name(path);
+        let folder = self.folder(rt, folder)?;
+        let found = folder.find(rt, name)?;
+        if !found.is_file() {
+            return Err(io::Error::new(io::ErrorKind::Other, NOT_REGULAR));
+        }
+        let full = self.full(rt.alloc(), path)?;
+        let place = Place::new(full, folder.identity()?, Identity::of(&found));
+        place.open(rt)
+    }
+
+    /// What the regular file at a path in the tree has. No link is followed.
+    pub fn read(&self, rt: &HostRuntime, path: &str) -> io::Result<Vec<u8>> {
+        let mut file = self.file(rt, path)?;
+        let mut bytes = Vec::new(rt.alloc());
+        file.file.read_to_end(&mut bytes)?;
+        Ok(bytes)
     }
 
     /// Whether a symbolic link is at a path in the tree.

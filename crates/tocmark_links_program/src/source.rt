@@ -4,7 +4,6 @@ use crate::fault::Fault;
 use crate::plan::Edit;
 use crate::site::Site;
 use std::alloc::{AllocError, Global};
-use std::fs;
 
 /// The byte order mark.
 const ORDER_MARK: &str = "\u{feff}";
@@ -74,11 +73,10 @@ impl Source {
 }
 
 impl Site {
-    /// What the file with this path in the tree has.
+    /// What the file with this path in the tree has. A link is no file.
     pub fn source_at(&self, rt: &HostRuntime, path: &str) -> Result<Source, Fault> {
-        let full = self.root.full(rt.alloc(), path)?;
         let shown = self.root.shown(rt.alloc(), path)?;
-        let bytes = match fs::read(rt, full.as_str()) {
+        let bytes = match self.root.read(rt, path) {
             Ok(bytes) => bytes,
             Err(error) => return Err(Fault::unreadable(rt.alloc(), shown.as_str(), error)),
         };

@@ -6,8 +6,13 @@ use std::alloc::{AllocError, Global};
 use std::fs::DirEntry;
 use std::{fs, io};
 use tocmark_files::names::is_markdown;
+use tocmark_files::place::OpenFolder;
+use tocmark_files::quoted::in_quotes;
 use tocmark_files::rules::{Entry, Rules};
-use tocmark_files::trust::Caller;
+use tocmark_files::trust::{Caller, Distrust};
+
+/// The name of the files that say what Git ignores.
+const IGNORE: &str = ".gitignore";
 
 /// Folders that are never looked into.
 const PASSED_BY: [&str; 4] = [".git", ".hg", ".svn", "node_modules"];
@@ -58,23 +63,54 @@ fn is_passed_by(name: &str) -> bool {
 }
 
 impl Walk {
-    /// Reads the `.gitignore` file of a folder at this full path, and returns what holds in it. One that belongs to somebody
-    /// else, or can't be read, has no rules.
+    /// Adds the rules of a `.gitignore` file, and returns what holds in its folder.
     fn enter(
         &mut self,
+        alloc: Global,
+        full: &str,
+        bytes: &[u8],
+        above: Option<usize>,
+    ) -> Result<Result<Option<usize>, Distrust>, AllocError> {
+        let text = String::from_utf8_lossy(alloc, bytes)?;
+        let mut rules = Rules::new(alloc, full)?;
+        if let Some(line) = rules.add_lines(alloc, text.as_str())? {
+            return Ok(Err(Distrust::LongLine(line)));
+        }
+        self.levels.push(Level { rules, above })?;
+        Ok(Ok(Some(self.levels.len().saturating_sub(1))))
+    }
+
+    /// What holds in an open folder with this full path, or why its `.gitignore` file doesn't count.
+    fn level_of(
+        &mut self,
         rt: &HostRuntime,
+        folder: &OpenFolder,
         full: &str,
         above: Option<usize>,
-    ) -> Result<Option<usize>, AllocError> {
-        let path = joined(rt.alloc(), full, ".gitignore")?;
-        let Ok(Some(bytes)) = self.caller.read(rt, path.as_str(), false) else {
-            return Ok(above);
-        };
-        let text = String::from_utf8_lossy(rt.alloc(), &bytes)?;
-        let mut rules = Rules::new(rt.alloc(), full)?;
-        let _ = rules.add_lines(rt.alloc(), text.as_str())?;
-        self.levels.push(Level { rules, above })?;
-        Ok(Some(self.levels.len().saturating_sub(1)))
+    ) -> io::Result<Result<Option<usize>, Distrust>> {
+        let path = folder.path_of(rt, IGNORE)?;
+        match self.caller.read(rt, path.as_str(), false) {
+            Ok(Some(bytes)) => Ok(self.enter(rt.alloc(), full, &bytes, above)?),
+            Ok(None) => Ok(Ok(above)),
+            Err(distrust) => Ok(Err(distrust)),
+        }
+    }
+
+    /// Passes by a folder whose `.gitignore` file doesn't count.
+    fn pass_by(
+        &mut self,
+        alloc: Global,
+        root: &Root,
+        path: String,
+        distrust: Distrust,
+    ) -> Result<(), AllocError> {
+        let file = joined(alloc, path.as_str(), IGNORE)?;
+        let file = in_quotes(alloc, root.shown(alloc, file.as_str())?.as_str())?;
+        self.files.faults.push(Fault::Distrusted(file, distrust))?;
+        if path.is_empty() {
+            return Ok(());
+        }
+        self.files.others.push(path)
     }
 
     /// Whether an entry of a folder is excluded, or ignored by what holds there.
@@ -138,9 +174,13 @@ impl Walk {
         let Folder { path, level } = folder;
         let full = root.full(rt.alloc(), path.as_str())?;
         let shown = root.shown(rt.alloc(), path.as_str())?;
-        let level = self.enter(rt, full.as_str(), level)?;
+        let opened = root.folder(rt, path.as_str())?;
+        let level = match self.level_of(rt, &opened, full.as_str(), level)? {
+            Ok(level) => level,
+            Err(distrust) => return Ok(self.pass_by(rt.alloc(), root, path, distrust)?),
+        };
         let folder = Folder { path, level };
-        for entry in fs::read_dir(rt, full.as_str())? {
+        for entry in fs::read_dir(rt, opened.reach())? {
             let added = match entry {
                 Ok(entry) => self.add(rt, root, &folder, &entry),
                 Err(error) => Err(error),
