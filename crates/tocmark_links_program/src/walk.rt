@@ -107,10 +107,10 @@ impl Walk {
         let file = joined(alloc, path.as_str(), IGNORE)?;
         let file = in_quotes(alloc, root.shown(alloc, file.as_str())?.as_str())?;
         self.files.faults.push(Fault::Distrusted(file, distrust))?;
-        if path.is_empty() {
-            return Ok(());
+        if !path.is_empty() {
+            self.files.others.push(path)?;
         }
-        self.files.others.push(path)
+        Ok(())
     }
 
     /// Whether an entry of a folder is excluded, or ignored by what holds there.
