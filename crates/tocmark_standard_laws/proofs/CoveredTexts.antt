@@ -1,7 +1,7 @@
 -- Texts whose blocks are those that are declared are read as the events that are declared.
 use Rattle.std.proofs.Common.{◌≡◌, ℕ, suc, ◌+◌, ◌*◌, ◌^◌, ◌<◌, ◌≤◌, ◌⊎◌, inl, inr, Bool, true, false, not, ◌&&◌, ◌||◌, nat_lt, List, [], ◌∷◌, ◌++◌, length, map, take, append-nil, refl, ap, sym, ◌∙◌, subst, arith, true≢false}
 use Rattle.std.specs.Prelude.{Option, Some, None}
-use Rattle.std.specs.List.{fold, flat_map, list_any, list_all, AllByRecursion}
+use Rattle.std.specs.List.{flat_map, list_any, list_all, AllByRecursion}
 use Rattle.std.specs.Str.{IsUtf8}
 use Rattle.std.proofs.lemmas.Bool.Decides.{nat_tests}
 use Rattle.tocmark_event.specs.View.{EventView}
@@ -14,7 +14,7 @@ use Rattle.tocmark_read_page.specs.declared.page.BlockKind.TheVariants as kind
 use Rattle.tocmark_read_page.specs.declared.piece.Piece.{Piece as Line}
 use Rattle.tocmark_read_blocks.specs.Blocks.{BlocksView, blocks_in}
 use Rattle.tocmark_reader.specs.Emitted.{NodeView, emitted}
-use Rattle.tocmark_reader.specs.Pages.{content_line, block_step_in, start_state, assembled_in}
+use Rattle.tocmark_reader.specs.Pages.{content_line, start_state, assembled_in}
 use Rattle.tocmark_reader.specs.Reading.{found_under, reading_of}
 use Rattle.tocmark_commonmark.specs.Beginnings.{beginning}
 use Rattle.tocmark_commonmark.specs.Blocks.{blocks_of, size}
@@ -31,13 +31,13 @@ use Rattle.tocmark_block_laws.proofs.NamedBlocks.{names-change-none}
 use Rattle.tocmark_block_laws.proofs.NestedTexts.{nested-lists-declared}
 use Rattle.tocmark_block_laws.proofs.Read.{quotes-declared}
 use Rattle.tocmark_block_laws.proofs.Told.{leaf_as}
-use Rattle.tocmark_inline_laws.specs.Said.{commonmark}
+use Rattle.tocmark_inline_laws.specs.Said.{commonmark, Piece}
 use Rattle.tocmark_inline_laws.specs.Statement.{LeadAlike}
 use Rattle.tocmark_standard_laws.specs.Contents.{HasNoZero}
 use Rattle.tocmark_standard_laws.specs.Labels.{collected_of, entry_in, destinations_of}
 use Rattle.tocmark_standard_laws.specs.Lettered.{lettered, as_text}
 use Rattle.tocmark_standard_laws.specs.Nesting.{Sort, sort_of, Outer, shape, IsIn, after_as, after, Nested}
-use Rattle.tocmark_standard_laws.specs.CoveredTexts.{CoveredTextsAreReadAsDeclared, AgreedTextsAreReadAsDeclared, events_read}
+use Rattle.tocmark_standard_laws.specs.CoveredTexts.{IsAgreedText, CoveredTextsAreReadAsDeclared, AgreedTextsAreReadAsDeclared, events_read}
 use Rattle.tocmark_standard_laws.proofs.Ended.{events-said, ended_as_text}
 use Rattle.tocmark_standard_laws.proofs.Fitting.{shapes}
 use Rattle.tocmark_standard_laws.proofs.FitWalk.{Found, found_fits}
@@ -48,7 +48,7 @@ use Rattle.tocmark_standard_laws.proofs.LeafShown.{leaf_shown, pieces_cut, lines
 use Rattle.tocmark_standard_laws.proofs.Leaves.{no_zero}
 use Rattle.tocmark_standard_laws.proofs.LineBlocks.{IsWhole, IsText, IsKept, has_words, is_html_fed, Looks, LeafShows, IsPlainBlock, Adds, all_part, blocks_add}
 use Rattle.tocmark_standard_laws.specs.SaidBlocks.{blocks_said, one_said}
-use Rattle.tocmark_standard_laws.specs.Ended.{ended}
+use Rattle.tocmark_standard_laws.specs.Ended.{ended, node_shows, IsSome}
 use Rattle.tocmark_standard_laws.proofs.SaidBlocks.{told_said}
 use Rattle.tocmark_standard_laws.proofs.Shown.{nodes_emitted}
 use Rattle.tocmark_standard_laws.proofs.WellBlocks.{is_html_text, IsWellText, AreWell, IsWell, blocks-well}
@@ -298,15 +298,14 @@ found_nodes : (text : List ℕ) → (found_under commonmark text).nodes ≡ (ass
 unfolding found_under
 found_nodes text = refl
 
-pub declared_with : (text : List ℕ) → IsUtf8 text → 4 * length text + 1 < 2 ^ 64 → IsAgreed text → lettered (events_read text) ≡ map as_text (lettered (events_of text))
-unfolding reading_of
-declared_with text utf8 small a =
-    ap (λ (ns : List NodeView). lettered (map (λ (e : EventView × (ℕ × ℕ)). e.0) (emitted text ns))) (found_nodes text ∙ adds.is)
-    ∙ nodes_emitted text adds.nodes (adds.shown.1)
-    ∙ ap (ended []) (adds.shown.0)
-    ∙ ended_as_text [] (flat_map (one_said labels all text pieces) all)
-    ∙ ap (λ ps. map as_text (ended [] ps)) (tree-said labels text ∙ ap (blocks_said labels 0 false) tree ∙ told_said labels 0 false (blocks_of text))
-    ∙ ap (map as_text) (sym (events-said text))
+-- the reader's blocks add what they say to the texts of the definitions
+made : (text : List ℕ) → IsUtf8 text → 4 * length text + 1 < 2 ^ 64 → IsAgreed text
+    → Adds text (start_state (collected_of text).texts) (assembled_in commonmark text (entry_in text) (blocks_in commonmark text).blocks (blocks_in commonmark text).pieces (collected_of text).texts)
+    (flat_map (one_said (destinations_of text) (blocks_in commonmark text).blocks text (blocks_in commonmark text).pieces) (blocks_in commonmark text).blocks)
+made text utf8 small a =
+    blocks_add looks all text pieces (start_state (collected_of text).texts) all zeros fits kept
+    (all_plain looks text pieces count [] 0 all (agreed_leads text a.agrees) source cuts nest (omega (arith, small)) (blocks-low text pieces all zeros nest tree) found.lasts clear)
+    ([], sym (append-nil (collected_of text).texts), refl)
   where
     view : BlocksView
     view = blocks_in commonmark text
@@ -320,9 +319,6 @@ declared_with text utf8 small a =
     -- no block is deeper
     count : ℕ
     count = 2 * length text + 2
-
-    labels : List Destination
-    labels = destinations_of text
 
     same : view ≡ blocks_in CORE text
     same = names-change-none All text
@@ -355,12 +351,29 @@ declared_with text utf8 small a =
     cuts = subst (λ (v : BlocksView). AllByRecursion (λ (p : Line). IsCutLine text (content_line p)) v.pieces) (sym same) (pieces_cut text source small (subst (λ (v : BlocksView). AllByRecursion (IsWhole text) v.pieces) same found.each))
 
     looks : Looks
-    looks = record { labels = labels; find = entry_in text; base = (collected_of text).texts }
+    looks = record { labels = destinations_of text; find = entry_in text; base = (collected_of text).texts }
 
-    adds : Adds text (start_state (collected_of text).texts) (fold (block_step_in commonmark text (entry_in text) all pieces) (start_state (collected_of text).texts) all) (flat_map (one_said labels all text pieces) all)
-    adds = blocks_add looks all text pieces (start_state (collected_of text).texts) all zeros fits kept
-        (all_plain looks text pieces count [] 0 all (agreed_leads text a.agrees) source cuts nest (omega (arith, small)) (blocks-low text pieces all zeros nest tree) found.lasts clear)
-        ([], sym (append-nil (collected_of text).texts), refl)
+-- each node of such a text shows something
+pub agreed_shown : (text : List ℕ) → IsAgreedText text → AllByRecursion (λ (n : NodeView). IsSome (node_shows text n)) (found_under commonmark text).nodes
+agreed_shown text h =
+    let adds = made text h.utf8 h.small (record { plain = h.plain; agrees = h.agrees }) in
+    subst (AllByRecursion (λ (n : NodeView). IsSome (node_shows text n))) (sym (found_nodes text ∙ adds.is)) (adds.shown.1)
+
+pub declared_with : (text : List ℕ) → IsUtf8 text → 4 * length text + 1 < 2 ^ 64 → IsAgreed text → lettered (events_read text) ≡ map as_text (lettered (events_of text))
+unfolding reading_of
+declared_with text utf8 small a =
+    let all : List ReadBlock = (blocks_in commonmark text).blocks in
+    let pieces : List Line = (blocks_in commonmark text).pieces in
+    let labels : List Destination = destinations_of text in
+    let said : List Piece = flat_map (one_said labels all text pieces) all in
+    let tree : read_tree text (blocks_in commonmark text) ≡ told (blocks_of text) = ap (read_tree text) (names-change-none All text) ∙ a.agrees.blocks in
+    let adds = made text utf8 small a in
+    ap (λ (ns : List NodeView). lettered (map (λ (e : EventView × (ℕ × ℕ)). e.0) (emitted text ns))) (found_nodes text ∙ adds.is)
+    ∙ nodes_emitted text adds.nodes (adds.shown.1)
+    ∙ ap (ended []) (adds.shown.0)
+    ∙ ended_as_text [] said
+    ∙ ap (λ ps. map as_text (ended [] ps)) (tree-said labels text ∙ ap (blocks_said labels 0 false) tree ∙ told_said labels 0 false (blocks_of text))
+    ∙ ap (map as_text) (sym (events-said text))
 
 pub covered-declared : CoveredTextsAreReadAsDeclared
 covered-declared text h = by (one_of_two (is_covered text) (has_one_line_blocks text || has_plain_lists text) h.covered)

@@ -171,7 +171,7 @@ past [] (suc n) l = refl
 past (x ∷ xs) zero l = absurd (omega arith)
 past (x ∷ xs) (suc n) l = past xs n (omega arith)
 
-same_pieces : (pieces : List Line) (b : ReadBlock) → b.last ≤ length pieces → pages.pieces_of pieces b.first b.last ≡ pieces_of pieces b
+pub same_pieces : (pieces : List Line) (b : ReadBlock) → b.last ≤ length pieces → pages.pieces_of pieces b.first b.last ≡ pieces_of pieces b
 same_pieces pieces b l = by (nat_le b.first b.last) (nat_le b.last (length pieces)) refl refl
   where
     by : (x y : Bool) → nat_le b.first b.last ≡ x → nat_le b.last (length pieces) ≡ y → (if x && y then slice_range pieces b.first b.last else []) ≡ drop b.first (take b.last pieces)
