@@ -6,7 +6,7 @@ use Rattle.std.proofs.lemmas.Str.{encode_ascii}
 use Rattle.std.specs.Prelude.{Option, Some, None, take_while, slice_get, encode_utf8}
 use Rattle.std.specs.Char.{is_ascii_alphanumeric, is_ascii_punctuation}
 use Rattle.std.specs.List.{AllByRecursion, fold}
-use Rattle.tocmark_event.specs.View.{EventView, Leaf, Text, SoftBreak}
+use Rattle.tocmark_event.specs.View.{EventView, Leaf, Text}
 use Rattle.tocmark_read_scan.specs.Basic.{plus, byte_at}
 use Rattle.tocmark_read_scan.specs.Class.{is_in}
 use Rattle.tocmark_read_scan.specs.PlainParts.{Part, Bare, Escaped, Referred, Feed, spelled, last_byte}
@@ -15,7 +15,6 @@ use Rattle.tocmark_read_scan.proofs.PlainPlaces.{drop_at, byte_front}
 use Rattle.tocmark_read_scan.proofs.PlainTests.{eq_of}
 use Rattle.tocmark_read_tokens.specs.Reference.{is_escape}
 use Rattle.tocmark_read_spans.specs.declared.run.Run.{Run as Delimiter}
-use Rattle.tocmark_read_inlines.specs.Scan as s
 use Rattle.tocmark_read_inlines.proofs.PlainInlines.{IsInert}
 use Rattle.tocmark_read_inlines.proofs.PlainLeaf.{known}
 use Rattle.tocmark_read_inlines.proofs.PlainPasses.{AreRead}

@@ -1,4 +1,4 @@
--- The events that CommonMark declares of a layout are those of the document, so these are read.
+-- The events that CommonMark declares of a layout are those of the document, so these are read, letter by letter.
 use Rattle.std.proofs.Common.{◌≡◌, ℕ, ◌+◌, ◌*◌, ◌^◌, ◌<◌, ◌≤◌, Bool, true, false, ◌==◌, ◌||◌, if◌then◌else◌, List, [], ◌∷◌, ◌++◌, codes, length, map, refl, ap, sym, subst, ◌∙◌, arith, append_assoc, append-nil, length-append, None, Some}
 use Rattle.std.proofs.lemmas.List.{map-append}
 use Rattle.std.proofs.lemmas.Str.{IsUtf8-from_ascii, utf8_lossy-IsUtf8}
@@ -9,14 +9,7 @@ use Rattle.tocmark_event.specs.View.{TagView, Paragraph, Heading, BlockQuote, Co
 use Rattle.tocmark_event.specs.declared.event.flags.ParserOptions.{ParserOptions}
 use Rattle.tocmark_read_scan.specs.PlainParts.{Part, meant, spelled}
 use Rattle.tocmark_read_scan.proofs.PlainContent.{get_behind}
-use Rattle.tocmark_reader.specs.Reading.{collected_from, collected_in, core_reading, found_under, reading_of}
-use Rattle.tocmark_read_scan.specs.declared.syntax.TheConstants.{CORE}
-use Rattle.tocmark_read_scan.specs.declared.syntax.Names.TheVariants.{All}
-use Rattle.tocmark_read_page.specs.Definitions.{DefinitionView}
-use Rattle.tocmark_read_blocks.specs.Blocks.{BlocksView, blocks_in}
-use Rattle.tocmark_read_spans.specs.Definitions.{distinct_labels}
-use Rattle.tocmark_block_laws.proofs.NamedBlocks.{names-change-none}
-use Rattle.tocmark_inline_laws.specs.Said.{commonmark}
+use Rattle.tocmark_reader.specs.Reading.{core_reading}
 use Rattle.tocmark_reader.specs.PlainTexts.{line_events, text_parts}
 use Rattle.tocmark_reader.proofs.PlainEvents.{said}
 use Rattle.tocmark_reader.proofs.PlainReading.{IsPrintable, merged_lines}
@@ -29,11 +22,10 @@ use Rattle.tocmark_commonmark.specs.Links.{Destination, destinations}
 use Rattle.tocmark_commonmark.specs.Tokens.{Backtick, Star, OpenBracket, Exclamation, CloseBracket, Angle, Space, LineFeed, Other, kind_of, literal, literal_at, literals, literals_at, and_literals, resolved}
 use Rattle.tocmark_commonmark.specs.Tree as block
 use Rattle.tocmark_standard_laws.specs.Lettered.{letter_events, lettered, tag_as_text, as_text}
+use Rattle.tocmark_standard_laws.specs.CoveredTexts.{IsAgreedText, events_read}
 use Rattle.tocmark_standard_laws.proofs.CoveredTexts.{agreed-declared}
 use Rattle.tocmark_standard_laws.proofs.Ended.{lettered_append, letter_append, merged_lettered}
 use Rattle.tocmark_standard_laws.proofs.WellBlocks.{AreWell, IsWell, blocks-well}
-use Rattle.tocmark_state.specs.Walk.{nothing_yet, script}
-use Rattle.tocmark_state.specs.WorkView.{rendering}
 use Rattle.tocmark_laws.specs.TextBlocks.{HeadingKind, place_in}
 use Rattle.tocmark_laws.specs.Documents.{ArePlainTokens, PlainBlock, PlainParagraph, PlainHeading, PlainRule, PlainCode, IsPlainBlock, plain_events}
 use Rattle.tocmark_laws.proofs.DocumentCode.{IsInfo}
@@ -41,16 +33,12 @@ use Rattle.tocmark_laws.proofs.DocumentCodeSpelling.{fence_rest}
 use Rattle.tocmark_laws.proofs.DocumentRows.{IsCode}
 use Rattle.tocmark_laws.proofs.DocumentsReadBack.{may_stand}
 use Rattle.tocmark_write_texts.specs.Escape.{escaped}
-use Rattle.tocmark_document_laws.specs.Blocks.{Blocks, Nothing, PlainThen, QuoteThen, BulletsThen, ItemThen, ArePlain, events_of, document}
+use Rattle.tocmark_document_laws.specs.Blocks.{Blocks, Nothing, PlainThen, QuoteThen, BulletsThen, ItemThen, ArePlain, events_of}
 use Rattle.tocmark_document_laws.specs.DocumentLines.{Line, How, Beside, Below, Outside, no_lists, code_text, feeds_below, feeds_below_quote, layout, paragraph_lines}
-use Rattle.tocmark_document_laws.specs.LaidOut.{JoinTo}
-use Rattle.tocmark_document_laws.specs.ReadBack.{HasNoList}
-use Rattle.tocmark_document_laws.proofs.DocumentsLaidOut.{documents_laid_out}
+use Rattle.tocmark_document_laws.specs.ReadBack.{HasNoList, BlocksTabless}
 use Rattle.tocmark_layout_laws.specs.Declared.{declared, declared_block, declared_tree}
-use Rattle.tocmark_read_back_laws.specs.Documents.{IsReadAsEvents, LayoutsAreReadBack, WholeDocumentsAreReadBack}
 use Rattle.tocmark_read_back_laws.proofs.DeclaredContents.{parts_declared}
-use Rattle.tocmark_read_back_laws.proofs.LaidTrees.{Content, content_parts, heading_content, paragraph_content, layout_agrees, layout_declared, layout_undefined}
-use Rattle.tocmark_block_laws.specs.Quotes.{Agrees}
+use Rattle.tocmark_read_back_laws.proofs.LaidTrees.{Content, content_parts, heading_content, paragraph_content, layout_agrees, layout_declared}
 use Rattle.tocmark_read_back_laws.proofs.SafeLines.{AreSafe, layout_safe, no_zeros, safe_ascii, safe_plain, shown_ascii}
 
 -- a container and what is after it
@@ -67,7 +55,7 @@ elements_on t es fs xs ys h k =
 
 -- texts
 
-texts_lettered : (ts : List (List ℕ)) → lettered (map (λ t. Leaf (Text t)) ts) ≡ letter_events (concat ts)
+pub texts_lettered : (ts : List (List ℕ)) → lettered (map (λ t. Leaf (Text t)) ts) ≡ letter_events (concat ts)
 texts_lettered [] = refl
 texts_lettered (t ∷ ts) = ap (λ (es : List EventView). letter_events t ++ es) (texts_lettered ts) ∙ sym (letter_append t (concat ts))
 
@@ -129,7 +117,7 @@ unfolding resolved
 info_resolved token info h = info_literals token info [] info 0 refl refl h
 
 module _ (o : OptionsView) (flags : ParserOptions) (tokens : ArePlainTokens o) (labels : List Destination) (n : ℕ) (small : n + 2 < 2 ^ 64) where
-  code_good : (info : List ℕ) (ls : List (List ℕ)) → IsPlainBlock (PlainCode info ls) → IsCode o.code_block_token (fence_rest o info ls) info ls
+  pub code_good : (info : List ℕ) (ls : List (List ℕ)) → IsPlainBlock (PlainCode info ls) → IsCode o.code_block_token (fence_rest o info ls) info ls
   code_good info ls h = may_stand o (λ text flags. core_reading text) flags tokens.emphasis tokens.code (PlainCode info ls) h
 
   block_said : (b : PlainBlock) (xs ys : List EventView) → IsPlainBlock b → IsWell n (declared_block o flags b) → lettered xs ≡ lettered ys → lettered (block_event labels false (declared_block o flags b) ++ xs) ≡ lettered (plain_events b ++ ys)
@@ -213,32 +201,18 @@ declared_said o flags f text tokens h q e w small =
     ∙ ap (λ x. lettered (block_events labels false x)) e
     ∙ tree_said o flags tokens labels (length text + 1) (omega (arith, small)) no_lists Beside f h q (subst (AreWell (length text + 1)) e w)
 
--- a text without definitions of links defines no label
-none_defined : (text : List ℕ) → (blocks_in CORE text).definitions ≡ [] → (reading_of commonmark text).defined ≡ []
-unfolding reading_of found_under collected_from
-none_defined text h =
-    let labels : List DefinitionView → List (List ℕ) = λ ds. distinct_labels (collected_in All ds).texts (collected_in All ds).labels in
-    ap (λ (v : BlocksView). labels v.definitions) (names-change-none All text) ∙ ap labels h
+-- the reader finds the declared blocks in a layout
+pub layout_agreed : (o : OptionsView) (flags : ParserOptions) (f : Blocks) → ArePlainTokens o → ArePlain f → HasNoList f → BlocksTabless f → 8 * length (layout o flags f) + 28 < 2 ^ 64 → IsAgreedText (layout o flags f)
+layout_agreed o flags f tokens plain listless tabless small =
+    let text : List ℕ = layout o flags f in
+    let safe : AreSafe text = layout_safe o flags tokens f plain listless tabless in
+    record { plain = safe_plain text safe; agrees = layout_agrees o flags tokens f plain listless tabless small; utf8 = IsUtf8-from_ascii text (safe_ascii text safe); small = omega (arith, small) }
 
-pub layouts_read_back : LayoutsAreReadBack
-layouts_read_back options flags f tokens plain listless tabless small =
-    let text : List ℕ = layout options flags f in
-    let safe : AreSafe text = layout_safe options flags tokens f plain listless tabless in
-    let agrees : Agrees text = layout_agrees options flags tokens f plain listless tabless small in
-    record {
-      events =
-          agreed-declared text (record { plain = safe_plain text safe; agrees = agrees; utf8 = IsUtf8-from_ascii text (safe_ascii text safe); small = omega (arith, small) })
-          ∙ ap (map as_text) (declared_said options flags f text tokens plain listless (layout_declared options flags tokens f plain listless (omega (arith, small))) (blocks-well text (no_zeros text safe)) (omega (arith, small)))
-          ∙ kept options flags tokens f plain listless;
-      defined = none_defined text (layout_undefined options flags tokens f plain listless tabless small);
-    }
-
-pub documents_read_back : WholeDocumentsAreReadBack
-documents_read_back options reading flags source f unchecked tokens bullet plain listless tabless =
-    let laid : JoinTo (script (rendering options reading) source (nothing_yet flags) (document f)) (layout options flags f) = documents_laid_out options reading flags source f unchecked tokens bullet plain in
-    record {
-      ends_well = laid.ends_well;
-      read = λ small.
-          subst (λ (t : List ℕ). IsReadAsEvents t (events_of f)) (sym laid.is)
-          (layouts_read_back options flags f tokens plain listless tabless (subst (λ (t : List ℕ). 8 * length t + 28 < 2 ^ 64) laid.is small));
-    }
+-- the events that are read of it have the letters of the document's
+pub layout_lettered : (o : OptionsView) (flags : ParserOptions) (f : Blocks) → ArePlainTokens o → ArePlain f → HasNoList f → BlocksTabless f → 8 * length (layout o flags f) + 28 < 2 ^ 64 → lettered (events_read (layout o flags f)) ≡ lettered (events_of f)
+layout_lettered o flags f tokens plain listless tabless small =
+    let text : List ℕ = layout o flags f in
+    let safe : AreSafe text = layout_safe o flags tokens f plain listless tabless in
+    agreed-declared text (layout_agreed o flags f tokens plain listless tabless small)
+    ∙ ap (map as_text) (declared_said o flags f text tokens plain listless (layout_declared o flags tokens f plain listless (omega (arith, small))) (blocks-well text (no_zeros text safe)) (omega (arith, small)))
+    ∙ kept o flags tokens f plain listless

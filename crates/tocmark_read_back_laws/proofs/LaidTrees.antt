@@ -46,7 +46,7 @@ use Rattle.tocmark_read_back_laws.proofs.ReadTrees.{trees_blocks}
 
 -- lines as they are read
 
-words_read : (fed : Bool) (ls : List Line) → map (λ (l : LineTold). l.words) (lines_read fed ls) ≡ ls
+pub words_read : (fed : Bool) (ls : List Line) → map (λ (l : LineTold). l.words) (lines_read fed ls) ≡ ls
 words_read fed [] = refl
 words_read fed (l ∷ []) = refl
 words_read fed (l ∷ m ∷ ms) = ap (λ xs. l ∷ xs) (words_read fed (m ∷ ms))
@@ -163,7 +163,7 @@ module _ (o : OptionsView) (flags : ParserOptions) (tokens : ArePlainTokens o) w
       }
 
   -- the text of such lines is theirs
-  content_text : (lines : List Line) (texts : List (List ℕ)) → Content lines texts → text_of lines ≡ leaves.joined lines
+  pub content_text : (lines : List Line) (texts : List (List ℕ)) → Content lines texts → text_of lines ≡ leaves.joined lines
   content_text lines texts c =
       ap text_of c.is
       ∙ end_kept (leaves.joined (map spelled (c.first ∷ c.more))) (joined_ends (spelled c.first) (map spelled c.more) (all_end (c.first ∷ c.more) c.lines_plain))

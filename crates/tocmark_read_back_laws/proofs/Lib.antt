@@ -1,8 +1,15 @@
 pub mod Runs
 pub mod Tokens
 pub mod DeclaredContents
+pub mod NamedParts
+pub mod AlikeNodes
+pub mod AlikeBlocks
 pub mod ReadTrees
+pub mod ToldBlocks
+pub mod AlikeReadings
 pub mod SafeLines
 pub mod LaidTrees
+pub mod MergedTexts
 pub mod LaidEvents
+pub mod LaidReadings
 pub mod ReadBackExamples

@@ -21,7 +21,7 @@ words_told : (text : List ℕ) (ps : List Piece) → map (line_text text) ps ≡
 words_told text [] = refl
 words_told text (p ∷ ps) = ap (λ ls. line_text text p ∷ ls) (words_told text ps)
 
-leaf_told : (text : List ℕ) (ps : List Piece) → leaf_text text ps ≡ words_of (map (line_told text) ps)
+pub leaf_told : (text : List ℕ) (ps : List Piece) → leaf_text text ps ≡ words_of (map (line_told text) ps)
 leaf_told text ps = ap text_of (words_told text ps)
 
 code_told : (text : List ℕ) (ps : List Piece) → code_text text ps ≡ code_of (map (line_told text) ps)

@@ -149,9 +149,9 @@ amp_no_number : (bytes rest : List ℕ) (p : ℕ) → drop p bytes ≡ 38 ∷ 97
 unfolding starts_at
 amp_no_number bytes rest p e = rw e refl
 
--- `&amp;` is an ampersand
-pub amp_token : (bytes pre rest : List ℕ) (p : ℕ) → bytes ≡ pre ++ 38 ∷ 97 ∷ 109 ∷ 112 ∷ 59 ∷ rest → p ≡ length pre → p + 5 < 2 ^ 64 → token_at bytes p 38 Ampersand ≡ token (Text (38 ∷ [])) (p + 5)
-amp_token bytes pre rest p e at fits =
+-- `&amp;` is a reference to an ampersand, by its name
+pub amp_name : (bytes pre rest : List ℕ) (p : ℕ) → bytes ≡ pre ++ 38 ∷ 97 ∷ 109 ∷ 112 ∷ 59 ∷ rest → p ≡ length pre → p + 5 < 2 ^ 64 → named bytes p ≡ Some (record { characters = 38 ∷ []; next = p + 5 })
+amp_name bytes pre rest p e at fits =
     let here : drop p bytes ≡ 38 ∷ 97 ∷ 109 ∷ 112 ∷ 59 ∷ rest = drop_at bytes pre _ p e at in
     let one : bytes ≡ (pre ++ 38 ∷ []) ++ 97 ∷ 109 ∷ 112 ∷ 59 ∷ rest = e ∙ sym (append_assoc pre (38 ∷ []) (97 ∷ 109 ∷ 112 ∷ 59 ∷ rest)) in
     let width : p + 1 ≡ length (pre ++ 38 ∷ []) = ap (λ n. n + 1) at ∙ sym (length-append pre (38 ∷ [])) in
@@ -159,8 +159,13 @@ amp_token bytes pre rest p e at fits =
     let four : bytes ≡ (pre ++ 38 ∷ 97 ∷ 109 ∷ 112 ∷ []) ++ 59 ∷ rest = e ∙ sym (append_assoc pre (38 ∷ 97 ∷ 109 ∷ 112 ∷ []) (59 ∷ rest)) in
     let last : byte_at bytes (p + 4) ≡ 59 = byte_dropped bytes (p + 4) 59 rest (drop_at bytes (pre ++ 38 ∷ 97 ∷ 109 ∷ 112 ∷ []) _ (p + 4) four (ap (λ n. n + 4) at ∙ sym (length-append pre (38 ∷ 97 ∷ 109 ∷ 112 ∷ [])))) in
     let mid : bytes_between bytes (p + 1) (p + 4) ≡ codes "amp" = piece_between bytes (pre ++ 38 ∷ []) (codes "amp") (59 ∷ rest) (p + 1) (p + 4) one width (let q : p + 4 ≡ p + 1 + 3 = omega arith in q ∙ ap (λ n. n + 3) width) in
-    ap (λ c. ampersand p (reference_if c bytes p)) (amp_no_number bytes (109 ∷ 112 ∷ 59 ∷ rest) p here)
-    ∙ ap (ampersand p) (amp_named bytes rest p here next last mid fits)
+    amp_named bytes rest p here next last mid fits
+
+-- so it is an ampersand
+pub amp_token : (bytes pre rest : List ℕ) (p : ℕ) → bytes ≡ pre ++ 38 ∷ 97 ∷ 109 ∷ 112 ∷ 59 ∷ rest → p ≡ length pre → p + 5 < 2 ^ 64 → token_at bytes p 38 Ampersand ≡ token (Text (38 ∷ [])) (p + 5)
+amp_token bytes pre rest p e at fits =
+    ap (λ c. ampersand p (reference_if c bytes p)) (amp_no_number bytes (109 ∷ 112 ∷ 59 ∷ rest) p (drop_at bytes pre _ p e at))
+    ∙ ap (ampersand p) (amp_name bytes pre rest p e at fits)
 
 is_number : (bytes rest : List ℕ) (p : ℕ) → drop p bytes ≡ 38 ∷ 35 ∷ rest → starts_at bytes p (codes "&#") ≡ true
 unfolding starts_at

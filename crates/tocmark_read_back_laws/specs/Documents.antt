@@ -1,26 +1,27 @@
 -- That whole documents without lists are read back: the events that are read of what is handed are the document's.
-use Rattle.std.specs.Prelude.{ℕ, ◌+◌, ◌*◌, ◌^◌, ◌<◌, ◌≡◌, true, false, List, [], Ok, codes, length}
+use Rattle.std.specs.Prelude.{ℕ, ◌+◌, ◌*◌, ◌^◌, ◌<◌, ◌≡◌, true, false, List, Ok, codes, length}
 use Rattle.std.specs.Char.{char_set_contains}
 use Rattle.std.specs.List.{concat}
+use Rattle.tocmark_event.specs.Merged.{merged}
 use Rattle.tocmark_event.specs.Options.{OptionsView}
 use Rattle.tocmark_event.specs.Reading.{ReadingView}
 use Rattle.tocmark_event.specs.View.{EventView}
 use Rattle.tocmark_event.specs.declared.event.flags.ParserOptions.{ParserOptions}
-use Rattle.tocmark_reader.specs.Reading.{reading_of}
+use Rattle.tocmark_reader.specs.PlainTexts.{IsReadAs}
+use Rattle.tocmark_reader.specs.Reading.{core_reading, reading_of}
 use Rattle.tocmark_inline_laws.specs.Said.{commonmark}
 use Rattle.tocmark_state.specs.Walk.{Walk, Done, done, nothing_yet, script}
 use Rattle.tocmark_state.specs.WorkView.{rendering}
-use Rattle.tocmark_standard_laws.specs.CoveredTexts.{events_read}
-use Rattle.tocmark_standard_laws.specs.Lettered.{lettered}
 use Rattle.tocmark_laws.specs.Documents.{ArePlainTokens}
 use Rattle.tocmark_document_laws.specs.Blocks.{Blocks, ArePlain, document, events_of}
 use Rattle.tocmark_document_laws.specs.DocumentLines.{layout}
 use Rattle.tocmark_document_laws.specs.ReadBack.{HasNoList, BlocksTabless}
 
--- a text is read as these events, however texts are cut into events, and it defines no label
+-- The core reader finds these events in a text, where texts that are neighbours are one, and no label that is defined or unresolved.
+-- The reader that knows all names of character references finds the same.
 pub record IsReadAsEvents (text : List ℕ) (expected : List EventView) : Type 0 where
-  pub events : lettered (events_read text) ≡ lettered expected
-  pub defined : (reading_of commonmark text).defined ≡ []
+  pub read : IsReadAs (core_reading text) (merged expected)
+  pub alike : reading_of commonmark text ≡ core_reading text
 
 -- the layout of blocks without lists is read as their events
 abbrev pub LayoutsAreReadBack : Type 0

@@ -1,4 +1,4 @@
-use Rattle.tocmark_read_back_laws.proofs.LaidEvents.{layouts_read_back}
+use Rattle.tocmark_read_back_laws.proofs.LaidReadings.{layouts_read_back}
 use Rattle.tocmark_read_back_laws.proofs.documents.layouts_are_read_back.Goals as goal
 
 pub returns : goal.returns

@@ -1,4 +1,4 @@
-use Rattle.tocmark_read_back_laws.proofs.LaidEvents.{documents_read_back}
+use Rattle.tocmark_read_back_laws.proofs.LaidReadings.{documents_read_back}
 use Rattle.tocmark_read_back_laws.proofs.documents.whole_documents_are_read_back.Goals as goal
 
 pub returns : goal.returns
