@@ -30,10 +30,10 @@ use Rattle.tocmark_layout_laws.proofs.Fronts.{Inky, inky, whole_ink, flush, near
 abbrev pub dashes : List ℕ
 dashes = 45 ∷ 45 ∷ 45 ∷ []
 
-dash_within : IsWithin 45
+pub dash_within : IsWithin 45
 dash_within = record { feed = refl; return = refl; tab = refl }
 
-dashes_begin : (k : ℕ) → beginning (line_at k dashes) ≡ RuleLine
+pub dashes_begin : (k : ℕ) → beginning (line_at k dashes) ≡ RuleLine
 unfolding heading_at is_behind fence_at is_fence_byte first_cursor is_rule is_rule_byte tail_of
 dashes_begin k = near k dashes (numbered 0 dashes) (inky 45 (45 ∷ 45 ∷ []) refl) (cells_within 0 dashes (dash_within, (dash_within, (dash_within, tt))) (omega arith))
 
@@ -45,7 +45,7 @@ rule_takes bs at k rest = ap (first_block bs at (line_at k dashes) rest) (dashes
 
 -- fenced code
 
-token_inky : (token : ℕ) (bs : List ℕ) → IsToken token → Inky (token ∷ bs)
+pub token_inky : (token : ℕ) (bs : List ℕ) → IsToken token → Inky (token ∷ bs)
 token_inky token bs (inl e) = inky token bs (ap is_blank_byte e)
 token_inky token bs (inr e) = inky token bs (ap is_blank_byte e)
 
@@ -120,7 +120,7 @@ info_is token m word h f =
     ∙ ap (λ (xs : List ℕ). without_last_blanks (without_first_blanks xs)) (drop_behind c word)
     ∙ info_kept word h f
 
-opener_begins : (token m k : ℕ) (word : List ℕ) → AllByRecursion IsWithin (opener token m word) → IsToken token → 2 ≤ m → AllByRecursion (IsInfo token) word → IsFlush word → length (opener token m word) < 2 ^ 64
+pub opener_begins : (token m k : ℕ) (word : List ℕ) → AllByRecursion IsWithin (opener token m word) → IsToken token → 2 ≤ m → AllByRecursion (IsInfo token) word → IsFlush word → length (opener token m word) < 2 ^ 64
     → beginning (line_at k (opener token m word)) ≡ FenceLine (fence_of token m)
 opener_begins token m k word within is least h flushed fits =
     near k x c i (cells_within 0 x within (omega (arith, fits)))
@@ -157,12 +157,12 @@ code_found word ls at = ended (FencedCode word (code_text ls)) at (at + (length 
 pub code_takes : (token m : ℕ) (word : List ℕ) (ls : List (List ℕ)) → IsToken token → 2 ≤ m → AllByRecursion (IsInfo token) word → IsFlush word
     → AllByRecursion IsWithin (opener token m word) → AllByRecursion IsWithin word → AllByRecursion IsWithin (closer token m) → AllByRecursion (IsShort token m) ls
     → length (opener token m word) < 2 ^ 64 → length (closer token m) < 2 ^ 64
-    → (bs : List Line → List Found) (at k : ℕ) (rest : List Line)
-    → first_block bs at (line_at k (opener token m word)) (lines_at k (ls ++ closer token m ∷ []) ++ rest) (beginning (line_at k (opener token m word)))
+    → (bs : List Line → List Found) (at j k : ℕ) (rest : List Line)
+    → first_block bs at (line_at j (opener token m word)) (lines_at k (ls ++ closer token m ∷ []) ++ rest) (beginning (line_at j (opener token m word)))
     ≡ taken (code_found word ls at) (suc (length (lines_at k (ls ++ closer token m ∷ []))))
-code_takes token m word ls is least h flushed within word_within closer_within short fits closer_fits bs at k rest =
-    ap (first_block bs at (line_at k x) whole) (opener_begins token m k word within is least h flushed fits)
-    ∙ ap (λ (t : List ℕ). fenced_code at f t whole) (whole_ink k x (token_inky token (replicate m token ++ word) is))
+code_takes token m word ls is least h flushed within word_within closer_within short fits closer_fits bs at j k rest =
+    ap (first_block bs at (line_at j x) whole) (opener_begins token m j word within is least h flushed fits)
+    ∙ ap (λ (t : List ℕ). fenced_code at f t whole) (whole_ink j x (token_inky token (replicate m token ++ word) is))
     ∙ ap (fenced_code at f x) split
     ∙ ap (fenced_code_of at f x (length parted)) (code_front token m k ls end rest is short (closer_ends token m k is closer_within closer_fits))
     ∙ ap (λ (t : List ℕ). made t (with_feeds (map (code_line 0) inside)) (min (length inside + 1) (length parted))) (info_is token m word word_within flushed)

@@ -37,7 +37,7 @@ drop_none (b ∷ bs) = refl
 pub whole_ink : (k : ℕ) (x : List ℕ) → Inky x → ink (part_at k x) ≡ x
 whole_ink k x h = ap (λ (xs : List ℕ). drop (length xs) x) h.front ∙ drop_none x
 
-inky_filled : (x : List ℕ) → Inky x → is_blank x ≡ false
+pub inky_filled : (x : List ℕ) → Inky x → is_blank x ≡ false
 inky_filled x h = ap (λ (xs : List ℕ). length xs == length x) h.front ∙ (let some : 0 < length x = h.some in let q : (0 == length x) ≡ false = grind (arith, nat_tests) in q)
 
 pub flush : (k : ℕ) (x : List ℕ) → Inky x → indent (part_at k x) ≡ 0
@@ -103,6 +103,10 @@ begins_no_space b bs (inr (inr (inr (inr e), k))) = rw e refl
 
 pub not_blank : (b : ℕ) → (b == 32) ≡ false → IsWithin b → is_blank_byte b ≡ false
 not_blank b s h = rw (s, h.tab) refl
+
+pub text_inky : (x : List ℕ) → BeginsPlainly x → AllByRecursion IsWithin x → Inky x
+text_inky [] h within = absurd h
+text_inky (b ∷ bs) h within = inky b bs (not_blank b (begins_no_space b bs h) (within.0))
 
 pub text_line : (x : List ℕ) → BeginsPlainly x → AllByRecursion IsWithin x → length x < 2 ^ 64 → IsText x
 text_line [] h within fits = absurd h

@@ -1,13 +1,17 @@
 -- The blocks that are declared of the lines of trees without lists, by recursion on the trees.
-use Rattle.std.proofs.Common.{◌≡◌, ℕ, zero, suc, ◌-◌, ◌^◌, ◌<◌, ◌≤◌, List, [], ◌∷◌, ◌++◌, length, map, replicate, refl, ap, sym, subst, ◌∙◌, arith, append_assoc, append-nil}
+use Rattle.std.proofs.Common.{◌≡◌, ℕ, zero, suc, ◌+◌, ◌-◌, ◌^◌, ◌<◌, ◌≤◌, List, [], ◌∷◌, ◌++◌, length, map, replicate, refl, ap, sym, subst, ◌∙◌, arith, append_assoc, append-nil}
 use Rattle.std.specs.Prelude.{None}
+use Rattle.std.specs.List.{AllByRecursion}
 use Rattle.tocmark_event.specs.Options.{OptionsView}
 use Rattle.tocmark_event.specs.declared.event.flags.ParserOptions.{ParserOptions}
-use Rattle.tocmark_commonmark.specs.Beginnings.{beginning}
-use Rattle.tocmark_commonmark.specs.Blocks.{first_block, size, blocks_from, blocks, blocks_of}
+use Rattle.tocmark_read_blocks.proofs.PlainLines.{IsWithin}
+use Rattle.tocmark_read_lines.specs.declared.beginnings.Fence.{Fence}
+use Rattle.tocmark_read_lines.specs.declared.beginnings.Heading.{Heading as HeadingMark}
+use Rattle.tocmark_commonmark.specs.Beginnings.{Beginning, HeadingLine, FenceLine, RuleLine, TextLine, beginning}
+use Rattle.tocmark_commonmark.specs.Blocks.{first_block, blocks_from, blocks, blocks_of}
 use Rattle.tocmark_commonmark.specs.Lines.{Line}
 use Rattle.tocmark_commonmark.specs.Tree as read
-use Rattle.tocmark_commonmark.specs.Tree.{Found, tree, taken}
+use Rattle.tocmark_commonmark.specs.Tree.{Found, taken}
 use Rattle.tocmark_laws.specs.Documents.{PlainBlock, PlainParagraph, PlainHeading, PlainRule, PlainCode}
 use Rattle.tocmark_document_laws.specs.Blocks.{Blocks, Nothing, PlainThen, QuoteThen, BulletsThen, ItemThen}
 use Rattle.tocmark_document_laws.specs.DocumentLines.{How, Outside, Beside, Below, block_lines, document_lines, feeds_below, feeds_below_quote, gap_lines, joined, layout, no_lists, quoted}
@@ -15,7 +19,9 @@ use Rattle.tocmark_document_laws.specs.ReadBack.{HasNoList}
 use Rattle.tocmark_document_laws.proofs.ReadBackLines.{lines_below, front_lines, same_front}
 use Rattle.tocmark_layout_laws.specs.Declared.{declared_block, declared, declared_tree}
 use Rattle.tocmark_layout_laws.proofs.Starts.{line_at, lines_at, lines_both, empty_blank, deeper, Stops, Becomes, nothing_becomes, blank_before, leaf_before, quote_before}
-use Rattle.tocmark_layout_laws.proofs.Texts.{IsBare, AreBare, LinesBare, Ends, ends_behind, joined_is, lines_are, size_is, AreShort, text_short, all_both, all_front, all_behind}
+use Rattle.tocmark_layout_laws.proofs.Fronts.{Inky}
+use Rattle.tocmark_layout_laws.proofs.Bullets.{IsBullet, IsNoRule}
+use Rattle.tocmark_layout_laws.proofs.Texts.{IsBare, AreBare, LinesBare, Ends, ends_behind, joined_is, text_declared, AreShort, text_short, all_both, all_front, all_behind}
 
 -- lines before which a plain block ends: any but for a paragraph
 abbrev pub Before : PlainBlock → List Line → Type 0
@@ -24,7 +30,21 @@ Before (PlainHeading level ts) rest = Unit {0}
 Before PlainRule rest = Unit {0}
 Before (PlainCode info lines) rest = Unit {0}
 
--- a plain block is declared of its lines
+-- a thematic break is none of these
+abbrev pub IsNotRule : PlainBlock → Type 0
+IsNotRule (PlainParagraph l ms) = Unit {0}
+IsNotRule (PlainHeading level ts) = Unit {0}
+IsNotRule PlainRule = ⊥
+IsNotRule (PlainCode info lines) = Unit {0}
+
+-- what the first line of a plain block begins
+abbrev pub BeginsAs : PlainBlock → Beginning → Type 0
+BeginsAs (PlainParagraph l ms) b = b ≡ TextLine
+BeginsAs (PlainHeading level ts) b = (h : HeadingMark) × (b ≡ HeadingLine h)
+BeginsAs PlainRule b = b ≡ RuleLine
+BeginsAs (PlainCode info lines) b = (f : Fence) × (b ≡ FenceLine f)
+
+-- a plain block is declared of its lines, the first of which may begin at another column
 pub record Declares (o : OptionsView) (flags : ParserOptions) (b : PlainBlock) : Type 0 where
   pub first : List ℕ
   pub more : List (List ℕ)
@@ -32,8 +52,13 @@ pub record Declares (o : OptionsView) (flags : ParserOptions) (b : PlainBlock) :
   pub bare : LinesBare (first ∷ more)
   pub ends : Ends (first ∷ more)
   pub found : ℕ → Found
-  pub takes : AreShort (2 ^ 64) (first ∷ more) → (bs : List Line → List Found) (at k : ℕ) (rest : List Line) → Before b rest
-      → first_block bs at (line_at k first) (lines_at k more ++ rest) (beginning (line_at k first)) ≡ taken (found at) (suc (length (lines_at k more)))
+  pub inked : Inky first
+  pub within : AllByRecursion IsWithin first
+  pub breaks : IsNotRule b → (bullet : ℕ) → IsBullet bullet → IsNoRule bullet first
+  pub begins : AreShort (2 ^ 64) (first ∷ more) → (k : ℕ) → BeginsAs b (beginning (line_at k first))
+  pub places : (at : ℕ) → ((found at).first ≡ at) × ((found at).last + 1 ≡ at + suc (length more))
+  pub takes : AreShort (2 ^ 64) (first ∷ more) → (bs : List Line → List Found) (at j k : ℕ) (rest : List Line) → Before b rest
+      → first_block bs at (line_at j first) (lines_at k more ++ rest) (beginning (line_at j first)) ≡ taken (found at) (suc (length (lines_at k more)))
   pub shown : (at : ℕ) → (found at).block ≡ declared_block o flags b
 
 lines_split : (k : ℕ) (gap body rest : List (List ℕ)) → lines_at k (gap ++ body ++ rest) ≡ lines_at k gap ++ (lines_at k body ++ lines_at k rest)
@@ -49,22 +74,22 @@ gap_before (suc j) k ls t h = blank_before (line_at k []) (lines_at k (replicate
 gap_two : (n : ℕ) → gap_lines (suc (suc n)) ≡ [] ∷ replicate n []
 gap_two n = ap (λ j. replicate j []) (let q : suc (suc n) - 1 ≡ suc n = omega arith in q)
 
-gap_bare : (n : ℕ) → LinesBare (replicate n [])
+pub gap_bare : (n : ℕ) → LinesBare (replicate n [])
 gap_bare zero = tt
 gap_bare (suc n) = (tt, gap_bare n)
 
 space_bare : IsBare 32
 space_bare = record { feed = refl; return = refl; zero_byte = refl }
 
-quoted_bare : (ls : List (List ℕ)) → LinesBare ls → LinesBare (map quoted ls)
+pub quoted_bare : (ls : List (List ℕ)) → LinesBare ls → LinesBare (map quoted ls)
 quoted_bare [] h = tt
 quoted_bare (l ∷ ls) h = ((space_bare, (record { feed = refl; return = refl; zero_byte = refl }, (space_bare, h.0))), quoted_bare ls (h.1))
 
-quoted_ends : (l : List ℕ) (ls : List (List ℕ)) → Ends (map quoted (l ∷ ls))
+pub quoted_ends : (l : List ℕ) (ls : List (List ℕ)) → Ends (map quoted (l ∷ ls))
 quoted_ends l [] = omega arith
 quoted_ends l (m ∷ ms) = quoted_ends m ms
 
-quoted_short : (n : ℕ) (ls : List (List ℕ)) → AreShort n (map quoted ls) → AreShort n ls
+pub quoted_short : (n : ℕ) (ls : List (List ℕ)) → AreShort n (map quoted ls) → AreShort n ls
 quoted_short n [] h = tt
 quoted_short n (l ∷ ls) h = (let a : length (quoted l) < n = h.0 in omega (arith, a), quoted_short n ls (h.1))
 
@@ -126,7 +151,7 @@ module _ (o : OptionsView) (flags : ParserOptions) where
       (sym (lines_split k (gap_lines n) (block_lines o flags b) rest ∙ ap (λ (ls : List (List ℕ)). lines_at k (gap_lines n) ++ (lines_at k ls ++ lines_at k rest)) s.is))
       (gap_before (n - 1) k (lines_at k (s.first ∷ s.more) ++ lines_at k rest) (plain_tree (PlainThen b f))
       (leaf_before (line_at k s.first) (lines_at k s.more) (lines_at k rest) s.found (declared_block o flags b) (plain_tree f)
-      (λ bs at. s.takes (subst (AreShort (2 ^ 64)) s.is short) bs at k (lines_at k rest) (before_rest b k f (h.1))) s.shown more))
+      (λ bs at. s.takes (subst (AreShort (2 ^ 64)) s.is short) bs at k k (lines_at k rest) (before_rest b k f (h.1))) s.shown more))
   all_become n k (QuoteThen kids f) h small =
       let body : List (List ℕ) = map quoted ([] ∷ below 1 kids) in
       let rest : List (List ℕ) = below (feeds_below_quote o) f in
@@ -193,10 +218,7 @@ module _ (o : OptionsView) (flags : ParserOptions) where
   }
 
   text_becomes : (ls : List (List ℕ)) (t : read.Blocks) → Fits ls t → length (joined ls) < 2 ^ 64 → blocks_of (joined ls) ≡ t
-  unfolding blocks_of blocks
-  text_becomes ls t h small =
-      ap (λ (xs : List Line). tree (blocks_from (size xs) 0 xs)) (lines_are ls h.bare h.ends)
-      ∙ h.become (text_short (2 ^ 64) ls (subst (λ (x : List ℕ). length x < 2 ^ 64) (joined_is ls) small)) (size (lines_at 0 ls)) 0 (omega (arith, size_is (lines_at 0 ls)))
+  text_becomes ls t h small = text_declared ls t h.bare h.ends (h.become (text_short (2 ^ 64) ls (subst (λ (x : List ℕ). length x < 2 ^ 64) (joined_is ls) small)))
 
   front_becomes : (f : Blocks) → AllDeclared f → length (joined (front_lines o flags f)) < 2 ^ 64 → blocks_of (joined (front_lines o flags f)) ≡ plain_tree f
   unfolding blocks_of blocks blocks_from

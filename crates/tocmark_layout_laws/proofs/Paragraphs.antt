@@ -72,12 +72,12 @@ abbrev pub paragraph_found : List ℕ → List (List ℕ) → ℕ → Found
 paragraph_found x ms at = unended (Paragraph (joined (x ∷ ms))) (at + 0) (at + 0 + length ms)
 
 pub paragraph_takes : (x : List ℕ) (ms : List (List ℕ)) → AllByRecursion IsText (x ∷ ms) → 0 < length x → begins_with 91 x ≡ false → AllByRecursion EndsInk (x ∷ ms)
-    → (bs : List Line → List Found) (at k : ℕ) (rest : List Line) → Stops rest
-    → first_block bs at (line_at k x) (lines_at k ms ++ rest) (beginning (line_at k x)) ≡ taken (paragraph_found x ms at) (suc (length (lines_at k ms)))
-paragraph_takes x ms h some bracket ends bs at k rest s =
+    → (bs : List Line → List Found) (at j k : ℕ) (rest : List Line) → Stops rest
+    → first_block bs at (line_at j x) (lines_at k ms ++ rest) (beginning (line_at j x)) ≡ taken (paragraph_found x ms at) (suc (length (lines_at k ms)))
+paragraph_takes x ms h some bracket ends bs at j k rest s =
     let ls : List Line = lines_at k ms ++ rest in
-    ap (first_block bs at (line_at k x) ls) ((h.0).begins k)
-    ∙ ap (λ (t : List ℕ). paragraph_of at (paragraph_lines (t ∷ []) ls)) ((h.0).ink k)
+    ap (first_block bs at (line_at j x) ls) ((h.0).begins j)
+    ∙ ap (λ (t : List ℕ). paragraph_of at (paragraph_lines (t ∷ []) ls)) ((h.0).ink j)
     ∙ ap (paragraph_of at) (lines_go k (x ∷ []) ms rest (h.1) s)
     ∙ ap (paragraph_with at (x ∷ ms) None) (undefined x ms some bracket)
     ∙ ap (λ (t : List ℕ). taken (unended (Paragraph t) (at + 0) (at + 0 + length ms)) (suc (length ms))) (end_kept (joined (x ∷ ms)) (joined_ends x ms ends))
@@ -88,7 +88,7 @@ paragraph_takes x ms h some bracket ends bs at k rest s =
 abbrev pub hashes : HeadingLevel → List ℕ
 hashes l = replicate (level_number l) 35 ++ codes " "
 
-hash_first : (l : HeadingLevel) (ys : List ℕ) → (more : List ℕ) × (hashes l ++ ys ≡ 35 ∷ more)
+pub hash_first : (l : HeadingLevel) (ys : List ℕ) → (more : List ℕ) × (hashes l ++ ys ≡ 35 ∷ more)
 hash_first level.H1 ys = (_, refl)
 hash_first level.H2 ys = (_, refl)
 hash_first level.H3 ys = (_, refl)
@@ -96,16 +96,36 @@ hash_first level.H4 ys = (_, refl)
 hash_first level.H5 ys = (_, refl)
 hash_first level.H6 ys = (_, refl)
 
-heading_inky : (l : HeadingLevel) (ys : List ℕ) → Inky (hashes l ++ ys)
+pub heading_inky : (l : HeadingLevel) (ys : List ℕ) → Inky (hashes l ++ ys)
 heading_inky l ys = let f = hash_first l ys in subst Inky (sym (f.1)) (inky 35 (f.0) refl)
 
 abbrev pub heading_found : HeadingLevel → List ℕ → ℕ → Found
 heading_found l ys at = ended (Heading l ys) at at
 
+abbrev pub heading_mark : HeadingLevel → List ℕ → HeadingMark
+heading_mark l x = record { level = l; from = length (hashes l); to = length (numbered 0 x) }
+
+line_of : (l : HeadingLevel) (b : ℕ) (ys : List ℕ) → AllByRecursion IsWithin (hashes l ++ b ∷ ys) → (b == 32) ≡ false → EndsHeading (b ∷ ys) → length (hashes l ++ b ∷ ys) < 2 ^ 64
+    → IsHeadingLine (hashes l ++ b ∷ ys) (numbered 0 (hashes l ++ b ∷ ys)) (record { number = 0; start = 0; end = 0 + length (hashes l ++ b ∷ ys); next = 0 }) (heading_mark l (hashes l ++ b ∷ ys)) (0 + length (hashes l)) (0 + length (hashes l ++ b ∷ ys))
+line_of l b ys within space ends fits =
+    let x : List ℕ = hashes l ++ b ∷ ys in
+    heading_line x l b ys 0 0 0 (piece_between x [] x [] 0 (0 + length x) (sym (append-nil x)) refl refl) within space ends (omega (arith, fits))
+
+pub heading_begins : (l : HeadingLevel) (b : ℕ) (ys : List ℕ) → AllByRecursion IsWithin (hashes l ++ b ∷ ys) → (b == 32) ≡ false → EndsHeading (b ∷ ys) → length (hashes l ++ b ∷ ys) < 2 ^ 64
+    → (k : ℕ) → beginning (line_at k (hashes l ++ b ∷ ys)) ≡ HeadingLine (heading_mark l (hashes l ++ b ∷ ys))
+heading_begins l b ys within space ends fits k =
+    let x : List ℕ = hashes l ++ b ∷ ys in
+    let c : List Cell = numbered 0 x in
+    let p : Part = part_at k x in
+    let line = line_of l b ys within space ends fits in
+    near k x c (heading_inky l (b ∷ ys)) (cells_within 0 x within (omega (arith, fits)))
+    ∙ ap (λ z. first_of_these p z (heading_at c 0) (fence_at c (first_cursor c)) (html_if (begins_with 60 x) x) (is_rule c (tail_of c) 0) (marker_at c 0)) (ap (begins_with 62) ((hash_first l (b ∷ ys)).1))
+    ∙ ap (λ z. first_of_these p false z (fence_at c (first_cursor c)) (html_if (begins_with 60 x) x) (is_rule c (tail_of c) 0) (marker_at c 0)) line.heading
+
 pub heading_takes : (l : HeadingLevel) (b : ℕ) (ys : List ℕ) → AllByRecursion IsWithin (hashes l ++ b ∷ ys) → (b == 32) ≡ false → EndsHeading (b ∷ ys) → length (hashes l ++ b ∷ ys) < 2 ^ 64
     → (bs : List Line → List Found) (at k : ℕ) (rest : List Line) → first_block bs at (line_at k (hashes l ++ b ∷ ys)) rest (beginning (line_at k (hashes l ++ b ∷ ys))) ≡ taken (heading_found l (b ∷ ys) at) 1
 heading_takes l b ys within space ends fits bs at k rest =
-    ap (first_block bs at (line_at k x) rest) begins
+    ap (first_block bs at (line_at k x) rest) (heading_begins l b ys within space ends fits k)
     ∙ ap (λ (t : List ℕ). made (heading_text h t (cells t))) (whole_ink k x i)
     ∙ ap (λ (cs : List Cell). made (heading_text h x cs)) e
     ∙ ap (λ n. made (bytes_between x (cell_place c h.from n) (cell_place c h.to n))) (let q : length x ≡ 0 + length x = omega arith in q)
@@ -132,14 +152,4 @@ heading_takes l b ys within space ends fits bs at k rest =
     made t = taken (ended (Heading l t) at at) 1
 
     line : IsHeadingLine x c (record { number = 0; start = 0; end = 0 + length x; next = 0 }) h (0 + length (hashes l)) (0 + length x)
-    line = heading_line x l b ys 0 0 0 (piece_between x [] x [] 0 (0 + length x) (sym (append-nil x)) refl refl) within space ends (omega (arith, fits))
-
-    f : (more : List ℕ) × (hashes l ++ b ∷ ys ≡ 35 ∷ more)
-    f = hash_first l (b ∷ ys)
-
-    begins : beginning (line_at k x) ≡ HeadingLine h
-    begins =
-        let p : Part = part_at k x in
-        near k x c i e
-        ∙ ap (λ z. first_of_these p z (heading_at c 0) (fence_at c (first_cursor c)) (html_if (begins_with 60 x) x) (is_rule c (tail_of c) 0) (marker_at c 0)) (ap (begins_with 62) (f.1))
-        ∙ ap (λ z. first_of_these p false z (fence_at c (first_cursor c)) (html_if (begins_with 60 x) x) (is_rule c (tail_of c) 0) (marker_at c 0)) line.heading
+    line = line_of l b ys within space ends fits

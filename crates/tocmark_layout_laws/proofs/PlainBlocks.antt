@@ -1,6 +1,6 @@
 -- A plain block is declared of its lines, so the layout of blocks without lists is declared as they are.
-use Rattle.std.proofs.Common.{◌≡◌, inl, inr, ℕ, zero, suc, ◌<◌, Bool, true, false, ◌==◌, ◌&&◌, if◌then◌else◌, List, [], ◌∷◌, ◌++◌, length, map, flat_map, replicate, refl, ap, sym, subst, ◌∙◌, arith, length-append}
-use Rattle.std.specs.Char.{encode_utf8}
+use Rattle.std.proofs.Common.{◌≡◌, inl, inr, ℕ, zero, suc, ◌+◌, ◌<◌, Bool, true, false, ◌==◌, ◌&&◌, if◌then◌else◌, List, [], ◌∷◌, ◌++◌, length, map, flat_map, replicate, refl, ap, sym, subst, ◌∙◌, arith, length-append, codes, true≢false}
+use Rattle.std.specs.Char.{encode_utf8, is_ascii_digit}
 use Rattle.std.specs.List.{AllByRecursion, concat, list_all, list_any}
 use Rattle.tocmark_event.specs.Options.{OptionsView}
 use Rattle.tocmark_event.specs.View.{End, Leaf, SoftBreak}
@@ -8,7 +8,8 @@ use Rattle.tocmark_event.specs.declared.event.HeadingLevel.{HeadingLevel}
 use Rattle.tocmark_event.specs.declared.event.TagEnd.TheVariants as end
 use Rattle.tocmark_event.specs.declared.event.flags.ParserOptions.{ParserOptions}
 use Rattle.tocmark_read_scan.specs.PlainParts.{Part, spelled}
-use Rattle.tocmark_read_scan.proofs.PlainTests.{both_true}
+use Rattle.tocmark_read_scan.proofs.PlainTests.{both_true, not_char}
+use Rattle.tocmark_read_blocks.proofs.PlainFronts.{BeginsPlainly, GoesOn}
 use Rattle.tocmark_reader.specs.Reading.{core_reading}
 use Rattle.tocmark_write_texts.specs.Escape.{Surroundings, ends_line, escaped}
 use Rattle.tocmark_spelling.specs.Opening.{fence, fence_length, fence_token}
@@ -22,9 +23,9 @@ use Rattle.tocmark_laws.proofs.PlainEscapes.{escape_is}
 use Rattle.tocmark_laws.proofs.PlainEscapedBytes.{escaped_is}
 use Rattle.tocmark_laws.proofs.PlainEscapedTexts.{IsLine, line_parts, plain_lines, plain_parts}
 use Rattle.tocmark_laws.proofs.PlainParagraph.{line_from}
-use Rattle.tocmark_laws.proofs.DocumentCode.{IsToken, IsInfo, opener, closer}
+use Rattle.tocmark_laws.proofs.DocumentCode.{IsToken, IsInfo, opener, closer, fence_of}
 use Rattle.tocmark_laws.proofs.DocumentCodeSpelling.{fence_rest}
-use Rattle.tocmark_laws.proofs.DocumentRows.{IsFilled, IsCode, some_front}
+use Rattle.tocmark_laws.proofs.DocumentRows.{IsFilled, IsCode, opener_printable, printable_within, some_front}
 use Rattle.tocmark_laws.proofs.DocumentRowsWritten.{filled, block_is}
 use Rattle.tocmark_laws.proofs.DocumentsReadBack.{may_stand}
 use Rattle.tocmark_document_laws.specs.Blocks.{Blocks, Nothing, PlainThen, QuoteThen, BulletsThen, ItemThen, ArePlain}
@@ -32,9 +33,11 @@ use Rattle.tocmark_document_laws.specs.DocumentLines.{Line, code_text, line_in, 
 use Rattle.tocmark_document_laws.specs.ReadBack.{HasNoList}
 use Rattle.tocmark_layout_laws.specs.Declared.{LayoutsAreDeclared}
 use Rattle.tocmark_layout_laws.proofs.Texts.{IsBare}
-use Rattle.tocmark_layout_laws.proofs.Paragraphs.{paragraph_found, hashes, heading_found}
-use Rattle.tocmark_layout_laws.proofs.Codes.{dashes, rule_found, rule_takes, code_found}
-use Rattle.tocmark_layout_laws.proofs.RowBlocks.{parts_bare, parts_end, paragraph_row, heading_bare, heading_row, code_row_bare, code_row_ends, code_row}
+use Rattle.tocmark_layout_laws.proofs.Fronts.{inky, begins_no_space, text_inky}
+use Rattle.tocmark_layout_laws.proofs.Bullets.{IsBullet, Breaks, IsNoRule}
+use Rattle.tocmark_layout_laws.proofs.Paragraphs.{paragraph_found, hashes, hash_first, heading_inky, heading_found}
+use Rattle.tocmark_layout_laws.proofs.Codes.{dashes, dash_within, dashes_begin, rule_found, rule_takes, token_inky, code_found}
+use Rattle.tocmark_layout_laws.proofs.RowBlocks.{parts_bare, parts_end, parts_text, heading_within, heading_row_begins, code_row_begins, paragraph_row, heading_bare, heading_row, code_row_bare, code_row_ends, code_row}
 use Rattle.tocmark_layout_laws.proofs.LaidBlocks.{Declares, AllDeclared, layout_declared}
 
 -- fences
@@ -69,6 +72,58 @@ dash_bare = record { feed = refl; return = refl; zero_byte = refl }
 -- bytes after others
 ends_append : (xs ys : List ℕ) → 0 < length ys → 0 < length (xs ++ ys)
 ends_append xs ys h = omega (arith, length-append xs ys, h)
+
+-- lines that are no thematic break after a bullet
+
+star_breaks : (x : List ℕ) → BeginsPlainly x → Breaks 42 x
+star_breaks [] h = absurd h
+star_breaks (b ∷ bs) (inl h) = record { before = []; byte = b; after = bs; is = refl; other = h.star; space = h.space }
+star_breaks (b ∷ bs) (inr (inl h)) = record {
+  before = [];
+  byte = b;
+  after = bs;
+  is = refl;
+  other = not_char b 42 (λ e. true≢false (sym (h.0) ∙ ap is_ascii_digit e));
+  space = begins_no_space b bs (inr (inl h));
+}
+star_breaks (b ∷ bs) (inr (inr (inl e, k))) = record { before = []; byte = b; after = bs; is = refl; other = rw e refl; space = rw e refl }
+star_breaks (b ∷ bs) (inr (inr (inr (inl e), k))) = record { before = []; byte = b; after = bs; is = refl; other = rw e refl; space = rw e refl }
+star_breaks (b ∷ bs) (inr (inr (inr (inr e), k))) = record { before = []; byte = b; after = bs; is = refl; other = rw e refl; space = rw e refl }
+
+marked_breaks : (b : ℕ) (bs : List ℕ) → GoesOn bs → Breaks 45 (b ∷ bs)
+marked_breaks b [] h = absurd h
+marked_breaks b (c ∷ cs) h = record { before = b ∷ []; byte = c; after = cs; is = refl; other = h.minus; space = h.space }
+
+minus_breaks : (x : List ℕ) → BeginsPlainly x → Breaks 45 x
+minus_breaks [] h = absurd h
+minus_breaks (b ∷ bs) (inl h) = record { before = []; byte = b; after = bs; is = refl; other = h.minus; space = h.space }
+minus_breaks (b ∷ bs) (inr (inl h)) = record {
+  before = [];
+  byte = b;
+  after = bs;
+  is = refl;
+  other = not_char b 45 (λ e. true≢false (sym (h.0) ∙ ap is_ascii_digit e));
+  space = begins_no_space b bs (inr (inl h));
+}
+minus_breaks (b ∷ bs) (inr (inr (e, k))) = marked_breaks b bs k
+
+plain_breaks : (x : List ℕ) → BeginsPlainly x → (bullet : ℕ) → IsBullet bullet → IsNoRule bullet x
+plain_breaks x h bullet (inl e) = inr (inr (subst (λ c. Breaks c x) (sym e) (star_breaks x h)))
+plain_breaks x h bullet (inr (inl e)) = inl e
+plain_breaks x h bullet (inr (inr e)) = inr (inr (subst (λ c. Breaks c x) (sym e) (minus_breaks x h)))
+
+-- bytes that begin with another one than a bullet
+first_breaks : (b : ℕ) (x after : List ℕ) → x ≡ b ∷ after → (b == 42) ≡ false → (b == 45) ≡ false → (b == 32) ≡ false → (bullet : ℕ) → IsBullet bullet → IsNoRule bullet x
+first_breaks b x after is star minus space bullet (inl e) = inr (inr (subst (λ c. Breaks c x) (sym e) (record { before = []; byte = b; after = after; is = is; other = star; space = space })))
+first_breaks b x after is star minus space bullet (inr (inl e)) = inl e
+first_breaks b x after is star minus space bullet (inr (inr e)) = inr (inr (subst (λ c. Breaks c x) (sym e) (record { before = []; byte = b; after = after; is = is; other = minus; space = space })))
+
+heading_breaks : (level : HeadingLevel) (x : List ℕ) → (bullet : ℕ) → IsBullet bullet → IsNoRule bullet (hashes level ++ x)
+heading_breaks level x = let f = hash_first level x in first_breaks 35 (hashes level ++ x) (f.0) (f.1) refl refl refl
+
+code_breaks : (token m : ℕ) (info : List ℕ) → IsToken token → (bullet : ℕ) → IsBullet bullet → IsNoRule bullet (opener token m info)
+code_breaks token m info (inl e) = first_breaks token (opener token m info) (replicate m token ++ info) refl (rw e refl) (rw e refl) (rw e refl)
+code_breaks token m info (inr e) = first_breaks token (opener token m info) (replicate m token ++ info) refl (rw e refl) (rw e refl) (rw e refl)
 
 module _ (o : OptionsView) (flags : ParserOptions) (tokens : ArePlainTokens o) where
   -- paragraphs
@@ -123,7 +178,12 @@ module _ (o : OptionsView) (flags : ParserOptions) (tokens : ArePlainTokens o) w
         bare = parts_bare (parts ∷ more) rows.lines;
         ends = parts_end parts more rows.lines;
         found = paragraph_found (spelled parts) (map spelled more);
-        takes = λ small bs at k rest before. paragraph_row parts more rows small bs at k rest before;
+        inked = text_inky (spelled parts) (rows.lines.0).begins (printable_within (spelled parts) (rows.lines.0).printable);
+        within = printable_within (spelled parts) (rows.lines.0).printable;
+        breaks = λ other. plain_breaks (spelled parts) (rows.lines.0).begins;
+        begins = λ small k. ((parts_text (parts ∷ more) rows.lines small).0).begins k;
+        places = λ at. (omega arith, omega arith);
+        takes = λ small bs at j k rest before. paragraph_row parts more rows small bs at j k rest before;
         shown = λ at. ap (λ (ls : List Line). read.Paragraph (joined ls)) (sym (lines_are l ms h));
       }
 
@@ -139,7 +199,12 @@ module _ (o : OptionsView) (flags : ParserOptions) (tokens : ArePlainTokens o) w
         bare = (heading_bare level parts row, tt);
         ends = ends_append (hashes level) (spelled parts) (some_front (spelled parts) (row.lines.0).begins);
         found = heading_found level (spelled parts);
-        takes = λ small bs at k rest before. heading_row level parts row (small.0) bs at k rest;
+        inked = heading_inky level (spelled parts);
+        within = heading_within level parts row;
+        breaks = λ other. heading_breaks level (spelled parts);
+        begins = λ small k. heading_row_begins level parts row (small.0) k;
+        places = λ at. (refl, refl);
+        takes = λ small bs at j k rest before. heading_row level parts row (small.0) bs at j rest;
         shown = λ at. ap (read.Heading level) (sym (line_is place (concat ts) (in_heading level) h));
       }
 
@@ -155,11 +220,16 @@ module _ (o : OptionsView) (flags : ParserOptions) (tokens : ArePlainTokens o) w
         bare = code_row_bare token m info ls row;
         ends = code_row_ends token m info ls;
         found = code_found info ls;
-        takes = λ small bs at k rest before. code_row token m info ls row small bs at k rest;
+        inked = token_inky token (replicate m token ++ info) row.token_is;
+        within = printable_within (opener token m info) (opener_printable token m info ls row);
+        breaks = λ other. code_breaks token m info row.token_is;
+        begins = λ small k. (fence_of token m, code_row_begins token m info ls row (small.0) k);
+        places = λ at. (refl, (let long : length (ls ++ closer token m ∷ []) ≡ length ls + 1 = length-append ls (closer token m ∷ []) in omega (arith, long)));
+        takes = λ small bs at j k rest before. code_row token m info ls row small bs at j k rest;
         shown = λ at. refl;
       }
 
-  declares : (b : PlainBlock) → IsPlainBlock b → Declares o flags b
+  pub declares : (b : PlainBlock) → IsPlainBlock b → Declares o flags b
   declares (PlainParagraph l ms) h = paragraph_declares l ms h
   declares (PlainHeading level ts) h = heading_declares level ts h
   declares PlainRule h = record {
@@ -169,7 +239,12 @@ module _ (o : OptionsView) (flags : ParserOptions) (tokens : ArePlainTokens o) w
     bare = ((dash_bare, (dash_bare, (dash_bare, tt))), tt);
     ends = omega arith;
     found = rule_found;
-    takes = λ small bs at k rest before. rule_takes bs at k rest;
+    inked = inky 45 (codes "--") refl;
+    within = (dash_within, (dash_within, (dash_within, tt)));
+    breaks = λ other. absurd other;
+    begins = λ small k. dashes_begin k;
+    places = λ at. (refl, refl);
+    takes = λ small bs at j k rest before. rule_takes bs at j rest;
     shown = λ at. refl;
   }
   declares (PlainCode info ls) h = code_declares info ls h

@@ -10,7 +10,7 @@ use Rattle.tocmark_commonmark.specs.Beginnings.{Beginning, BlankLine, QuoteLine,
 use Rattle.tocmark_commonmark.specs.Blocks.{first_block, and_rest, blocks_from}
 use Rattle.tocmark_commonmark.specs.Containers.{goes_on, front, in_quote_as, in_quote, unquoted}
 use Rattle.tocmark_commonmark.specs.Lines.{Line, Part, Written, is_blank_byte, is_blank, column_after, indent, line_bytes, without_columns, cells}
-use Rattle.tocmark_commonmark.specs.Tree.{Block, Blocks, Quote, Found, ends_open, tree, Taken, taken}
+use Rattle.tocmark_commonmark.specs.Tree.{Block, Blocks, Quote, Found, ends_open, tree, taken}
 use Rattle.tocmark_commonmark.specs.Tree as read
 use Rattle.tocmark_document_laws.specs.DocumentLines.{quoted}
 
@@ -39,13 +39,13 @@ empty_blank k = refl
 abbrev pub deeper : ℕ → ℕ
 deeper k = k + 1 + 1 + 1
 
-quote_front : (l : List ℕ) → take_while is_blank_byte (32 ∷ 62 ∷ l) ≡ 32 ∷ []
+pub quote_front : (l : List ℕ) → take_while is_blank_byte (32 ∷ 62 ∷ l) ≡ 32 ∷ []
 quote_front l = take_while-cons is_blank_byte 32 (62 ∷ l) ∙ ap (λ (xs : List ℕ). 32 ∷ xs) (take_while-cons is_blank_byte 62 l)
 
 quote_ink : (l : List ℕ) → drop (length (take_while is_blank_byte (32 ∷ 62 ∷ l))) (32 ∷ 62 ∷ l) ≡ 62 ∷ l
 quote_ink l = ap (λ (xs : List ℕ). drop (length xs) (32 ∷ 62 ∷ l)) (quote_front l)
 
-quote_some : (l : List ℕ) → is_blank (32 ∷ 62 ∷ l) ≡ false
+pub quote_some : (l : List ℕ) → is_blank (32 ∷ 62 ∷ l) ≡ false
 quote_some l = ap (λ (xs : List ℕ). length xs == length (32 ∷ 62 ∷ l)) (quote_front l) ∙ (let n : ℕ = length l in let q : (1 == suc (suc n)) ≡ false = grind (arith, nat_tests) in q)
 
 quote_near : (k : ℕ) (l : List ℕ) → nat_le 4 (indent (part_at k (32 ∷ 62 ∷ l))) ≡ false
@@ -132,7 +132,7 @@ leaf_before l ms rest f b t h is more (suc fuel) at fits =
     taken_before fuel at (suc (length ms)) l (ms ++ rest) rest (f at) b t (h (λ x. blocks_from fuel 0 x) at) (is at) (drop_behind ms rest) (omega (arith, both, fits)) more
 
 -- lines in a quote need less
-need_quoted : (k : ℕ) (ls : List (List ℕ)) → need (lines_at (deeper k) ls) ≤ need (lines_at k (map quoted ls))
+pub need_quoted : (k : ℕ) (ls : List (List ℕ)) → need (lines_at (deeper k) ls) ≤ need (lines_at k (map quoted ls))
 need_quoted k [] = omega arith
 need_quoted k (l ∷ ls) = let a : need (lines_at (deeper k) ls) ≤ need (lines_at k (map quoted ls)) = need_quoted k ls in omega (arith, a)
 

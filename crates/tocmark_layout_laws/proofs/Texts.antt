@@ -1,10 +1,11 @@
 -- The lines of a text of lines, and how much fuel they need.
 use Rattle.std.proofs.Common.{◌≡◌, ℕ, suc, ◌+◌, ◌<◌, Bool, true, false, ◌==◌, ◌&&◌, List, [], ◌∷◌, ◌++◌, length, refl, ap, sym, subst, ◌∙◌, arith, append_assoc, append-nil, length-append}
 use Rattle.std.specs.List.{AllByRecursion, fold}
-use Rattle.tocmark_commonmark.specs.Blocks.{size}
+use Rattle.tocmark_commonmark.specs.Blocks.{size, blocks_from, blocks, blocks_of}
 use Rattle.tocmark_commonmark.specs.Lines.{Line, line_bytes, last_line, plain_bytes, lines_after, lines_of}
+use Rattle.tocmark_commonmark.specs.Tree.{Blocks, tree}
 use Rattle.tocmark_document_laws.specs.DocumentLines.{joined}
-use Rattle.tocmark_layout_laws.proofs.Starts.{line_at, lines_at, need}
+use Rattle.tocmark_layout_laws.proofs.Starts.{line_at, lines_at, need, Becomes}
 
 -- a byte that ends no line, and isn't U+0000
 pub record IsBare (b : ℕ) : Type 0 where
@@ -111,3 +112,10 @@ all_front P (x ∷ xs) ys h = (h.0, all_front P xs ys (h.1))
 pub all_behind : {A : Type 0} (P : A → Type 0) (xs ys : List A) → AllByRecursion P (xs ++ ys) → AllByRecursion P ys
 all_behind P [] ys h = h
 all_behind P (x ∷ xs) ys h = all_behind P xs ys (h.1)
+
+-- the blocks of a text of such lines are those of the lines
+pub text_declared : (ls : List (List ℕ)) (t : Blocks) → LinesBare ls → Ends ls → Becomes (lines_at 0 ls) t → blocks_of (joined ls) ≡ t
+unfolding blocks_of blocks
+text_declared ls t bare ends become =
+    ap (λ (xs : List Line). tree (blocks_from (size xs) 0 xs)) (lines_are ls bare ends)
+    ∙ become (size (lines_at 0 ls)) 0 (omega (arith, size_is (lines_at 0 ls)))

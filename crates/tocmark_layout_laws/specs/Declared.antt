@@ -1,5 +1,6 @@
 -- The tree of blocks that CommonMark declares of a layout, and that it does.
-use Rattle.std.specs.Prelude.{◌≡◌, ◌^◌, ◌<◌, Bool, true, false, not, ◌&&◌, ◌||◌, List, [], ◌∷◌, Some, None, length}
+use Rattle.std.specs.Prelude.{◌≡◌, ◌^◌, ◌<◌, Bool, true, false, not, ◌&&◌, ◌||◌, List, [], ◌∷◌, Some, None, codes, length}
+use Rattle.std.specs.Char.{char_set_contains}
 use Rattle.std.specs.List.{concat}
 use Rattle.tocmark_event.specs.Options.{OptionsView}
 use Rattle.tocmark_event.specs.declared.event.flags.ParserOptions.{ParserOptions}
@@ -10,7 +11,7 @@ use Rattle.tocmark_write_texts.specs.Escape.{escaped}
 use Rattle.tocmark_laws.specs.TextBlocks.{HeadingKind, place_in}
 use Rattle.tocmark_laws.specs.Documents.{PlainBlock, PlainParagraph, PlainHeading, PlainRule, PlainCode, ArePlainTokens}
 use Rattle.tocmark_document_laws.specs.Blocks.{Blocks, Nothing, PlainThen, QuoteThen, BulletsThen, ItemThen, ArePlain, is_nothing}
-use Rattle.tocmark_document_laws.specs.DocumentLines.{Line, How, Beside, Marked, Below, Outside, no_lists, in_bullets, bullet_for, code_text, feeds_below, feeds_below_item, feeds_below_list, feeds_below_quote, layout, list_gap, paragraph_lines, plain_gap, new_line}
+use Rattle.tocmark_document_laws.specs.DocumentLines.{Line, How, Beside, Marked, Below, Outside, no_lists, in_bullets, is_bullet, bullet_for, code_text, feeds_below, feeds_below_item, feeds_below_list, feeds_below_quote, layout, list_gap, paragraph_lines, plain_gap, new_line}
 use Rattle.tocmark_document_laws.specs.ReadBack.{HasNoList}
 
 -- what a plain block is declared as: the lines of a paragraph, escaped, with a line feed between each two; the text of a heading,
@@ -62,4 +63,32 @@ abbrev pub LayoutsAreDeclared : Type 0
 LayoutsAreDeclared =
     (options : OptionsView) (flags : ParserOptions) (f : Blocks) →
     ArePlainTokens options → ArePlain f → HasNoList f → length (layout options flags f) < 2 ^ 64 →
+    blocks_of (layout options flags f) ≡ declared_tree options flags f
+
+-- whether a thematic break right after a marker would be one with that marker: if the innermost list has asterisks as bullets, and
+-- another one round it has hyphens, so that the thematic break has asterisks, too
+abbrev pub is_amid_both : Outside → How → Bool
+is_amid_both c Marked = c.hyphens && is_bullet c.bullet 42
+is_amid_both c how = false
+
+abbrev pub IsSafeRule : Outside → How → PlainBlock → Type 0
+IsSafeRule c how (PlainParagraph l ms) = Unit {0}
+IsSafeRule c how (PlainHeading level ts) = Unit {0}
+IsSafeRule c how PlainRule = is_amid_both c how ≡ false
+IsSafeRule c how (PlainCode info lines) = Unit {0}
+
+-- no thematic break is there
+abbrev pub HasSafeRules : OptionsView → Outside → How → Blocks → Type 0
+HasSafeRules o c how Nothing = Unit {0}
+HasSafeRules o c how (PlainThen b f) = IsSafeRule c how b × HasSafeRules o c (Below (feeds_below o b) None) f
+HasSafeRules o c how (QuoteThen kids f) = HasSafeRules o c Beside kids × HasSafeRules o c (Below (feeds_below_quote o) None) f
+HasSafeRules o c how (BulletsThen items f) =
+    HasSafeRules o (in_bullets (bullet_for o c how) c) Beside items × HasSafeRules o c (Below (feeds_below_list o c.listed items) (Some (bullet_for o c how))) f
+HasSafeRules o c how (ItemThen kids f) = HasSafeRules o c Marked kids × HasSafeRules o c (Below (feeds_below_item o kids) None) f
+
+-- the same of all trees of blocks with no such thematic break, if the options name a bullet that Markdown reads
+abbrev pub LayoutsWithListsAreDeclared : Type 0
+LayoutsWithListsAreDeclared =
+    (options : OptionsView) (flags : ParserOptions) (f : Blocks) →
+    ArePlainTokens options → char_set_contains (codes "*-+") options.list_token ≡ true → ArePlain f → HasSafeRules options no_lists Beside f → length (layout options flags f) < 2 ^ 64 →
     blocks_of (layout options flags f) ≡ declared_tree options flags f
