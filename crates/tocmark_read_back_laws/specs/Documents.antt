@@ -17,8 +17,8 @@ use Rattle.tocmark_document_laws.specs.Blocks.{Blocks, ArePlain, document, event
 use Rattle.tocmark_document_laws.specs.DocumentLines.{layout}
 use Rattle.tocmark_document_laws.specs.ReadBack.{HasNoList, BlocksTabless}
 
--- The core reader finds these events in a text, where texts that are neighbours are one, and no label that is defined or unresolved.
--- The reader that knows all names of character references finds the same.
+-- The core reader finds these events in a text, with neighbouring texts joined, and no label that is defined or unresolved.
+-- The reader that knows all names of character references finds the same, with the same ranges.
 pub record IsReadAsEvents (text : List ℕ) (expected : List EventView) : Type 0 where
   pub read : IsReadAs (core_reading text) (merged expected)
   pub alike : reading_of commonmark text ≡ core_reading text
