@@ -1,5 +1,5 @@
 -- Examples: documents, what is declared of their layouts, and the trees that are.
-use Rattle.std.proofs.Common.{◌≡◌, true, false, [], ◌∷◌, codes, refl}
+use Rattle.std.proofs.Common.{◌≡◌, true, false, [], ◌∷◌, codes, refl, true≢false}
 use Rattle.std.specs.Char.{encode_utf8}
 use Rattle.std.specs.Str.{chars}
 use Rattle.tocmark_event.specs.Options.{default_options}
@@ -20,7 +20,8 @@ use Rattle.tocmark_commonmark.specs.Blocks.{blocks_from, blocks, blocks_of}
 use Rattle.tocmark_commonmark.specs.Tree as read
 use Rattle.tocmark_laws.specs.Documents.{PlainHeading, PlainParagraph, PlainRule, PlainCode}
 use Rattle.tocmark_document_laws.specs.Blocks.{Blocks, Nothing, PlainThen, QuoteThen, BulletsThen, ItemThen}
-use Rattle.tocmark_layout_laws.specs.Declared.{declared_tree}
+use Rattle.tocmark_document_laws.specs.DocumentLines.{Beside, no_lists}
+use Rattle.tocmark_layout_laws.specs.Declared.{declared_tree, HasSafeRules}
 
 -- a paragraph, and a quote of a paragraph of two lines, a quote of a heading, and a thematic break
 abbrev mixed : Blocks
@@ -95,3 +96,17 @@ single_declared flags = refl
 single_read : blocks_of (codes "* # a") ≡ single_tree
 unfolding starts_at is_unquoted is_bracket is_separator is_mailbox is_in run_end repeated iterated stops closing_of ends_enclosed escapes enclosed ends_bare depth_after bare_word enclosed_word destination enclosure_of title is_label_text label_from label line_end title_on_line untitled titled defined_destination defined_label definition_at name_end closing_tag quoted_end value value_end attribute tag_close open_tag filled trimmed first_cursor level_of is_behind heading_end_before heading_at is_fence_byte fence_at closes_fence tail_of is_rule_byte is_rule is_underline_byte underline_at number_step bullet_at ordered_at marker_at same_word is_raw_name is_block_name ends_name is_raw block_tag is_block_tag tag_end is_tag_line html_kind holds_raw_end html_ends define_once beginning interrupts may_be_lazy blocks_from blocks blocks_of lib.Utf8.encode
 single_read = refl
+
+-- a thematic break first in a list of asterisks in a list of hyphens: it isn't safe, because CommonMark reads it with its marker
+abbrev unsafe : Blocks
+unsafe = BulletsThen (ItemThen (BulletsThen (ItemThen (BulletsThen (ItemThen (PlainThen PlainRule Nothing) Nothing) Nothing) Nothing) Nothing) Nothing) Nothing
+
+unsafe_rule : HasSafeRules default_options no_lists Beside unsafe → ⊥
+unsafe_rule h = true≢false (((((((h.0).0).0).0).0).0).0)
+
+abbrev unsafe_tree : read.Blocks
+unsafe_tree = read.more (read.BulletList 42 true (read.more (read.Item (read.more (read.BulletList 45 true (read.more (read.Item (read.more read.Rule read.none)) read.none)) read.none)) read.none)) read.none
+
+unsafe_read : blocks_of (codes "* - * ***") ≡ unsafe_tree
+unfolding starts_at is_unquoted is_bracket is_separator is_mailbox is_in run_end repeated iterated stops closing_of ends_enclosed escapes enclosed ends_bare depth_after bare_word enclosed_word destination enclosure_of title is_label_text label_from label line_end title_on_line untitled titled defined_destination defined_label definition_at name_end closing_tag quoted_end value value_end attribute tag_close open_tag filled trimmed first_cursor level_of is_behind heading_end_before heading_at is_fence_byte fence_at closes_fence tail_of is_rule_byte is_rule is_underline_byte underline_at number_step bullet_at ordered_at marker_at same_word is_raw_name is_block_name ends_name is_raw block_tag is_block_tag tag_end is_tag_line html_kind holds_raw_end html_ends define_once beginning interrupts may_be_lazy blocks_from blocks blocks_of lib.Utf8.encode
+unsafe_read = refl

@@ -71,13 +71,14 @@ abbrev pub is_amid_both : Outside → How → Bool
 is_amid_both c Marked = c.hyphens && is_bullet c.bullet 42
 is_amid_both c how = false
 
+-- a plain block is no such thematic break
 abbrev pub IsSafeRule : Outside → How → PlainBlock → Type 0
 IsSafeRule c how (PlainParagraph l ms) = Unit {0}
 IsSafeRule c how (PlainHeading level ts) = Unit {0}
 IsSafeRule c how PlainRule = is_amid_both c how ≡ false
 IsSafeRule c how (PlainCode info lines) = Unit {0}
 
--- no thematic break is there
+-- no thematic break of these blocks is there
 abbrev pub HasSafeRules : OptionsView → Outside → How → Blocks → Type 0
 HasSafeRules o c how Nothing = Unit {0}
 HasSafeRules o c how (PlainThen b f) = IsSafeRule c how b × HasSafeRules o c (Below (feeds_below o b) None) f
