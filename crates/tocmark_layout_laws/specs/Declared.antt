@@ -65,8 +65,8 @@ LayoutsAreDeclared =
     ArePlainTokens options → ArePlain f → HasNoList f → length (layout options flags f) < 2 ^ 64 →
     blocks_of (layout options flags f) ≡ declared_tree options flags f
 
--- whether a thematic break right after a marker would be one with that marker: if the innermost list has asterisks as bullets, and
--- another one round it has hyphens, so that the thematic break has asterisks, too
+-- whether a thematic break right after a marker would be one with that marker: if the innermost list has asterisks as bullets,
+-- and another one round it has hyphens, so that the thematic break has asterisks, too
 abbrev pub is_amid_both : Outside → How → Bool
 is_amid_both c Marked = c.hyphens && is_bullet c.bullet 42
 is_amid_both c how = false
@@ -84,12 +84,15 @@ HasSafeRules o c how Nothing = Unit {0}
 HasSafeRules o c how (PlainThen b f) = IsSafeRule c how b × HasSafeRules o c (Below (feeds_below o b) None) f
 HasSafeRules o c how (QuoteThen kids f) = HasSafeRules o c Beside kids × HasSafeRules o c (Below (feeds_below_quote o) None) f
 HasSafeRules o c how (BulletsThen items f) =
-    HasSafeRules o (in_bullets (bullet_for o c how) c) Beside items × HasSafeRules o c (Below (feeds_below_list o c.listed items) (Some (bullet_for o c how))) f
-HasSafeRules o c how (ItemThen kids f) = HasSafeRules o c Marked kids × HasSafeRules o c (Below (feeds_below_item o kids) None) f
+    HasSafeRules o (in_bullets (bullet_for o c how) c) Beside items
+    × HasSafeRules o c (Below (feeds_below_list o c.listed items) (Some (bullet_for o c how))) f
+HasSafeRules o c how (ItemThen kids f) =
+    HasSafeRules o c Marked kids × HasSafeRules o c (Below (feeds_below_item o kids) None) f
 
 -- the same of all trees of blocks with no such thematic break, if the options name a bullet that Markdown reads
 abbrev pub LayoutsWithListsAreDeclared : Type 0
 LayoutsWithListsAreDeclared =
     (options : OptionsView) (flags : ParserOptions) (f : Blocks) →
-    ArePlainTokens options → char_set_contains (codes "*-+") options.list_token ≡ true → ArePlain f → HasSafeRules options no_lists Beside f → length (layout options flags f) < 2 ^ 64 →
+    ArePlainTokens options → char_set_contains (codes "*-+") options.list_token ≡ true → ArePlain f →
+    HasSafeRules options no_lists Beside f → length (layout options flags f) < 2 ^ 64 →
     blocks_of (layout options flags f) ≡ declared_tree options flags f

@@ -13,9 +13,9 @@ pub fn layouts_are_declared()
 
 /// The same of trees with bullet lists: quotes, lists and their items hold blocks of any kind, to any depth.
 ///
-/// A list has an item, and isn't one item with one paragraph alone. The options also name `*`, `-` or `+` for lists. No thematic
-/// break comes first in an item of a list of asterisks that is in a list of hyphens: CommonMark reads the marker and the thematic
-/// break as one.
+/// A list has an item, and isn't one item with one paragraph alone. The options also name `*`, `-` or `+` for lists. No
+/// thematic break comes first in an item of a list of asterisks that is in a list of hyphens: CommonMark reads the marker
+/// and the thematic break as one.
 pub fn layouts_with_lists_are_declared()
     ensures { LayoutsWithListsAreDeclared }
 {}
