@@ -65,10 +65,10 @@ def _listed(function: Any, text: str, flags: int, guess: int) -> bytes:
 
 def _text_of(text: Union[str, "os.PathLike[str]"]) -> str:
     """Returns a text, or that of the file at a path, with its line ends."""
-    if isinstance(text, str):
-        return text
-    with open(text, encoding="utf-8", newline="") as file:
-        return file.read()
+    if isinstance(text, os.PathLike):
+        with open(text, encoding="utf-8", newline="") as file:
+            return file.read()
+    return text
 
 
 def _range_of(place: Any) -> range:
