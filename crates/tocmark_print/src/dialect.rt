@@ -500,7 +500,7 @@ impl Printer<'_> {
     }
 
     /// Whether items are indented by four columns, and a list has a line that Python-Markdown reads as one after the list,
-    /// because it is indented by less: the definition of a link after a blank line, or of a term.
+    /// because it is indented by less: HTML or the definition of a link after a blank line, or the definition of a term.
     fn has_outer_line(&self, start: usize, end: usize) -> bool {
         if !matches!(self.look.list_indent, ListIndent::Four) {
             return false;
@@ -513,8 +513,8 @@ impl Printer<'_> {
             let text = source.line(line);
             let bare = text.trim_start_matches(' ');
             let indent = text.len().saturating_sub(bare.len());
-            let is_definition = is_apart && bare.starts_with('[') && begins_link_definition(bare);
-            if 0 < indent && indent < 4 && (is_definition || bare.starts_with(": ")) {
+            let is_block = is_apart && (bare.starts_with('<') || begins_link_definition(bare));
+            if 0 < indent && indent < 4 && (is_block || bare.starts_with(": ")) {
                 return true;
             }
             is_apart = bare.is_empty();

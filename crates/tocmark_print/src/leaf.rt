@@ -111,6 +111,17 @@ fn has_meant_breaks(text: &str) -> bool {
     has_preformatted(text) || (is_open_box && (text.contains("[x]") || text.contains("[X]")))
 }
 
+/// Whether a line of a paragraph, but not the first one, looks like the definition of a link.
+fn has_definition(text: &str) -> bool {
+    for line in text.split('\n').skip(1) {
+        let bare = line.trim_start_matches(' ');
+        if bare.starts_with('[') && !bare.starts_with("[^") && bare.contains("]:") {
+            return true;
+        }
+    }
+    false
+}
+
 impl<'d> Printer<'d> {
     /// The pieces of events, whose text starts here in the source; and the place in the source after them. Their room comes
     /// from the printer, which gets it back by `keep_room`.
@@ -216,10 +227,11 @@ impl<'d> Printer<'d> {
         }
     }
 
-    /// Whether a quote begins beside an item's marker, and items are indented by four columns. Python-Markdown reads only one
-    /// line of such a quote.
-    fn is_line_of_quote(&self) -> bool {
-        matches!(self.look.list_indent, ListIndent::Four) && self.page.quotes_beside_marker()
+    /// Whether items are indented by four columns, and the breaks of a paragraph's lines mean something to Python-Markdown: it
+    /// reads only one line of a quote beside an item's marker, and a line such as `[a]: b` as a definition.
+    fn has_other_breaks(&self, start: usize, end: usize) -> bool {
+        matches!(self.look.list_indent, ListIndent::Four)
+            && (self.page.quotes_beside_marker() || has_definition(self.source.slice(start, end)))
     }
 
     /// Prints a paragraph's lines.
@@ -239,7 +251,8 @@ impl<'d> Printer<'d> {
         let wrap = self.look.wrap;
         let (_, end) = part.range(events.1.saturating_sub(1));
         if wrap != Wrap::Keep
-            && (self.is_line_of_quote() || has_meant_breaks(self.source.slice(start, end)))
+            && (self.has_other_breaks(start, end)
+                || has_meant_breaks(self.source.slice(start, end)))
         {
             self.look.wrap = Wrap::Keep;
         }

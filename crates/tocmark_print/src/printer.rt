@@ -92,14 +92,14 @@ impl<'d> Printer<'d> {
         }
         let is_pair = match (last, kind) {
             (Kind::Html, Kind::Html) | (Kind::Footnote, Kind::Footnote) => true,
-            // to Python-Markdown the lines can be one paragraph
-            (Kind::Html, _) => matches!(self.look.list_indent, ListIndent::Four),
             (Kind::Definition, Kind::Definition) => true,
             (Kind::Title, Kind::Title | Kind::Definition) => true,
             (Kind::Definitions, _) => self.look.is_literal || kind == Kind::Rule,
             (Kind::Foreign, _) | (_, Kind::Foreign) => true,
             // the text lacks too many cells for one more row, but other programs go on with the table
             (Kind::Table, Kind::Paragraph) => true,
+            // to Python-Markdown the lines can be one paragraph
+            (Kind::Html, _) | (_, Kind::Html) => matches!(self.look.list_indent, ListIndent::Four),
             _ => false,
         };
         if is_apart || !is_pair {
