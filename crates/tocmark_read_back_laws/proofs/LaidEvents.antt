@@ -5,7 +5,7 @@ use Rattle.std.proofs.lemmas.Str.{IsUtf8-from_ascii, utf8_lossy-IsUtf8}
 use Rattle.std.specs.Prelude.{slice_get}
 use Rattle.std.specs.List.{AllByRecursion, concat}
 use Rattle.tocmark_event.specs.Options.{OptionsView}
-use Rattle.tocmark_event.specs.View.{TagView, Paragraph, Heading, BlockQuote, CodeBlock, Fenced, EventView, Start, End, Leaf, Text, SoftBreak, Rule, end_of}
+use Rattle.tocmark_event.specs.View.{TagView, Paragraph, Heading, BlockQuote, CodeBlock, Fenced, Item, ListOf, EventView, Start, End, Leaf, Text, SoftBreak, Rule, end_of}
 use Rattle.tocmark_event.specs.declared.event.flags.ParserOptions.{ParserOptions}
 use Rattle.tocmark_read_scan.specs.PlainParts.{Part, meant, spelled}
 use Rattle.tocmark_read_scan.proofs.PlainContent.{get_behind}
@@ -21,6 +21,7 @@ use Rattle.tocmark_commonmark.specs.Leaves as leaves
 use Rattle.tocmark_commonmark.specs.Links.{Destination, destinations}
 use Rattle.tocmark_commonmark.specs.Tokens.{Backtick, Star, OpenBracket, Exclamation, CloseBracket, Angle, Space, LineFeed, Other, kind_of, literal, literal_at, literals, literals_at, and_literals, resolved}
 use Rattle.tocmark_commonmark.specs.Tree as block
+use Rattle.tocmark_block_laws.specs.Quotes.{Agrees}
 use Rattle.tocmark_standard_laws.specs.Lettered.{letter_events, lettered, tag_as_text, as_text}
 use Rattle.tocmark_standard_laws.specs.CoveredTexts.{IsAgreedText, events_read}
 use Rattle.tocmark_standard_laws.proofs.CoveredTexts.{agreed-declared}
@@ -33,13 +34,13 @@ use Rattle.tocmark_laws.proofs.DocumentCodeSpelling.{fence_rest}
 use Rattle.tocmark_laws.proofs.DocumentRows.{IsCode}
 use Rattle.tocmark_laws.proofs.DocumentsReadBack.{may_stand}
 use Rattle.tocmark_write_texts.specs.Escape.{escaped}
-use Rattle.tocmark_document_laws.specs.Blocks.{Blocks, Nothing, PlainThen, QuoteThen, BulletsThen, ItemThen, ArePlain, events_of}
-use Rattle.tocmark_document_laws.specs.DocumentLines.{Line, How, Beside, Below, Outside, no_lists, code_text, feeds_below, feeds_below_quote, layout, paragraph_lines}
-use Rattle.tocmark_document_laws.specs.ReadBack.{HasNoList, BlocksTabless}
-use Rattle.tocmark_layout_laws.specs.Declared.{declared, declared_block, declared_tree}
+use Rattle.tocmark_document_laws.specs.Blocks.{Blocks, Nothing, PlainThen, QuoteThen, BulletsThen, ItemThen, ArePlainIn, ArePlain, events_of}
+use Rattle.tocmark_document_laws.specs.DocumentLines.{Line, How, Beside, Marked, Below, Outside, no_lists, bullet_for, code_text, feeds_below, feeds_below_item, feeds_below_list, feeds_below_quote, in_bullets, layout, paragraph_lines}
+use Rattle.tocmark_layout_laws.specs.Declared.{declared, declared_block, declared_tree, is_tight}
+use Rattle.tocmark_read_back_laws.specs.Documents.{IsWrapped, AreWrapped, HasNoTightParagraph}
 use Rattle.tocmark_read_back_laws.proofs.DeclaredContents.{parts_declared}
-use Rattle.tocmark_read_back_laws.proofs.LaidTrees.{Content, content_parts, heading_content, paragraph_content, layout_agrees, layout_declared}
-use Rattle.tocmark_read_back_laws.proofs.SafeLines.{AreSafe, layout_safe, no_zeros, safe_ascii, safe_plain, shown_ascii}
+use Rattle.tocmark_read_back_laws.proofs.LaidTrees.{Content, content_parts, heading_content, paragraph_content}
+use Rattle.tocmark_read_back_laws.proofs.SafeLines.{AreSafe, no_zeros, safe_ascii, safe_plain, shown_ascii}
 
 -- a container and what is after it
 element_on : (t : TagView) (es rest : List EventView) → lettered (element t es ++ rest) ≡ Start t ∷ (lettered es ++ End (end_of t) ∷ lettered rest)
@@ -134,16 +135,39 @@ module _ (o : OptionsView) (flags : ParserOptions) (tokens : ArePlainTokens o) (
       ap (λ i. lettered (element (CodeBlock (Fenced i)) (code_events (code_text ls)) ++ xs)) (info_resolved o.code_block_token info (code_good info ls h).info_is)
       ∙ elements_on (CodeBlock (Fenced info)) (code_events (code_text ls)) (map (λ l. Leaf (Text (l ++ codes "\n"))) ls) xs ys (said_lettered (code_text ls) ∙ sym (code_lettered ls)) k
 
-  tree_said : (c : Outside) (how : How) (f : Blocks) → ArePlain f → HasNoList f → AreWell n (declared o flags c how f) → lettered (block_events labels false (declared o flags c how f)) ≡ lettered (events_of f)
-  tree_said c how Nothing h q w = refl
-  tree_said c how (PlainThen b f) h q w =
-      block_said b (block_events labels false (declared o flags c (Below (feeds_below o b) None) f)) (events_of f) (h.0) (w.0) (tree_said c (Below (feeds_below o b) None) f (h.1) q (w.1))
-  tree_said c how (QuoteThen kids f) h q w =
-      elements_on (BlockQuote None) (block_events labels false (declared o flags c Beside kids)) (events_of kids) (block_events labels false (declared o flags c (Below (feeds_below_quote o) None) f)) (events_of f)
-      (tree_said c Beside kids (h.0) (q.0) (w.0)) (tree_said c (Below (feeds_below_quote o) None) f (h.1) (q.1) (w.1))
-      ∙ ap (λ (zs : List EventView). Start (BlockQuote None) ∷ lettered zs) (append_assoc (events_of kids) (End (end_of (BlockQuote None)) ∷ []) (events_of f))
-  tree_said c how (BulletsThen items f) h q w = absurd q
-  tree_said c how (ItemThen kids f) h q w = absurd q
+  -- a block whose paragraph has its tags is the same in a tight list
+  same_wrapped : (tight : Bool) (b : PlainBlock) → IsWrapped tight b → block_event labels tight (declared_block o flags b) ≡ block_event labels false (declared_block o flags b)
+  same_wrapped false b h = refl
+  same_wrapped true (PlainParagraph l ms) h = absurd h
+  same_wrapped true (PlainHeading level ts) h = refl
+  same_wrapped true PlainRule h = refl
+  same_wrapped true (PlainCode info ls) h = refl
+
+  -- a container, and what is after it
+  boxed_said : (t : TagView) (es fs xs ys : List EventView) → lettered es ≡ lettered fs → lettered xs ≡ lettered ys → lettered (element t es ++ xs) ≡ lettered (Start t ∷ (fs ++ End (end_of t) ∷ ys))
+  boxed_said t es fs xs ys h k = elements_on t es fs xs ys h k ∙ ap (λ (zs : List EventView). Start t ∷ lettered zs) (append_assoc fs (End (end_of t) ∷ []) ys)
+
+  tree_said : (items : Bool) (c : Outside) (how : How) (tight : Bool) (f : Blocks) → ArePlainIn items f → AreWrapped o c how tight f → AreWell n (declared o flags c how f) → lettered (block_events labels tight (declared o flags c how f)) ≡ lettered (events_of f)
+  tree_said items c how tight Nothing h q w = refl
+  tree_said true c how tight (PlainThen b f) h q w = absurd h
+  tree_said false c how tight (PlainThen b f) h q w =
+      let rest : List EventView = block_events labels tight (declared o flags c (Below (feeds_below o b) None) f) in
+      ap (λ (es : List EventView). lettered (es ++ rest)) (same_wrapped tight b (q.0))
+      ∙ block_said b rest (events_of f) (h.0) (w.0) (tree_said false c (Below (feeds_below o b) None) tight f (h.1) (q.1) (w.1))
+  tree_said true c how tight (QuoteThen kids f) h q w = absurd h
+  tree_said false c how tight (QuoteThen kids f) h q w =
+      boxed_said (BlockQuote None) (block_events labels false (declared o flags c Beside kids)) (events_of kids) (block_events labels tight (declared o flags c (Below (feeds_below_quote o) None) f)) (events_of f)
+      (tree_said false c Beside false kids (h.0) (q.0) (w.0)) (tree_said false c (Below (feeds_below_quote o) None) tight f (h.1) (q.1) (w.1))
+  tree_said true c how tight (BulletsThen items f) h q w = absurd h
+  tree_said false c how tight (BulletsThen items f) h q w =
+      let within : Outside = in_bullets (bullet_for o c how) c in
+      let below : How = Below (feeds_below_list o c.listed items) (Some (bullet_for o c how)) in
+      boxed_said (ListOf None) (block_events labels (is_tight o within items) (declared o flags within Beside items)) (events_of items) (block_events labels tight (declared o flags c below f)) (events_of f)
+      (tree_said true within Beside (is_tight o within items) items (h.2) (q.0) (w.0)) (tree_said false c below tight f (h.3) (q.1) (w.1))
+  tree_said false c how tight (ItemThen kids f) h q w = absurd h
+  tree_said true c how tight (ItemThen kids f) h q w =
+      boxed_said Item (block_events labels tight (declared o flags c Marked kids)) (events_of kids) (block_events labels tight (declared o flags c (Below (feeds_below_item o kids) None) f)) (events_of f)
+      (tree_said false c Marked tight kids (h.0) (q.0) (w.0)) (tree_said true c (Below (feeds_below_item o kids) None) tight f (h.1) (q.1) (w.1))
 
 -- words are texts
 
@@ -173,46 +197,66 @@ lines_kept l (m ∷ ms) =
 info_text : (token : ℕ) (info : List ℕ) → AllByRecursion IsPrintable info → tag_as_text (CodeBlock (Fenced info)) ≡ CodeBlock (Fenced info)
 info_text token info h = ap (λ t. CodeBlock (Fenced t)) (utf8_lossy-IsUtf8 info (IsUtf8-from_ascii info (shown_ascii info h)))
 
+boxed_kept : (t : TagView) (es rest : List EventView) → tag_as_text t ≡ t → AreTexts es → AreTexts rest → AreTexts (Start t ∷ (es ++ End (end_of t) ∷ rest))
+boxed_kept t es rest e h k =
+    ap (λ (zs : List EventView). map as_text (Start t ∷ lettered zs)) (sym (append_assoc es (End (end_of t) ∷ []) rest))
+    ∙ element_kept t es rest e h k
+    ∙ ap (λ (zs : List EventView). Start t ∷ lettered zs) (append_assoc es (End (end_of t) ∷ []) rest)
+
 module _ (o : OptionsView) (flags : ParserOptions) (tokens : ArePlainTokens o) where
-  kept : (f : Blocks) → ArePlain f → HasNoList f → AreTexts (events_of f)
-  kept Nothing h q = refl
-  kept (PlainThen (PlainParagraph l ms) f) h q = element_kept Paragraph (line_events l ms) (events_of f) refl (lines_kept l ms) (kept f (h.1) q)
-  kept (PlainThen (PlainHeading level ts) f) h q =
-      element_kept (Heading level None [] []) (map (λ t. Leaf (Text t)) ts) (events_of f) refl (ap (map as_text) (texts_lettered ts) ∙ letters_kept (concat ts) ∙ sym (texts_lettered ts)) (kept f (h.1) q)
-  kept (PlainThen PlainRule f) h q = ap (λ (es : List EventView). Leaf Rule ∷ es) (kept f (h.1) q)
-  kept (PlainThen (PlainCode info ls) f) h q =
-      element_kept (CodeBlock (Fenced info)) (map (λ l. Leaf (Text (l ++ codes "\n"))) ls) (events_of f)
-      (info_text o.code_block_token info (code_good o flags tokens [] 0 (omega arith) info ls (h.0)).info_printable)
-      (ap (map as_text) (code_lettered ls) ∙ letters_kept (code_text ls) ∙ sym (code_lettered ls)) (kept f (h.1) q)
-  kept (QuoteThen kids f) h q =
-      ap (λ (zs : List EventView). map as_text (Start (BlockQuote None) ∷ lettered zs)) (sym (append_assoc (events_of kids) (End (end_of (BlockQuote None)) ∷ []) (events_of f)))
-      ∙ element_kept (BlockQuote None) (events_of kids) (events_of f) refl (kept kids (h.0) (q.0)) (kept f (h.1) (q.1))
-      ∙ ap (λ (zs : List EventView). Start (BlockQuote None) ∷ lettered zs) (append_assoc (events_of kids) (End (end_of (BlockQuote None)) ∷ []) (events_of f))
-  kept (BulletsThen items f) h q = absurd q
-  kept (ItemThen kids f) h q = absurd q
+  block_kept : (b : PlainBlock) (rest : List EventView) → IsPlainBlock b → AreTexts rest → AreTexts (plain_events b ++ rest)
+  block_kept (PlainParagraph l ms) rest h k = element_kept Paragraph (line_events l ms) rest refl (lines_kept l ms) k
+  block_kept (PlainHeading level ts) rest h k =
+      element_kept (Heading level None [] []) (map (λ t. Leaf (Text t)) ts) rest refl (ap (map as_text) (texts_lettered ts) ∙ letters_kept (concat ts) ∙ sym (texts_lettered ts)) k
+  block_kept PlainRule rest h k = ap (λ (es : List EventView). Leaf Rule ∷ es) k
+  block_kept (PlainCode info ls) rest h k =
+      element_kept (CodeBlock (Fenced info)) (map (λ l. Leaf (Text (l ++ codes "\n"))) ls) rest
+      (info_text o.code_block_token info (code_good o flags tokens [] 0 (omega arith) info ls h).info_printable)
+      (ap (map as_text) (code_lettered ls) ∙ letters_kept (code_text ls) ∙ sym (code_lettered ls)) k
+
+  kept : (items : Bool) (f : Blocks) → ArePlainIn items f → AreTexts (events_of f)
+  kept items Nothing h = refl
+  kept true (PlainThen b f) h = absurd h
+  kept false (PlainThen b f) h = block_kept b (events_of f) (h.0) (kept false f (h.1))
+  kept true (QuoteThen kids f) h = absurd h
+  kept false (QuoteThen kids f) h = boxed_kept (BlockQuote None) (events_of kids) (events_of f) refl (kept false kids (h.0)) (kept false f (h.1))
+  kept true (BulletsThen items f) h = absurd h
+  kept false (BulletsThen items f) h = boxed_kept (ListOf None) (events_of items) (events_of f) refl (kept true items (h.2)) (kept false f (h.3))
+  kept false (ItemThen kids f) h = absurd h
+  kept true (ItemThen kids f) h = boxed_kept Item (events_of kids) (events_of f) refl (kept false kids (h.0)) (kept true f (h.1))
+
+-- a layout of safe bytes, of which these blocks are declared and found
+pub record IsLaid (o : OptionsView) (flags : ParserOptions) (f : Blocks) : Type 0 where
+  pub tokens : ArePlainTokens o
+  pub plain : ArePlain f
+  pub wrapped : HasNoTightParagraph o f
+  pub safe : AreSafe (layout o flags f)
+  pub small : 8 * length (layout o flags f) + 28 < 2 ^ 64
+  pub declared : blocks_of (layout o flags f) ≡ declared_tree o flags f
+  pub agrees : Agrees (layout o flags f)
 
 -- the declared events of a layout
-declared_said : (o : OptionsView) (flags : ParserOptions) (f : Blocks) (text : List ℕ) → ArePlainTokens o → ArePlain f → HasNoList f → blocks_of text ≡ declared_tree o flags f → AreWell (length text + 1) (blocks_of text) → length text + 3 < 2 ^ 64 → lettered (said_of.events_of text) ≡ lettered (events_of f)
+declared_said : (o : OptionsView) (flags : ParserOptions) (f : Blocks) (text : List ℕ) → ArePlainTokens o → ArePlain f → HasNoTightParagraph o f → blocks_of text ≡ declared_tree o flags f → AreWell (length text + 1) (blocks_of text) → length text + 3 < 2 ^ 64 → lettered (said_of.events_of text) ≡ lettered (events_of f)
 unfolding said_of.events_of
 declared_said o flags f text tokens h q e w small =
     let bs : block.Blocks = blocks_of text in
     let labels : List Destination = destinations (block.defined bs) in
     merged_lettered (block_events labels false bs)
     ∙ ap (λ x. lettered (block_events labels false x)) e
-    ∙ tree_said o flags tokens labels (length text + 1) (omega (arith, small)) no_lists Beside f h q (subst (AreWell (length text + 1)) e w)
+    ∙ tree_said o flags tokens labels (length text + 1) (omega (arith, small)) false no_lists Beside false f h q (subst (AreWell (length text + 1)) e w)
 
 -- the reader finds the declared blocks in a layout
-pub layout_agreed : (o : OptionsView) (flags : ParserOptions) (f : Blocks) → ArePlainTokens o → ArePlain f → HasNoList f → BlocksTabless f → 8 * length (layout o flags f) + 28 < 2 ^ 64 → IsAgreedText (layout o flags f)
-layout_agreed o flags f tokens plain listless tabless small =
+pub layout_agreed : (o : OptionsView) (flags : ParserOptions) (f : Blocks) → IsLaid o flags f → IsAgreedText (layout o flags f)
+layout_agreed o flags f h =
     let text : List ℕ = layout o flags f in
-    let safe : AreSafe text = layout_safe o flags tokens f plain listless tabless in
-    record { plain = safe_plain text safe; agrees = layout_agrees o flags tokens f plain listless tabless small; utf8 = IsUtf8-from_ascii text (safe_ascii text safe); small = omega (arith, small) }
+    let small : 8 * length text + 28 < 2 ^ 64 = h.small in
+    record { plain = safe_plain text h.safe; agrees = h.agrees; utf8 = IsUtf8-from_ascii text (safe_ascii text h.safe); small = omega (arith, small) }
 
 -- the events that are read of it have the letters of the document's
-pub layout_lettered : (o : OptionsView) (flags : ParserOptions) (f : Blocks) → ArePlainTokens o → ArePlain f → HasNoList f → BlocksTabless f → 8 * length (layout o flags f) + 28 < 2 ^ 64 → lettered (events_read (layout o flags f)) ≡ lettered (events_of f)
-layout_lettered o flags f tokens plain listless tabless small =
+pub layout_lettered : (o : OptionsView) (flags : ParserOptions) (f : Blocks) → IsLaid o flags f → lettered (events_read (layout o flags f)) ≡ lettered (events_of f)
+layout_lettered o flags f h =
     let text : List ℕ = layout o flags f in
-    let safe : AreSafe text = layout_safe o flags tokens f plain listless tabless in
-    agreed-declared text (layout_agreed o flags f tokens plain listless tabless small)
-    ∙ ap (map as_text) (declared_said o flags f text tokens plain listless (layout_declared o flags tokens f plain listless (omega (arith, small))) (blocks-well text (no_zeros text safe)) (omega (arith, small)))
-    ∙ kept o flags tokens f plain listless
+    let small : 8 * length text + 28 < 2 ^ 64 = h.small in
+    agreed-declared text (layout_agreed o flags f h)
+    ∙ ap (map as_text) (declared_said o flags f text h.tokens h.plain h.wrapped h.declared (blocks-well text (no_zeros text h.safe)) (omega (arith, small)))
+    ∙ kept o flags h.tokens false f h.plain

@@ -34,7 +34,7 @@ use Rattle.tocmark_laws.proofs.PlainEscapedTexts.{IsLine, line_parts, plain_line
 use Rattle.tocmark_laws.proofs.PlainParagraph.{line_from}
 use Rattle.tocmark_laws.proofs.DocumentRows.{printable_within, some_front}
 use Rattle.tocmark_document_laws.specs.Blocks.{Blocks, Nothing, PlainThen, QuoteThen, BulletsThen, ItemThen, ArePlain}
-use Rattle.tocmark_document_laws.specs.DocumentLines.{Line, How, Beside, Below, Outside, no_lists, code_text, feeds_below, feeds_below_quote, layout, line_in, paragraph_lines}
+use Rattle.tocmark_document_laws.specs.DocumentLines.{Line, How, Beside, Marked, Below, Outside, no_lists, bullet_for, code_text, feeds_below, feeds_below_item, feeds_below_list, feeds_below_quote, in_bullets, layout, line_in, paragraph_lines}
 use Rattle.tocmark_document_laws.specs.ReadBack.{HasNoList, BlocksTabless, HasTrees, line_read, lines_read, block_read, sort_read, fed_before, trees_of}
 use Rattle.tocmark_document_laws.proofs.ReadBackPlain.{layouts_read}
 use Rattle.tocmark_layout_laws.specs.Declared.{declared, declared_block, declared_tree}
@@ -205,12 +205,14 @@ module _ (o : OptionsView) (flags : ParserOptions) (tokens : ArePlainTokens o) w
   block_undefined PlainRule = refl
   block_undefined (PlainCode info ls) = refl
 
-  undefined : (c : Outside) (how : How) (f : Blocks) → HasNoList f → block.defined (declared o flags c how f) ≡ []
-  undefined c how Nothing q = refl
-  undefined c how (PlainThen b f) q = ap (λ ds. ds ++ block.defined (declared o flags c (Below (feeds_below o b) None) f)) (block_undefined b) ∙ undefined c (Below (feeds_below o b) None) f q
-  undefined c how (QuoteThen kids f) q = ap (λ ds. ds ++ block.defined (declared o flags c (Below (feeds_below_quote o) None) f)) (undefined c Beside kids (q.0)) ∙ undefined c (Below (feeds_below_quote o) None) f (q.1)
-  undefined c how (BulletsThen items f) q = absurd q
-  undefined c how (ItemThen kids f) q = absurd q
+  pub undefined : (c : Outside) (how : How) (f : Blocks) → block.defined (declared o flags c how f) ≡ []
+  undefined c how Nothing = refl
+  undefined c how (PlainThen b f) = ap (λ ds. ds ++ block.defined (declared o flags c (Below (feeds_below o b) None) f)) (block_undefined b) ∙ undefined c (Below (feeds_below o b) None) f
+  undefined c how (QuoteThen kids f) = ap (λ ds. ds ++ block.defined (declared o flags c (Below (feeds_below_quote o) None) f)) (undefined c Beside kids) ∙ undefined c (Below (feeds_below_quote o) None) f
+  undefined c how (BulletsThen items f) =
+      let below : How = Below (feeds_below_list o c.listed items) (Some (bullet_for o c how)) in
+      ap (λ ds. ds ++ block.defined (declared o flags c below f)) (undefined (in_bullets (bullet_for o c how) c) Beside items) ∙ undefined c below f
+  undefined c how (ItemThen kids f) = ap (λ ds. ds ++ block.defined (declared o flags c (Below (feeds_below_item o kids) None) f)) (undefined c Marked kids) ∙ undefined c (Below (feeds_below_item o kids) None) f
 
   pub layout_declared : (f : Blocks) → ArePlain f → HasNoList f → length (layout o flags f) < 2 ^ 64 → blocks_of (layout o flags f) ≡ declared_tree o flags f
   layout_declared f h q small = layouts_declared o flags f tokens h q small
@@ -222,8 +224,5 @@ module _ (o : OptionsView) (flags : ParserOptions) (tokens : ArePlainTokens o) w
       let same : blocks_of text ≡ declared_tree o flags f = layout_declared f h q (omega (arith, small)) in
       record {
         blocks = trees_blocks text (blocks_in CORE text) ∙ ap blocks_as has.trees_are ∙ tree_told false no_lists Beside f h q ∙ ap told (sym same);
-        definitions = has.undefined ∙ sym (undefined no_lists Beside f q) ∙ ap block.defined (sym same);
+        definitions = has.undefined ∙ sym (undefined no_lists Beside f) ∙ ap block.defined (sym same);
       }
-
-  pub layout_undefined : (f : Blocks) → ArePlain f → HasNoList f → BlocksTabless f → 8 * length (layout o flags f) + 28 < 2 ^ 64 → (blocks_in CORE (layout o flags f)).definitions ≡ []
-  layout_undefined f h q t small = let has : HasTrees (layout o flags f) (trees_of o flags false f) = layouts_read o flags f tokens h q t small in has.undefined

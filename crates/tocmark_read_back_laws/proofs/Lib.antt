@@ -5,7 +5,7 @@ pub mod NamedParts
 pub mod AlikeNodes
 pub mod AlikeBlocks
 pub mod ReadTrees
-pub mod ToldBlocks
+pub mod AgreedBlocks
 pub mod AlikeReadings
 pub mod SafeLines
 pub mod LaidTrees

@@ -1,8 +1,8 @@
 -- Each byte of a layout is one of ASCII, and is no tab, no carriage return and no U+0000.
-use Rattle.std.proofs.Common.{◌≡◌, inl, inr, ℕ, zero, suc, ◌-◌, ◌<◌, Bool, true, false, ◌==◌, ◌&&◌, if◌then◌else◌, List, [], ◌∷◌, ◌++◌, codes, map, flat_map, max, replicate, refl, sym, subst, ◌∙◌, arith, None, Some}
+use Rattle.std.proofs.Common.{◌≡◌, ◌⊎◌, inl, inr, ℕ, zero, suc, ◌-◌, ◌<◌, Bool, true, false, ◌==◌, ◌&&◌, ◌||◌, if◌then◌else◌, List, [], ◌∷◌, ◌++◌, codes, length, map, flat_map, max, replicate, refl, sym, subst, ◌∙◌, arith, true≢false, None, Some}
 use Rattle.std.proofs.lemmas.Bool.Decides.{nat_tests}
-use Rattle.std.specs.Prelude.{IsAscii}
-use Rattle.std.specs.Char.{encode_utf8}
+use Rattle.std.specs.Prelude.{IsAscii, unwrap_or}
+use Rattle.std.specs.Char.{char_set_contains, encode_utf8}
 use Rattle.std.specs.List.{AllByRecursion, concat, list_all, list_any}
 use Rattle.tocmark_event.specs.Options.{OptionsView}
 use Rattle.tocmark_event.specs.View.{EventView, End, Leaf, SoftBreak}
@@ -11,7 +11,7 @@ use Rattle.tocmark_event.specs.declared.event.HeadingLevel.TheVariants as level
 use Rattle.tocmark_event.specs.declared.event.TagEnd.TheVariants as end
 use Rattle.tocmark_event.specs.declared.event.flags.ParserOptions.{ParserOptions}
 use Rattle.tocmark_read_scan.specs.PlainParts.{spelled}
-use Rattle.tocmark_read_scan.proofs.PlainTests.{both_true}
+use Rattle.tocmark_read_scan.proofs.PlainTests.{both_true, eq_of}
 use Rattle.tocmark_reader.specs.Reading.{core_reading}
 use Rattle.tocmark_reader.proofs.PlainReading.{IsPrintable}
 use Rattle.tocmark_reader.proofs.PlainSources.{all_implied}
@@ -31,9 +31,11 @@ use Rattle.tocmark_laws.proofs.DocumentCode.{IsToken}
 use Rattle.tocmark_laws.proofs.DocumentCodeSpelling.{fence_rest}
 use Rattle.tocmark_laws.proofs.DocumentRows.{IsCode, AreCode}
 use Rattle.tocmark_laws.proofs.DocumentsReadBack.{may_stand}
-use Rattle.tocmark_document_laws.specs.Blocks.{Blocks, Nothing, PlainThen, QuoteThen, BulletsThen, ItemThen, ArePlain}
-use Rattle.tocmark_document_laws.specs.DocumentLines.{Line, How, Beside, Marked, Below, Outside, no_lists, block_lines, code_text, document_lines, feeds_below, feeds_below_quote, gap_lines, gap_of, joined, layout, line_in, lines_of, new_line, paragraph_gap, paragraph_lines, plain_gap, plain_lines, quote_lines, quoted, quoted_beside, rule_line, is_amid_hyphens}
+use Rattle.tocmark_document_laws.specs.Blocks.{Blocks, Nothing, PlainThen, QuoteThen, BulletsThen, ItemThen, ArePlainIn, ArePlain}
+use Rattle.tocmark_document_laws.specs.DocumentLines.{Line, How, Beside, Marked, Below, Outside, no_lists, block_lines, bullet_for, code_text, document_lines, feeds_below, feeds_below_item, feeds_below_list, feeds_below_quote, gap_lines, gap_of, hanging, in_bullets, item_gap, joined, layout, line_in, lines_of, list_gap, marker, new_line, paragraph_gap, paragraph_lines, plain_gap, plain_lines, quote_lines, quoted, quoted_beside, rule_line, is_amid_hyphens}
 use Rattle.tocmark_document_laws.specs.ReadBack.{AreTabless, IsTabless, BlocksTabless, HasNoList}
+use Rattle.tocmark_layout_laws.proofs.Bullets.{IsBullet}
+use Rattle.tocmark_layout_laws.proofs.LaidLists.{bullet_is}
 
 pub record IsSafe (b : ℕ) : Type 0 where
   pub ascii : b < 128
@@ -74,6 +76,9 @@ angle_safe = record { ascii = omega arith; some = refl; tab = refl; return = ref
 
 hyphen_safe : IsSafe 45
 hyphen_safe = record { ascii = omega arith; some = refl; tab = refl; return = refl }
+
+plus_safe : IsSafe 43
+plus_safe = record { ascii = omega arith; some = refl; tab = refl; return = refl }
 
 star_safe : IsSafe 42
 star_safe = record { ascii = omega arith; some = refl; tab = refl; return = refl }
@@ -169,6 +174,69 @@ quote_safe Marked xs ys h k = beside_safe xs h
 quote_safe Beside xs ys h k = (tt, quoted_safe ([] ∷ ys) (tt, k))
 quote_safe (Below n b) xs ys h k = lines_both (gap_lines n) (map quoted ([] ∷ ys)) (gap_safe n) (quoted_safe ([] ∷ ys) (tt, k))
 
+-- lists
+
+-- a bullet that Markdown reads
+pub bullet_from : (c : ℕ) → char_set_contains (codes "*-+") c ≡ true → IsBullet c
+bullet_from c h = by (42 == c) (45 == c) (43 == c) refl refl refl h
+  where
+    by : (x y z : Bool) → (42 == c) ≡ x → (45 == c) ≡ y → (43 == c) ≡ z → (x || (y || (z || false))) ≡ true → IsBullet c
+    by true y z e k l h = inl (sym (eq_of 42 c e))
+    by false true z e k l h = inr (inr (sym (eq_of 45 c k)))
+    by false false true e k l h = inr (inl (sym (eq_of 43 c l)))
+    by false false false e k l h = absurd (true≢false (sym h))
+
+marker_safe : (b : ℕ) → IsBullet b → AreSafe (marker b)
+unfolding encode_utf8
+marker_safe b (inl e) = subst (λ x. AreSafe (marker x)) (sym e) (star_safe, (space_safe, tt))
+marker_safe b (inr (inl e)) = subst (λ x. AreSafe (marker x)) (sym e) (plus_safe, (space_safe, tt))
+marker_safe b (inr (inr e)) = subst (λ x. AreSafe (marker x)) (sym e) (hyphen_safe, (space_safe, tt))
+
+hanging_safe : (m : List ℕ) (ls : List Line) → AreSafe m → LinesSafe ls → LinesSafe (hanging m ls)
+hanging_safe m [] h k = (h, tt)
+hanging_safe m (l ∷ ls) h k = (safe_both m l h (k.0), by ls (k.1))
+  where
+    by : (xs : List Line) → LinesSafe xs → LinesSafe (map (λ x. replicate (length m) 32 ++ x) xs)
+    by [] h = tt
+    by (x ∷ xs) h = (safe_both (replicate (length m) 32) x (same_safe (length m) 32 space_safe) (h.0), by xs (h.1))
+
+item_safe : (how : How) → LinesSafe (item_gap how)
+item_safe Beside = tt
+item_safe Marked = tt
+item_safe (Below n b) = gap_safe (max n 2)
+
+list_safe : (c : Outside) (how : How) → LinesSafe (list_gap c how)
+list_safe c how = by c.listed
+  where
+    by : (k : Bool) → LinesSafe (if k then new_line how else gap_of how)
+    by true = new_safe how
+    by false = of_safe how
+
+-- the options name a bullet that Markdown reads, or there are no lists
+abbrev pub HasBullets : OptionsView → Blocks → Type 0
+HasBullets o f = IsBullet o.list_token ⊎ HasNoList f
+
+in_quote : (o : OptionsView) (kids f : Blocks) → HasBullets o (QuoteThen kids f) → HasBullets o kids × HasBullets o f
+in_quote o kids f (inl b) = (inl b, inl b)
+in_quote o kids f (inr q) = (inr (q.0), inr (q.1))
+
+has_bullet : (o : OptionsView) (items f : Blocks) → HasBullets o (BulletsThen items f) → IsBullet o.list_token
+has_bullet o items f (inl b) = b
+has_bullet o items f (inr q) = absurd q
+
+in_item : (o : OptionsView) (kids f : Blocks) → HasBullets o (ItemThen kids f) → IsBullet o.list_token
+in_item o kids f (inl b) = b
+in_item o kids f (inr q) = absurd q
+
+after_plain : (o : OptionsView) (b : PlainBlock) (f : Blocks) → HasBullets o (PlainThen b f) → HasBullets o f
+after_plain o b f (inl h) = inl h
+after_plain o b f (inr q) = inr q
+
+-- the marker of the items that come, if items do
+abbrev HasMarker : Bool → Outside → Type 0
+HasMarker true c = AreSafe (marker (unwrap_or c.bullet 0))
+HasMarker false c = Unit {0}
+
 -- a text of such lines
 more_safe : (ls : List Line) → LinesSafe ls → AreSafe (flat_map (λ m. codes "\n" ++ m) ls)
 more_safe [] h = tt
@@ -238,18 +306,38 @@ module _ (o : OptionsView) (flags : ParserOptions) (tokens : ArePlainTokens o) w
   here_safe c how (PlainHeading level ts) h t = block_safe (PlainHeading level ts) h t
   here_safe c how (PlainCode info ls) h t = block_safe (PlainCode info ls) h t
 
-  blocks_safe : (c : Outside) (how : How) (f : Blocks) → ArePlain f → HasNoList f → BlocksTabless f → LinesSafe (lines_of o flags c how f)
-  blocks_safe c how Nothing h q t = tt
-  blocks_safe c how (PlainThen b f) h q t =
+  blocks_safe : (items : Bool) (c : Outside) (how : How) (f : Blocks) → HasMarker items c → ArePlainIn items f → HasBullets o f → BlocksTabless f → LinesSafe (lines_of o flags c how f)
+  blocks_safe items c how Nothing m h q t = tt
+  blocks_safe true c how (PlainThen b f) m h q t = absurd h
+  blocks_safe false c how (PlainThen b f) m h q t =
       lines_both (plain_gap how b ++ plain_lines o flags c how b) (lines_of o flags c (Below (feeds_below o b) None) f)
       (lines_both (plain_gap how b) (plain_lines o flags c how b) (before_safe how b) (here_safe c how b (h.0) (t.0)))
-      (blocks_safe c (Below (feeds_below o b) None) f (h.1) q (t.1))
-  blocks_safe c how (QuoteThen kids f) h q t =
+      (blocks_safe false c (Below (feeds_below o b) None) f tt (h.1) (after_plain o b f q) (t.1))
+  blocks_safe true c how (QuoteThen kids f) m h q t = absurd h
+  blocks_safe false c how (QuoteThen kids f) m h q t =
+      let both = in_quote o kids f q in
       lines_both (quote_lines how (lines_of o flags c Beside kids) (lines_of o flags c (Below 1 None) kids)) (lines_of o flags c (Below (feeds_below_quote o) None) f)
-      (quote_safe how (lines_of o flags c Beside kids) (lines_of o flags c (Below 1 None) kids) (blocks_safe c Beside kids (h.0) (q.0) (t.0)) (blocks_safe c (Below 1 None) kids (h.0) (q.0) (t.0)))
-      (blocks_safe c (Below (feeds_below_quote o) None) f (h.1) (q.1) (t.1))
-  blocks_safe c how (BulletsThen items f) h q t = absurd q
-  blocks_safe c how (ItemThen kids f) h q t = absurd q
+      (quote_safe how (lines_of o flags c Beside kids) (lines_of o flags c (Below 1 None) kids)
+      (blocks_safe false c Beside kids tt (h.0) (both.0) (t.0)) (blocks_safe false c (Below 1 None) kids tt (h.0) (both.0) (t.0)))
+      (blocks_safe false c (Below (feeds_below_quote o) None) f tt (h.1) (both.1) (t.1))
+  blocks_safe true c how (BulletsThen items f) m h q t = absurd h
+  blocks_safe false c how (BulletsThen items f) m h q t =
+      let token : IsBullet o.list_token = has_bullet o items f q in
+      let b : ℕ = bullet_for o c how in
+      let within : List Line = lines_of o flags (in_bullets b c) Beside items in
+      lines_both (list_gap c how ++ within) (lines_of o flags c (Below (feeds_below_list o c.listed items) (Some b)) f)
+      (lines_both (list_gap c how) within (list_safe c how)
+      (blocks_safe true (in_bullets b c) Beside items (marker_safe b (bullet_is o c how token)) (h.2) (inl token) (t.0)))
+      (blocks_safe false c (Below (feeds_below_list o c.listed items) (Some b)) f tt (h.3) (inl token) (t.1))
+  blocks_safe false c how (ItemThen kids f) m h q t = absurd h
+  blocks_safe true c how (ItemThen kids f) m h q t =
+      let token : IsBullet o.list_token = in_item o kids f q in
+      let mark : List ℕ = marker (unwrap_or c.bullet 0) in
+      let within : List Line = lines_of o flags c Marked kids in
+      lines_both (item_gap how ++ hanging mark within) (lines_of o flags c (Below (feeds_below_item o kids) None) f)
+      (lines_both (item_gap how) (hanging mark within) (item_safe how)
+      (hanging_safe mark within m (blocks_safe false c Marked kids tt (h.0) (inl token) (t.0))))
+      (blocks_safe true c (Below (feeds_below_item o kids) None) f m (h.1) (inl token) (t.1))
 
-  pub layout_safe : (f : Blocks) → ArePlain f → HasNoList f → BlocksTabless f → AreSafe (layout o flags f)
-  layout_safe f h q t = joined_safe (document_lines o flags f) (blocks_safe no_lists Beside f h q t)
+  pub layout_safe : (f : Blocks) → ArePlain f → HasBullets o f → BlocksTabless f → AreSafe (layout o flags f)
+  layout_safe f h q t = joined_safe (document_lines o flags f) (blocks_safe false no_lists Beside f tt h q t)

@@ -1,6 +1,6 @@
 //! Laws of whole documents.
 
-ghost use Rattle.tocmark_read_back_laws.specs.Documents.{LayoutsAreReadBack, WholeDocumentsAreReadBack};
+ghost use Rattle.tocmark_read_back_laws.specs.Documents.{AgreedLayoutsAreReadBack, LayoutsAreReadBack, ListedDocumentsAreReadBack, WholeDocumentsAreReadBack};
 
 /// The core reader finds just the events of a tree of blocks in the tree's layout, with neighbouring texts joined.
 ///
@@ -18,4 +18,26 @@ pub fn layouts_are_read_back()
 /// The law holds over every reader that the writer is given. The options don't ask that plain blocks be checked.
 pub fn whole_documents_are_read_back()
     ensures { WholeDocumentsAreReadBack }
+{}
+
+/// The core reader finds just the events of a tree of blocks with bullet lists in the tree's layout, if it finds the blocks
+/// that CommonMark declares of the layout.
+///
+/// Quotes, lists and their items hold blocks of any kind, to any depth. A list has an item, and isn't one item with one
+/// paragraph alone. No paragraph is directly in an item of a tight list, because a reader leaves out the tags of such a
+/// paragraph. A list is tight if it has one item and the options ask for no empty line between the blocks of that item. The
+/// options name `*`, `-` or `+` for lists. No thematic break comes first in an item of a list of asterisks that is in a list
+/// of hyphens. All else is as `layouts_are_read_back` says.
+pub fn agreed_layouts_are_read_back()
+    ensures { AgreedLayoutsAreReadBack }
+{}
+
+/// The writer refuses no event of such a document. The texts that it hands join to one in which both readers find just the
+/// document's events, if the layout is of one of three kinds.
+///
+/// These are the kinds of `quotes_are_declared`, `lists_are_declared` and `nested_lists_are_declared`, and a test decides each:
+/// `is_covered`, `has_one_line_blocks` and `has_plain_lists`. Texts of the last kind have paragraphs, headings, thematic breaks
+/// and lists in lists, but no quotes and no code. The options don't ask that plain blocks be checked.
+pub fn listed_documents_are_read_back()
+    ensures { ListedDocumentsAreReadBack }
 {}
