@@ -12,4 +12,5 @@ pub mod LaidTrees
 pub mod MergedTexts
 pub mod LaidEvents
 pub mod LaidReadings
+pub mod TightLists
 pub mod ReadBackExamples

@@ -1,5 +1,5 @@
 -- Examples, computed: the inlines of a plain text, trees as blocks, joined events, a kept ampersand, and documents with lists.
-use Rattle.std.proofs.Common.{◌≡◌, ℕ, true, false, List, [], ◌∷◌, ◌++◌, codes, refl, ap, subst, sym, arith, ◌∙◌}
+use Rattle.std.proofs.Common.{◌≡◌, ℕ, true, false, List, [], ◌∷◌, ◌++◌, codes, refl, subst, arith}
 use Rattle.std.specs.Prelude.{None}
 use Rattle.std.specs.Char.{encode_utf8}
 use Rattle.std.specs.Str.{chars}

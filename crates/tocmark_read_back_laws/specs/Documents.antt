@@ -1,5 +1,5 @@
 -- That whole documents are read back: the events that are read of what is handed are the document's.
-use Rattle.std.specs.Prelude.{ℕ, ◌+◌, ◌*◌, ◌^◌, ◌<◌, ◌≡◌, Bool, true, false, ◌||◌, Some, None, List, Ok, codes, length}
+use Rattle.std.specs.Prelude.{ℕ, ◌+◌, ◌*◌, ◌^◌, ◌<◌, ◌≤◌, ◌≡◌, Bool, true, false, ◌||◌, Some, None, List, Ok, codes, length}
 use Rattle.std.specs.Char.{char_set_contains}
 use Rattle.std.specs.List.{concat}
 use Rattle.tocmark_event.specs.Merged.{merged}
@@ -67,6 +67,13 @@ AreWrapped o c how tight (ItemThen kids f) = AreWrapped o c Marked tight kids ×
 -- the same of a document's blocks
 abbrev pub HasNoTightParagraph : OptionsView → Blocks → Type 0
 HasNoTightParagraph o f = AreWrapped o no_lists Beside false f
+
+-- so it is in each document under options that ask for an empty line after headings and thematic breaks
+abbrev pub SpacedParagraphsKeepTheirTags : Type 0
+SpacedParagraphsKeepTheirTags =
+    (options : OptionsView) (f : Blocks) →
+    2 ≤ options.newlines_after_headline → 2 ≤ options.newlines_after_rule → ArePlain f →
+    HasNoTightParagraph options f
 
 -- the layout of blocks, with lists or not, is read as their events if the reader finds the blocks that CommonMark declares of it
 abbrev pub AgreedLayoutsAreReadBack : Type 0

@@ -1,6 +1,6 @@
 //! Laws of whole documents.
 
-ghost use Rattle.tocmark_read_back_laws.specs.Documents.{AgreedLayoutsAreReadBack, LayoutsAreReadBack, ListedDocumentsAreReadBack, WholeDocumentsAreReadBack};
+ghost use Rattle.tocmark_read_back_laws.specs.Documents.{AgreedLayoutsAreReadBack, LayoutsAreReadBack, ListedDocumentsAreReadBack, SpacedParagraphsKeepTheirTags, WholeDocumentsAreReadBack};
 
 /// The core reader finds just the events of a tree of blocks in the tree's layout, with neighbouring texts joined.
 ///
@@ -40,4 +40,12 @@ pub fn agreed_layouts_are_read_back()
 /// and lists in lists, but no quotes and no code. The options don't ask that plain blocks be checked.
 pub fn listed_documents_are_read_back()
     ensures { ListedDocumentsAreReadBack }
+{}
+
+/// No paragraph is directly in an item of a tight list of a layout, if the options ask for an empty line after headings and
+/// thematic breaks.
+///
+/// So the premise of `agreed_layouts_are_read_back` and `listed_documents_are_read_back` holds under the default options.
+pub fn spaced_paragraphs_keep_their_tags()
+    ensures { SpacedParagraphsKeepTheirTags }
 {}
