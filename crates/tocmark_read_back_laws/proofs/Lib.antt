@@ -13,4 +13,5 @@ pub mod MergedTexts
 pub mod LaidEvents
 pub mod LaidReadings
 pub mod TightLists
+pub mod ShortLists
 pub mod ReadBackExamples

@@ -1,5 +1,5 @@
 -- That whole documents are read back: the events that are read of what is handed are the document's.
-use Rattle.std.specs.Prelude.{ℕ, ◌+◌, ◌*◌, ◌^◌, ◌<◌, ◌≤◌, ◌≡◌, Bool, true, false, ◌||◌, Some, None, List, Ok, codes, length}
+use Rattle.std.specs.Prelude.{ℕ, ◌+◌, ◌*◌, ◌^◌, ◌<◌, ◌≤◌, ◌≡◌, Bool, true, false, ◌||◌, Some, None, List, [], ◌∷◌, Ok, codes, length}
 use Rattle.std.specs.Char.{char_set_contains}
 use Rattle.std.specs.List.{concat}
 use Rattle.tocmark_event.specs.Merged.{merged}
@@ -15,7 +15,7 @@ use Rattle.tocmark_inline_laws.specs.Said.{commonmark}
 use Rattle.tocmark_state.specs.Walk.{Walk, Done, done, nothing_yet, script}
 use Rattle.tocmark_state.specs.WorkView.{rendering}
 use Rattle.tocmark_laws.specs.Documents.{PlainBlock, PlainParagraph, PlainHeading, PlainRule, PlainCode, ArePlainTokens}
-use Rattle.tocmark_document_laws.specs.Blocks.{Blocks, Nothing, PlainThen, QuoteThen, BulletsThen, ItemThen, ArePlain, document, events_of}
+use Rattle.tocmark_document_laws.specs.Blocks.{Blocks, Nothing, PlainThen, QuoteThen, BulletsThen, ItemThen, ArePlain, document, events_of, is_nothing}
 use Rattle.tocmark_document_laws.specs.DocumentLines.{How, Beside, Marked, Below, Outside, no_lists, bullet_for, feeds_below, feeds_below_item, feeds_below_list, feeds_below_quote, in_bullets, layout}
 use Rattle.tocmark_document_laws.specs.ReadBack.{HasNoList, BlocksTabless}
 use Rattle.tocmark_layout_laws.specs.Declared.{HasSafeRules, is_tight}
@@ -96,3 +96,50 @@ ListedDocumentsAreReadBack =
     ArePlain f → HasSafeRules options no_lists Beside f → HasNoTightParagraph options f → BlocksTabless f →
     IsOfThreeKinds (layout options flags f) →
     AreHandedAndRead (script (rendering options reading) source (nothing_yet flags) (document f)) (events_of f)
+
+-- a heading, a thematic break, or a paragraph of one line
+abbrev pub IsOneLine : PlainBlock → Type 0
+IsOneLine (PlainParagraph l []) = Unit {0}
+IsOneLine (PlainParagraph l (m ∷ ms)) = ⊥
+IsOneLine (PlainHeading level ts) = Unit {0}
+IsOneLine PlainRule = Unit {0}
+IsOneLine (PlainCode info lines) = ⊥
+
+-- a heading, or a paragraph of one line
+abbrev pub IsTextLine : PlainBlock → Type 0
+IsTextLine (PlainParagraph l []) = Unit {0}
+IsTextLine (PlainParagraph l (m ∷ ms)) = ⊥
+IsTextLine (PlainHeading level ts) = Unit {0}
+IsTextLine PlainRule = ⊥
+IsTextLine (PlainCode info lines) = ⊥
+
+-- these are one of them alone
+abbrev pub IsShortItem : Blocks → Type 0
+IsShortItem Nothing = ⊥
+IsShortItem (PlainThen b f) = IsTextLine b × (is_nothing f ≡ true)
+IsShortItem (QuoteThen kids f) = ⊥
+IsShortItem (BulletsThen items f) = ⊥
+IsShortItem (ItemThen kids f) = ⊥
+
+-- so are the blocks of each of these items
+abbrev pub AreShortItems : Blocks → Type 0
+AreShortItems Nothing = Unit {0}
+AreShortItems (PlainThen b f) = ⊥
+AreShortItems (QuoteThen kids f) = ⊥
+AreShortItems (BulletsThen items f) = ⊥
+AreShortItems (ItemThen kids f) = IsShortItem kids × AreShortItems f
+
+-- blocks of one line each, and lists of such items
+abbrev pub AreShortBlocks : Blocks → Type 0
+AreShortBlocks Nothing = Unit {0}
+AreShortBlocks (PlainThen b f) = IsOneLine b × AreShortBlocks f
+AreShortBlocks (QuoteThen kids f) = ⊥
+AreShortBlocks (BulletsThen items f) = AreShortItems items × AreShortBlocks f
+AreShortBlocks (ItemThen kids f) = ⊥
+
+-- the layouts of these are of one of the three kinds
+abbrev pub ShortDocumentsAreOfThreeKinds : Type 0
+ShortDocumentsAreOfThreeKinds =
+    (options : OptionsView) (flags : ParserOptions) (f : Blocks) →
+    ArePlainTokens options → char_set_contains (codes "*-+") options.list_token ≡ true → ArePlain f → AreShortBlocks f →
+    length (layout options flags f) < 2 ^ 64 → IsOfThreeKinds (layout options flags f)

@@ -1,6 +1,6 @@
 //! Laws of whole documents.
 
-ghost use Rattle.tocmark_read_back_laws.specs.Documents.{AgreedLayoutsAreReadBack, LayoutsAreReadBack, ListedDocumentsAreReadBack, SpacedParagraphsKeepTheirTags, WholeDocumentsAreReadBack};
+ghost use Rattle.tocmark_read_back_laws.specs.Documents.{AgreedLayoutsAreReadBack, LayoutsAreReadBack, ListedDocumentsAreReadBack, ShortDocumentsAreOfThreeKinds, SpacedParagraphsKeepTheirTags, WholeDocumentsAreReadBack};
 
 /// The core reader finds just the events of a tree of blocks in the tree's layout, with neighbouring texts joined.
 ///
@@ -48,4 +48,13 @@ pub fn listed_documents_are_read_back()
 /// So the premise of `agreed_layouts_are_read_back` and `listed_documents_are_read_back` holds under the default options.
 pub fn spaced_paragraphs_keep_their_tags()
     ensures { SpacedParagraphsKeepTheirTags }
+{}
+
+/// The layout of a document of blocks of one line each is of one of the three kinds of `listed_documents_are_read_back`.
+///
+/// These blocks are headings, thematic breaks and paragraphs of one line, and bullet lists. Each item of a list has a heading or
+/// a paragraph of one line alone. The options name `*` or `_` for emphasis, backticks or tildes for fences, and `*`, `-` or `+`
+/// for lists. The layout has fewer than 2^64 bytes.
+pub fn short_documents_are_of_three_kinds()
+    ensures { ShortDocumentsAreOfThreeKinds }
 {}
