@@ -58,12 +58,18 @@ fn folder_of(path: &str) -> &str {
     }
 }
 
+/// The path by which `/proc` leads to an open file or folder.
+pub(crate) fn path_of_open(rt: &HostRuntime, file: &File) -> io::Result<String> {
+    let number = file.as_raw_fd();
+    match format!(in rt.alloc(); "/proc/self/fd/{number}") {
+        Ok(path) => Ok(path),
+        Err(_) => Err(io::Error::from(io::ErrorKind::OutOfMemory)),
+    }
+}
+
 /// The path by which the folder is reached that is open as this file: that of its descriptor, or else its own.
 fn reach_of(rt: &HostRuntime, file: &File, path: &str) -> io::Result<String> {
-    let number = file.as_raw_fd();
-    let Ok(reach) = format!(in rt.alloc(); "/proc/self/fd/{number}") else {
-        return Err(io::Error::from(io::ErrorKind::OutOfMemory));
-    };
+    let reach = path_of_open(rt, file)?;
     let identity = Identity::of(&file.metadata()?);
     match fs::metadata(rt, reach.as_str()) {
         Ok(metadata) if identity.has(&metadata) => Ok(reach),
@@ -95,6 +101,11 @@ impl OpenFolder {
         } else {
             Err(refused(ELSEWHERE))
         }
+    }
+
+    /// Brings the names in it to the disk.
+    pub fn sync(&self) -> io::Result<()> {
+        self.file.sync_all()
     }
 
     /// Which folder it is.
@@ -182,6 +193,7 @@ impl Place {
             name,
             file,
             draft: None,
+            kept: None,
             log: Record::new(),
         })
     }
@@ -196,6 +208,8 @@ pub struct OpenFile {
     pub file: File,
     /// The new file that is to take its name, while it is replaced.
     pub(crate) draft: Option<NewFile>,
+    /// It, open for writing, while it has a second name.
+    pub(crate) kept: Option<File>,
     /// The steps of its replacements.
     pub(crate) log: Record,
 }

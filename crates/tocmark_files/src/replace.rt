@@ -3,16 +3,19 @@
 //! The new text is written to a new file in the same folder, which gets the owner and the permissions of the old one, is
 //! synced, and is renamed over it. Until then the old file stays as it is. After an error the new file is removed. Folder and
 //! files are reached by their descriptors, so nobody who changes names in between leads the call to another file.
+//!
+//! The old file keeps its access control list and its extended attributes, which no call here reads: before the renaming it
+//! gets a second name, and after it the new text and its own name back. If it can't, the new file keeps the name.
 
 ghost use Rattle.std.specs.Prelude.{◌≡◌, [], ◌∷◌, OnErr, OnOk};
 ghost use Rattle.tocmark_files.specs.Replaced.{IsGiven, IsGivenNothing, steps_on};
 ghost use Rattle.tocmark_replace.specs.Steps.{step_of};
 
-use crate::place::{OpenFile, OpenFolder, Place};
-use std::fs::{File, Metadata, OpenOptions};
+use crate::place::{Identity, OpenFile, OpenFolder, Place, path_of_open};
+use std::fs::{File, Metadata, OpenOptions, Permissions};
 use std::io::{Read, Seek, SeekFrom, Write};
 use std::os::fd::AsFd;
-use std::os::unix::fs::{MetadataExt, OpenOptionsExt, fchown};
+use std::os::unix::fs::{FileExt, MetadataExt, OpenOptionsExt, PermissionsExt, fchown};
 use std::{fs, io};
 use thiserror::Error;
 use tocmark_replace::ReplaceableFile;
@@ -73,7 +76,7 @@ pub fn replaced_by(name: &str) -> Option<&str> {
     if number.is_empty() { None } else { Some(name) }
 }
 
-/// The name of the new file that is tried in the given turn.
+/// The name of the new file that is tried in the given turn. That of turn `TRIES` is the second name of the old file.
 fn new_name(rt: &HostRuntime, name: &str, turn: usize) -> io::Result<String> {
     match format!(in rt.alloc(); ".{name}.{turn}{ENDING}") {
         Ok(name) => Ok(name),
@@ -113,7 +116,7 @@ pub fn remove_left(rt: &HostRuntime, place: &Place) -> bool {
 /// A new file that only its owner can read, and that is locked. `Ok(None)`: there is one of this name.
 fn create(rt: &HostRuntime, folder: &OpenFolder, name: &str) -> io::Result<Option<File>> {
     let mut options = OpenOptions::new();
-    options.write(true).create_new(true).mode(0o600);
+    options.read(true).write(true).create_new(true).mode(0o600);
     match options.open(rt, folder.path_of(rt, name)?.as_str()) {
         Ok(file) => {
             // A file system without locks has no call that looks for one.
@@ -148,18 +151,21 @@ fn create_beside(rt: &HostRuntime, folder: &OpenFolder, name: &str) -> io::Resul
     Err(io::Error::from(io::ErrorKind::AlreadyExists))
 }
 
-/// Gives a new file the owner and the permissions of the old one.
+/// Gives a new file the owner and the permissions of the old one, but to its group only what all others have: if the old one
+/// has an access control list, its group's permissions are the list's mask.
 fn keep_attributes(file: &File, old: &Metadata) -> io::Result<()> {
     let new = file.metadata()?;
     if new.uid() != old.uid() || new.gid() != old.gid() {
         fchown(file.as_fd(), Some(old.uid()), Some(old.gid()))?;
     }
-    file.set_permissions(old.permissions())
+    let mode = old.mode();
+    file.set_permissions(Permissions::from_mode(mode & (0o7707 | (mode & 7) << 3)))
 }
 
 /// Whether an open file still has this text.
-fn still_has(rt: &HostRuntime, file: &mut File, text: &str) -> io::Result<bool> {
+fn still_has(rt: &HostRuntime, file: &File, text: &str) -> io::Result<bool> {
     let mut bytes = Vec::new(rt.alloc());
+    let mut file = file.try_clone()?;
     file.seek(SeekFrom::Start(0))?;
     file.read_to_end(&mut bytes)?;
     Ok(bytes.as_slice() == text.as_bytes())
@@ -181,6 +187,24 @@ fn make_draft(
     let kept = keep_attributes(&new.file, &metadata);
     *draft = Some(new);
     kept.map_err(ReplaceError::Attributes)
+}
+
+/// Opens a file once more, to write to it, and locks it. `Ok(None)`: it has further names, or another call writes to it.
+fn open_sole(rt: &HostRuntime, file: &File) -> io::Result<Option<File>> {
+    let identity = Identity::of(&file.metadata()?);
+    let path = path_of_open(rt, file)?;
+    let mut options = OpenOptions::new();
+    let again = options.read(true).write(true).open(rt, path.as_str())?;
+    let metadata = again.metadata()?;
+    let is_sole = identity.has(&metadata) && metadata.nlink() == 1 && again.try_lock().is_ok();
+    Ok(if is_sole { Some(again) } else { None })
+}
+
+/// Gives an open file this text and no other, and syncs it if that is wanted.
+fn fill(file: &File, text: &str, syncs: bool) -> io::Result<()> {
+    file.write_all_at(text.as_bytes(), 0)?;
+    file.set_len(text.len() as u64)?;
+    if syncs { file.sync_all() } else { Ok(()) }
 }
 
 /// The error of a step that needs a new file.
@@ -229,10 +253,8 @@ impl OpenFile {
     }
 
     /// Whether it still has its old text and its name, and the new file its name.
-    fn is_ready(&mut self, rt: &HostRuntime, text: &str) -> io::Result<bool>
-        ensures { steps_on self.new ≡ steps_on self.old }
-    {
-        if !still_has(rt, &mut self.file, text)? || !self.is_in_place(rt)? {
+    fn is_ready(&self, rt: &HostRuntime, text: &str) -> io::Result<bool> {
+        if !still_has(rt, &self.file, text)? || !self.is_in_place(rt)? {
             return Ok(false);
         }
         match &self.draft {
@@ -246,9 +268,95 @@ impl OpenFile {
         let Some(new) = &self.draft else {
             return Err(no_draft());
         };
+        if self.kept.is_none() {
+            self.grant()?;
+        }
         let from = self.folder.path_of(rt, new.name.as_str())?;
         let to = self.folder.path_of(rt, self.name.as_str())?;
         fs::rename(rt, from.as_str(), to.as_str())
+    }
+
+    /// Gives it a second name, and opens it there for writing. `Ok(None)`: it isn't kept.
+    fn keep(&self, rt: &HostRuntime) -> io::Result<Option<File>> {
+        let second = new_name(rt, self.name.as_str(), TRIES)?;
+        let _ = remove_from(rt, &self.folder, second.as_str());
+        let Some(file) = open_sole(rt, &self.file)? else {
+            return Ok(None);
+        };
+        let from = self.folder.path_of(rt, self.name.as_str())?;
+        let to = self.folder.path_of(rt, second.as_str())?;
+        fs::hard_link(rt, from.as_str(), to.as_str())?;
+        let leads_to = self.folder.leads_to(rt, second.as_str(), &file);
+        if leads_to.unwrap_or(false) {
+            return Ok(Some(file));
+        }
+        fs::remove_file(rt, to.as_str())?;
+        Ok(None)
+    }
+
+    /// Removes the second name, if it has one. The new file then keeps the name, with all permissions.
+    fn forget(&self, rt: &HostRuntime) -> io::Result<()> {
+        let Some(file) = &self.kept else {
+            return Ok(());
+        };
+        self.grant()?;
+        let second = new_name(rt, self.name.as_str(), TRIES)?;
+        if !self.folder.leads_to(rt, second.as_str(), file)? {
+            return Ok(());
+        }
+        fs::remove_file(rt, self.folder.path_of(rt, second.as_str())?.as_str())
+    }
+
+    /// Gives the new file all permissions of the old one.
+    fn grant(&self) -> io::Result<()> {
+        let Some(new) = &self.draft else {
+            return Err(no_draft());
+        };
+        new.file
+            .set_permissions(self.file.metadata()?.permissions())
+    }
+
+    /// Whether the new file has this text and the name, and the old file the same text and its second name.
+    fn is_settled(&self, rt: &HostRuntime, second: &str, text: &str) -> io::Result<bool> {
+        let Some(new) = &self.draft else {
+            return Ok(false);
+        };
+        let Some(old) = &self.kept else {
+            return Ok(false);
+        };
+        Ok(
+            still_has(rt, old, text)?
+                && still_has(rt, &new.file, text)?
+                && self.folder.leads_to(rt, second, old)?
+                && self.folder.leads_to(rt, self.name.as_str(), &new.file)?,
+        )
+    }
+
+    /// Gives the old file the text that the new one has under its name, and then that name.
+    ///
+    /// The name leads to the new file on the disk before the old one changes, and back when the old one is on the disk.
+    fn give_back(&self, rt: &HostRuntime, text: &str, syncs: bool) -> io::Result<()> {
+        let Some(old) = &self.kept else {
+            return Ok(());
+        };
+        if syncs {
+            self.folder.sync()?;
+        }
+        fill(old, text, syncs)?;
+        let second = new_name(rt, self.name.as_str(), TRIES)?;
+        if !self.is_settled(rt, second.as_str(), text)? {
+            return self.forget(rt);
+        }
+        let from = self.folder.path_of(rt, second.as_str())?;
+        let to = self.folder.path_of(rt, self.name.as_str())?;
+        fs::rename(rt, from.as_str(), to.as_str())
+    }
+
+    /// Gives it back the name that the new file has, if it has a second one. If that fails, the new file keeps the name.
+    fn settle(&self, rt: &HostRuntime, text: &str, syncs: bool) {
+        if self.give_back(rt, text, syncs).is_err() {
+            let _ = self.forget(rt);
+        }
     }
 
     /// Removes the new file, if there is one.
@@ -306,11 +414,14 @@ impl ReplaceableFile for OpenFile {
     }
 
     fn rename(&mut self, rt: &HostRuntime) -> Result<(), ReplaceError> {
+        self.kept = self.keep(rt).unwrap_or(None);
         let renamed = self.rename_draft(rt).map_err(ReplaceError::Write);
         noted(&mut self.log, renamed, RENAMED, FAILED, &[])
     }
 
     fn remove(&mut self, rt: &HostRuntime) {
+        let _ = self.forget(rt);
+        self.kept = None;
         let removed = self.remove_draft(rt).map_err(ReplaceError::Write);
         let _ = noted(&mut self.log, removed, REMOVED, LEFT, &[]);
     }
@@ -334,7 +445,9 @@ impl<'r> Replacement<'r> {
         ensures err { OnErr result (IsGivenNothing file.old file.new) }
     {
         let done = replace(rt, file, self.old, self.new, self.syncs);
+        file.settle(rt, self.new, self.syncs);
         file.draft = None;
+        file.kept = None;
         match done {
             Ok(true) => Ok(()),
             Ok(false) => Err(ReplaceError::Changed),
