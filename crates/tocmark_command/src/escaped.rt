@@ -1,7 +1,9 @@
-//! Texts in the forms that other programs read: JSON, and the annotations of GitHub's workflows.
+//! Texts in the forms that other programs read: JSON, and the annotations of GitHub's workflows. Neither has a control
+//! character, so a name changes nothing at a terminal.
 
 use std::fmt;
 use std::fmt::Write;
+use tocmark_files::quoted::write_control;
 
 /// How a text is quoted.
 #[derive(Clone, Copy)]
@@ -44,7 +46,7 @@ fn write_json<W: fmt::Write>(out: &mut W, c: char) -> fmt::Result {
         '\\' => out.write_str("\\\\"),
         '\n' => out.write_str("\\n"),
         '\t' => out.write_str("\\t"),
-        c if c < ' ' => {
+        c if c.is_control() => {
             let number = c as u32;
             write!(out, "\\u{number:04x}")
         }
@@ -65,6 +67,8 @@ impl<W: fmt::Write + Drop> fmt::Write for Escaping<W> {
             };
             match escape {
                 Some(escape) => self.out.write_str(escape)?,
+                // GitHub has no sign for another control character.
+                None if c.is_control() => write_control(&mut self.out, c)?,
                 None => self.out.write_char(c)?,
             }
         }

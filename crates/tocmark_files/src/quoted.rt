@@ -39,7 +39,7 @@ fn write_octal<W: fmt::Write>(out: &mut W, c: char) -> fmt::Result {
 }
 
 /// Writes the escape of a control character.
-fn write_control<W: fmt::Write>(out: &mut W, c: char) -> fmt::Result {
+pub fn write_control<W: fmt::Write>(out: &mut W, c: char) -> fmt::Result {
     match c {
         '\n' => out.write_str("\\n"),
         '\r' => out.write_str("\\r"),
