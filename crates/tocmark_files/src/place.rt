@@ -1,6 +1,9 @@
 //! Files by the folder that they are in. An open folder stays the same one, whatever others do to its path meanwhile, and a
 //! file counts as the one that was found only if its device and inode say so.
 
+ghost use Rattle.std.specs.Prelude.{◌≡◌, [], IfOk};
+ghost use Rattle.tocmark_files.specs.Replaced.{steps_on};
+
 use crate::replace::NewFile;
 use std::fs::{File, Metadata};
 use std::os::fd::AsRawFd;
@@ -178,7 +181,10 @@ impl Place {
     }
 
     /// Opens the file that was found, if its name still leads to it.
-    pub fn open(&self, rt: &HostRuntime) -> io::Result<OpenFile> {
+    pub fn open(&self, rt: &HostRuntime) -> io::Result<OpenFile>
+        // No step of a replacement was taken yet.
+        ensures { IfOk result (λ file. steps_on file ≡ []) }
+    {
         let folder = self.folder(rt)?;
         let name = String::from_str(rt.alloc(), self.name())?;
         if !self.file.has(&folder.find(rt, name.as_str())?) {
