@@ -5,9 +5,9 @@ use std::fmt;
 /// Why a block keeps its lines.
 #[derive(Clone, Copy)]
 pub enum Reason {
-    /// What is printed for it is read otherwise.
+    /// Its printed form parses differently.
     ReadOtherwise,
-    /// What its containers have before their lines would outgrow its text.
+    /// The prefixes of its containers would make the output too large.
     Outgrown,
 }
 

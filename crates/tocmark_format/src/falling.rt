@@ -71,7 +71,7 @@ struct Said<'s> {
     ends: &'s [TreeEnd],
 }
 
-/// Takes the blocks that are read otherwise or apart one step nearer to the source; false if there is no such step left.
+/// Moves each block that parses differently, or is apart, one step towards its source. False if no step is left.
 fn fall_blocks(
     ladder: &mut Ladder,
     printed: (&Blocks, &Places),
@@ -98,8 +98,8 @@ fn fall_blocks(
     has_fallen
 }
 
-/// Takes what is read otherwise, and the blocks that are apart, one step nearer to the source; false if there is no such step
-/// left. With the printed blocks it is given where the trees begin that are read back, and what the source and these trees say.
+/// Moves each tree that parses differently, and the blocks that are apart, one step towards the source. False if no step is
+/// left. `printed` also has where the trees of the new text begin. `says` is what the source and these trees say.
 pub(crate) fn fall_all(
     ladder: &mut Ladder,
     alloc: Global,

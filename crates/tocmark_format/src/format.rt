@@ -170,7 +170,7 @@ impl<R: PartReader> Formatter<'_, R> {
             .finds_the_same(new, found, source.text, &printed.source)
     }
 
-    /// Takes what is read otherwise one step nearer to the source; false if there is no such step left.
+    /// Moves each tree that parses differently one step towards the source. False if no step is left.
     fn fall(
         &self,
         source: &Source<'_>,
