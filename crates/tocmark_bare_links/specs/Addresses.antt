@@ -131,11 +131,23 @@ www = 119 ∷ 119 ∷ 119 ∷ 46 ∷ []
 unfoldable pub has_scheme : List ℕ → ℕ → Bool
 has_scheme word place = starts_at word place https || starts_at word place http || starts_at word place ftp || starts_at word place www
 
--- the address that a word begins with
-unfoldable pub address_of : List ℕ → Option Address
-address_of word =
+-- "://"
+abbrev pub slashes : List ℕ
+slashes = 58 ∷ 47 ∷ 47 ∷ []
+
+-- programs look for an address at a place: `://` is there, or `www.`
+unfoldable pub is_sign : List ℕ → ℕ → Bool
+is_sign text place = starts_at text place slashes || starts_at text place www
+
+-- the mail address that a word begins with
+abbrev pub mail_address : List ℕ → Option Address
+mail_address word = of_kind Mail (mail_length word)
+
+-- the web address that a word begins with
+unfoldable pub web_address : List ℕ → Option Address
+web_address word =
     if starts_at word 0 https then of_kind Web (web_length true word 8)
     else if starts_at word 0 http then of_kind Web (web_length true word 7)
     else if starts_at word 0 ftp then of_kind Web (web_length true word 6)
     else if starts_at word 0 www then of_kind Named (web_length false word 4)
-    else of_kind Mail (mail_length word)
+    else None

@@ -8,11 +8,11 @@ use Rattle.tocmark_event.specs.declared.event.LinkType.{LinkType}
 use Rattle.tocmark_event.specs.declared.event.LinkType.TheVariants as link
 use Rattle.tocmark_event.specs.declared.event.TagEnd.TheVariants as end
 use Rattle.tocmark_read_scan.specs.Basic.{plus, bytes_between}
-use Rattle.tocmark_bare_links.specs.Addresses.{address_of, has_scheme}
+use Rattle.tocmark_bare_links.specs.Addresses.{has_scheme, is_sign, mail_address, web_address}
 use Rattle.tocmark_bare_links.specs.declared.address.Kind.{Kind}
 use Rattle.tocmark_bare_links.specs.declared.address.Kind.TheVariants.{Web, Named, Mail}
 use Rattle.tocmark_bare_links.specs.declared.address.Address.{Address}
-use Rattle.tocmark_bare_links.specs.declared.words.Lead.{Lead}
+use Rattle.tocmark_bare_links.specs.declared.words.Brackets.{Brackets}
 use Rattle.tocmark_bare_links.specs.declared.words.Words.{Words}
 use Rattle.tocmark_bare_links.specs.declared.words.Spot.{Spot}
 use Rattle.tocmark_bare_links.specs.declared.scan.Scan.{Scan}
@@ -31,31 +31,44 @@ is_lead b = (b == 40) || (b == 42) || (b == 126)
 unfoldable pub lead_length : List ℕ → ℕ
 lead_length word = length (take_while is_lead word)
 
--- how many `[` have no `]`, after one byte more
-unfoldable pub bracketed : ℕ → ℕ → ℕ
-bracketed n b = if b == 91 then plus n 1 else if b == 93 then n - 1 else n
+-- how many `[` are open after one byte more; an escaped bracket doesn't count
+unfoldable pub brackets_step : Brackets → ℕ → Brackets
+brackets_step s b = record {
+  opened = if s.escaped then s.opened else if b == 91 then plus s.opened 1 else if b == 93 then s.opened - 1 else s.opened;
+  escaped = not s.escaped && (b == 92);
+}
 
--- before the first byte of a line: whether an address may begin there, and how many brackets are open
-abbrev pub words_start : Bool → ℕ → Words
-words_start opens brackets = record { place = 0; start = 0; opens = opens; brackets = brackets; around = brackets; linked = 0 }
+-- before the first byte of a line: whether an address may begin there, and which brackets are open
+abbrev pub words_start : Bool → Brackets → Words
+words_start opens brackets = record { place = 0; start = 0; opens = opens; leads = opens; brackets = brackets; found = None; linked = 0 }
 
--- one byte further: a separator ends a word, and after white space an address may begin
-unfoldable pub words_step : Words → ℕ → Words
-words_step w b =
+-- the first web address of the last word may be at the end of the front: it may begin there, no bracket is open, and a scheme follows
+unfoldable pub may_begin : List ℕ → Words → Bool
+may_begin text w = is_none w.found && w.leads && (w.brackets.opened == 0) && has_scheme text w.place
+
+-- programs look for an address at the end of the front, and make no link of it, because a bracket is open
+unfoldable pub is_within_brackets : List ℕ → Words → Bool
+is_within_brackets text w = not (w.brackets.opened == 0) && is_none w.found && is_sign text w.place
+
+-- one byte further: an address may begin after white space, and after one of ( * ~
+unfoldable pub words_step : List ℕ → Words → ℕ → Words
+words_step text w b =
     if is_separator b then record {
       place = plus w.place 1;
       start = plus w.place 1;
       opens = not (b == 60);
-      brackets = w.brackets;
-      around = w.brackets;
+      leads = not (b == 60);
+      brackets = brackets_step w.brackets b;
+      found = None;
       linked = w.linked;
     }
     else record {
       place = plus w.place 1;
       start = w.start;
       opens = w.opens;
-      brackets = bracketed w.brackets b;
-      around = w.around;
+      leads = is_lead b;
+      brackets = brackets_step w.brackets b;
+      found = if may_begin text w then Some w.place else w.found;
       linked = w.linked;
     }
 
@@ -64,36 +77,18 @@ abbrev pub spot_from : ℕ → Option Address → Option Spot
 spot_from start None = None
 spot_from start (Some a) = Some (record { kind = a.kind; start = start; end = plus start a.length })
 
--- before the first byte of a word: whether an address may begin there
-abbrev pub lead_start : Bool → Lead
-lead_start opens = record { place = 0; opens = opens; brackets = 0; found = None }
+-- where the mail address of a word is: at its front
+unfoldable pub mail_spot : Bool → ℕ → List ℕ → Option Spot
+mail_spot opens start word = if opens then spot_from (plus start (lead_length word)) (mail_address (drop (lead_length word) word)) else None
 
--- one byte further: a web address may be after one of ( * ~, if no `[` before it in the word lacks its `]`
-unfoldable pub lead_step : List ℕ → Lead → ℕ → Lead
-lead_step word l b = record {
-  place = plus l.place 1;
-  opens = is_lead b;
-  brackets = bracketed l.brackets b;
-  found = if is_none l.found && l.opens && (l.brackets == 0) && has_scheme word l.place then Some l.place else l.found;
-}
+-- where the address of the last word is whose first web address may be at a place
+abbrev pub spot_from_lead : List ℕ → Words → Option ℕ → Option Spot
+spot_from_lead text w None = mail_spot w.opens w.start (bytes_between text w.start w.place)
+spot_from_lead text w (Some lead) = spot_from lead (web_address (bytes_between text lead w.place))
 
--- where the first web address of a word may be
-unfoldable pub web_start : Bool → List ℕ → Option ℕ
-web_start opens word = (fold (lead_step word) (lead_start opens) word).found
-
--- where the address of a word is whose web address may be at a place; a mail address is at its front
-abbrev pub spot_from_lead : Bool → ℕ → List ℕ → Option ℕ → Option Spot
-spot_from_lead opens start word None =
-    if opens then spot_from (plus start (lead_length word)) (address_of (drop (lead_length word) word)) else None
-spot_from_lead opens start word (Some lead) = spot_from (plus start lead) (address_of (drop lead word))
-
--- where the address of a word is
-unfoldable pub spot_in : Bool → ℕ → List ℕ → Option Spot
-spot_in opens start word = spot_from_lead opens start word (web_start opens word)
-
--- where the address of the last word is; a word within an open bracket has none
+-- where the address of the last word is
 unfoldable pub spot_of : List ℕ → Words → Option Spot
-spot_of text w = if w.around == 0 then spot_in w.opens w.start (bytes_between text w.start w.place) else None
+spot_of text w = spot_from_lead text w w.found
 
 -- ---- events
 
@@ -156,13 +151,29 @@ with_link text base s (Some spot) = record {
 unfoldable pub word_ended : List ℕ → ℕ → ScanView → ScanView
 word_ended text base s = with_link text base s (spot_of text s.words)
 
+-- "[", which tells that an address is within brackets
+abbrev pub bracket : List ℕ
+bracket = 91 ∷ []
+
+-- the text up to here, and a mark
+unfoldable pub bracket_told : List ℕ → ℕ → ScanView → ScanView
+bracket_told text base s = record {
+  words = record s.words { linked = s.words.place };
+  events = s.events ++ text_events text base s.words.linked s.words.place ++ (Leaf (Text bracket), range_at base s.words.place s.words.place) ∷ [];
+}
+
 -- the words are one byte further
-abbrev pub with_words : ScanView → ℕ → ScanView
-with_words s b = record { words = words_step s.words b; events = s.events }
+abbrev pub with_words : List ℕ → ScanView → ℕ → ScanView
+with_words text s b = record { words = words_step text s.words b; events = s.events }
+
+-- before a byte: a word ends, or an address is within brackets
+unfoldable pub scan_before : List ℕ → ℕ → ScanView → ℕ → ScanView
+scan_before text base s b =
+    if is_separator b then word_ended text base s else if is_within_brackets text s.words then bracket_told text base s else s
 
 -- one byte further
 unfoldable pub scan_step : List ℕ → ℕ → ScanView → ℕ → ScanView
-scan_step text base s b = with_words (if is_separator b then word_ended text base s else s) b
+scan_step text base s b = with_words text (scan_before text base s b) b
 
 -- what is left of a line is text; its last word is ended if nothing may follow that goes on in it
 unfoldable pub line_ended : List ℕ → ℕ → Bool → ScanView → ScanView

@@ -1,5 +1,6 @@
 -- Events in which bare addresses are links, as they are between angle brackets.
-use Rattle.std.specs.Prelude.{ℕ, Bool, true, false, not, ◌-◌, ◌==◌, ◌&&◌, ◌||◌, nat_le, if◌then◌else◌, List, [], ◌∷◌, ◌++◌, drop, length, string_bytes, take_while}
+use Rattle.std.specs.Prelude.{ℕ, Bool, true, false, not, ◌-◌, ◌==◌, ◌&&◌, ◌||◌, min, nat_le, if◌then◌else◌, List, [], ◌∷◌, ◌++◌, drop, length, string_bytes, take_while}
+use Rattle.std.specs.Char.{is_ascii_alphabetic}
 use Rattle.std.specs.List.{fold}
 use Rattle.tocmark_event.specs.Reading.{ReadingView}
 use Rattle.tocmark_event.specs.View.{EventView, Start, End, Leaf, Text, SoftBreak, HardBreak, Rule, TaskListMarker, TagView, Emphasis, Strong, Strikethrough, Superscript, Subscript, Link, Image, CodeBlock, HtmlBlock, MetadataBlock}
@@ -7,11 +8,13 @@ use Rattle.tocmark_event.specs.declared.event.TagEnd.{TagEnd}
 use Rattle.tocmark_event.specs.declared.event.TagEnd.TheVariants as end
 use Rattle.tocmark_read_scan.specs.Basic.{plus, byte_at, bytes_between, starts_at}
 use Rattle.tocmark_bare_links.specs.Addresses.{kept_length}
-use Rattle.tocmark_bare_links.specs.Lines.{ScanView, is_separator, line_added, part, scan_view, text_events, words_start}
-use Rattle.tocmark_bare_links.specs.Signs.{sign_of}
+use Rattle.tocmark_bare_links.specs.Lines.{ScanView, bracket, brackets_step, is_separator, line_added, part, scan_view, text_events, words_start}
+use Rattle.tocmark_bare_links.specs.Signs.{sign_of, sign_start, sign_step}
 use Rattle.tocmark_bare_links.specs.declared.border.Border.{Border}
 use Rattle.tocmark_bare_links.specs.declared.border.Border.TheVariants as border
 use Rattle.tocmark_bare_links.specs.declared.linker.Linker.{Linker}
+use Rattle.tocmark_bare_links.specs.declared.sign.Sign.{Sign}
+use Rattle.tocmark_bare_links.specs.declared.words.Brackets.{Brackets}
 
 -- ---- what is between texts
 
@@ -92,7 +95,8 @@ brackets_after border.Block n = 0
 -- ---- a stretch of texts
 
 -- the events so far, the stretch of texts that is begun with its range, how many containers without links are open, whether the
--- stretch begins a line, and up to where the words of addresses are told
+-- stretch begins a line, up to where the words of addresses are told, whether each text of the stretch is its source, one after the
+-- other, and what the texts since the last other event have of `://` and `www.` (`any`: what the stretch has)
 pub record LinkingView : Type 0 where
   pub scan : ScanView
   pub stretch : List ℕ
@@ -101,6 +105,8 @@ pub record LinkingView : Type 0 where
   pub closed : ℕ
   pub edge : Bool
   pub told : ℕ
+  pub plain : Bool
+  pub sign : Sign
 
 abbrev pub linking_view : Linker → LinkingView
 linking_view l = record {
@@ -111,30 +117,22 @@ linking_view l = record {
   closed = l.closed;
   edge = l.edge;
   told = l.told;
+  plain = l.plain;
+  sign = l.sign;
 }
 
 -- before the first event
 abbrev pub linking_start : LinkingView
 linking_start = record {
-  scan = record { words = words_start false 0; events = [] };
+  scan = record { words = words_start false (record { opened = 0; escaped = false }); events = [] };
   stretch = [];
   begun = false;
   range = (0, 0);
   closed = 0;
   edge = true;
   told = 0;
-}
-
--- the stretch has one text more
-abbrev pub with_text : LinkingView → List ℕ → ℕ × ℕ → LinkingView
-with_text l text range = record {
-  scan = l.scan;
-  stretch = l.stretch ++ text;
-  begun = true;
-  range = if l.begun then (l.range.0, range.1) else range;
-  closed = l.closed;
-  edge = l.edge;
-  told = l.told;
+  plain = true;
+  sign = sign_start;
 }
 
 -- a text is its source byte for byte, without escapes and references
@@ -153,21 +151,6 @@ may_open source place edge = edge || is_delimiter (byte_at source (place - 1))
 unfoldable pub may_end : List ℕ → ℕ → Bool → Bool
 may_end source place is_cell = is_separator (byte_at source place) || (is_cell && (byte_at source place == 124))
 
--- one more, if a byte is `[`
-unfoldable pub opened : ℕ → ℕ → ℕ
-opened n b = if b == 91 then plus n 1 else n
-
--- a text that isn't plain: where programs look for an address, they see its escapes
-unfoldable pub other_text : List ℕ → List ℕ → ℕ × ℕ → List ℕ
-other_text source text range = if (sign_of text).any then part source range.0 range.1 else text
-
--- it is no link, and its brackets may be open
-unfoldable pub other_added : List ℕ → List ℕ → ℕ × ℕ → ScanView → ScanView
-other_added source text range s = record {
-  words = record s.words { brackets = fold opened s.words.brackets text };
-  events = s.events ++ (Leaf (Text (other_text source text range)), range) ∷ [];
-}
-
 -- a byte that doesn't end a word
 unfoldable pub goes_on : ℕ → Bool
 goes_on b = not (is_separator b)
@@ -183,6 +166,21 @@ word_end source place = plus place (word_length (drop place source))
 -- the bytes of a range
 abbrev pub bytes_of : List ℕ → ℕ × ℕ → List ℕ
 bytes_of source range = bytes_between source range.0 range.1
+
+-- the source of a text with the backslash before it, after a mark if a bracket is open before it
+unfoldable pub spelled : List ℕ → ℕ × ℕ → Brackets → List ℕ
+spelled source range brackets = (if brackets.opened == 0 then [] else bracket) ++ part source (if brackets.escaped then range.0 - 1 else range.0) range.1
+
+-- a text that isn't plain: where programs look for an address, they see its escapes
+unfoldable pub other_text : List ℕ → List ℕ → Bool → ℕ × ℕ → Brackets → List ℕ
+other_text source text any range brackets = if any then spelled source range brackets else text
+
+-- it is no link
+unfoldable pub other_added : List ℕ → List ℕ → Bool → ℕ × ℕ → ScanView → ScanView
+other_added source text any range s = record {
+  words = record s.words { brackets = fold brackets_step s.words.brackets (bytes_of source range) };
+  events = s.events ++ (Leaf (Text (other_text source text any range s.words.brackets)), range) ∷ [];
+}
 
 -- where the last word of a range begins
 unfoldable pub word_start : List ℕ → ℕ × ℕ → ℕ
@@ -204,10 +202,10 @@ is_ended source l = is_looked_at source l && nat_le (tail_end source l.range) l.
 -- the stretch is added, with links if it is plain
 unfoldable pub stretch_added : List ℕ → Bool → LinkingView → ScanView
 stretch_added source is_cell l =
-    if is_plain source l.stretch l.range then
+    if l.plain then
     line_added l.stretch l.range.0 (may_open source l.range.0 l.edge)
     (may_end source l.range.1 is_cell || is_ended source l) l.scan
-    else other_added source l.stretch l.range l.scan
+    else other_added source l.stretch l.sign.any l.range l.scan
 
 -- what goes on in the last word of the stretch with its marks, as it is in the source
 abbrev pub with_tail : List ℕ → LinkingView → LinkingView
@@ -222,6 +220,8 @@ with_tail source l = record {
   closed = l.closed;
   edge = l.edge;
   told = word_end source l.range.1;
+  plain = l.plain;
+  sign = l.sign;
 }
 
 -- it is added if an address may go on there
@@ -238,13 +238,85 @@ unfoldable pub stretch_ended : List ℕ → Bool → LinkingView → LinkingView
 stretch_ended source is_cell l =
     if l.begun then record (with_stretch source is_cell l) { stretch = []; begun = false } else l
 
+-- ---- a text more
+
+-- a text goes on with the stretch byte for byte
+unfoldable pub is_next : List ℕ → LinkingView → List ℕ → ℕ × ℕ → Bool
+is_next source l text range = l.plain && (range.0 == l.range.1) && is_plain source text range
+
+-- the letters at a place, and at most three bytes more of their word: a scheme or `www.` that begins there is seen by its end
+unfoldable pub ahead : List ℕ → ℕ → List ℕ
+ahead source place =
+    let bytes = drop place source in
+    let letters = length (take_while is_ascii_alphabetic bytes) in
+    let front = bytes_between bytes 0 (min (plus letters 3) (length bytes)) in
+    bytes_between front 0 (word_length front)
+
+-- programs look for an address before a place in its word, or at the place
+unfoldable pub is_in_address : List ℕ → LinkingView → ℕ → Bool
+is_in_address source l place = l.sign.word || (fold sign_step l.sign (ahead source place)).word
+
+-- between two stretches of a line
+abbrev pub parted : LinkingView → LinkingView
+parted l = record l { edge = false; sign = record l.sign { any = false } }
+
+-- the stretch ends before a text after an escape or a reference that is in no address
+unfoldable pub divided : List ℕ → LinkingView → List ℕ → ℕ × ℕ → LinkingView
+divided source l text range =
+    if l.begun && not (is_next source l text range || is_in_address source l range.0) then parted (stretch_ended source false l) else l
+
+-- a backslash escapes what is at a place where a stretch begins
+unfoldable pub is_escaped : List ℕ → ℕ → Bool
+is_escaped source place = byte_at source (place - 1) == 92
+
+-- a stretch without a text
+abbrev pub with_start : List ℕ → ℕ → LinkingView → LinkingView
+with_start source place l = record {
+  scan = record {
+    words = record l.scan.words { brackets = record l.scan.words.brackets { escaped = is_escaped source place } };
+    events = l.scan.events;
+  };
+  stretch = l.stretch;
+  begun = true;
+  range = (place, place);
+  closed = l.closed;
+  edge = l.edge;
+  told = l.told;
+  plain = true;
+  sign = l.sign;
+}
+
+-- a stretch is begun
+unfoldable pub begun_at : List ℕ → ℕ → LinkingView → LinkingView
+begun_at source place l = if l.begun then l else with_start source place l
+
+-- the stretch has one text more
+abbrev pub with_text : List ℕ → LinkingView → List ℕ → ℕ × ℕ → LinkingView
+with_text source l text range = record {
+  scan = l.scan;
+  stretch = l.stretch ++ text;
+  begun = l.begun;
+  range = (l.range.0, range.1);
+  closed = l.closed;
+  edge = l.edge;
+  told = l.told;
+  plain = is_next source l text range;
+  sign = fold sign_step l.sign text;
+}
+
+-- a text outside of links
+abbrev pub text_added : List ℕ → LinkingView → List ℕ → ℕ × ℕ → LinkingView
+text_added source l text range = with_text source (begun_at source range.0 (divided source l text range)) text range
+
 -- ---- all events
 
 -- an event that is no text of a stretch
 abbrev pub with_event : LinkingView → EventView → ℕ × ℕ → LinkingView
 with_event l event range = record {
   scan = record {
-    words = record l.scan.words { brackets = brackets_after (border_of event) l.scan.words.brackets };
+    words = record l.scan.words {
+      brackets = record l.scan.words.brackets { opened = brackets_after (border_of event) l.scan.words.brackets.opened };
+    };
     events = l.scan.events ++ (event, range) ∷ [];
   };
   stretch = l.stretch;
@@ -253,6 +325,8 @@ with_event l event range = record {
   closed = closed_after l.closed event;
   edge = begins_line (border_of event);
   told = l.told;
+  plain = l.plain;
+  sign = sign_start;
 }
 
 -- it ends the stretch
@@ -261,7 +335,7 @@ passed source l event range = with_event (stretch_ended source (is_cell_end even
 
 -- one event more
 abbrev pub added : List ℕ → LinkingView → EventView → ℕ × ℕ → LinkingView
-added source l (Leaf (Text t)) range = if l.closed == 0 then with_text l t range else passed source l (Leaf (Text t)) range
+added source l (Leaf (Text t)) range = if l.closed == 0 then text_added source l t range else passed source l (Leaf (Text t)) range
 added source l event range = passed source l event range
 
 abbrev pub link_step : List ℕ → LinkingView → EventView × (ℕ × ℕ) → LinkingView

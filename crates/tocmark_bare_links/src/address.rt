@@ -1,7 +1,7 @@
 //! The address at the front of a word.
 
 ghost use Rattle.std.specs.Prelude.{◌≡◌};
-ghost use Rattle.tocmark_bare_links.specs.Addresses.{address_of, has_scheme, is_local, is_mail_host, local_length, mail_length, of_kind, web_length};
+ghost use Rattle.tocmark_bare_links.specs.Addresses.{has_scheme, is_local, is_mail_host, is_sign, local_length, mail_address, mail_length, of_kind, web_address, web_length};
 
 use crate::host::{is_host, may_follow};
 use crate::trail::kept_length;
@@ -105,10 +105,25 @@ pub(crate) fn has_scheme(word: &[u8], place: usize) -> bool
         || starts_at(word, place, b"www.")
 }
 
-/// The address that a word begins with.
-#[tactic(auto, unfolding(crate::specs::Addresses::address_of))]
-pub(crate) fn address_of(word: &[u8]) -> Option<Address>
-    ensures { result ≡ address_of word.now }
+/// Whether programs look for an address at a place.
+#[tactic(auto, unfolding(crate::specs::Addresses::is_sign))]
+pub(crate) fn is_sign(text: &[u8], place: usize) -> bool
+    ensures { result ≡ is_sign text.now place }
+{
+    starts_at(text, place, b"://") || starts_at(text, place, b"www.")
+}
+
+/// The mail address that a word begins with.
+pub(crate) fn mail_address(word: &[u8]) -> Option<Address>
+    ensures { result ≡ mail_address word.now }
+{
+    of_kind(Kind::Mail, mail_length(word))
+}
+
+/// The web address that a word begins with.
+#[tactic(auto, unfolding(crate::specs::Addresses::web_address))]
+pub(crate) fn web_address(word: &[u8]) -> Option<Address>
+    ensures { result ≡ web_address word.now }
 {
     if starts_at(word, 0, b"https://") {
         of_kind(Kind::Web, web_length(true, word, 8))
@@ -119,6 +134,6 @@ pub(crate) fn address_of(word: &[u8]) -> Option<Address>
     } else if starts_at(word, 0, b"www.") {
         of_kind(Kind::Named, web_length(false, word, 4))
     } else {
-        of_kind(Kind::Mail, mail_length(word))
+        None
     }
 }

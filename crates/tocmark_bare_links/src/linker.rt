@@ -4,14 +4,15 @@ ghost use Rattle.std.specs.Prelude.{◌≡◌, if◌then◌else◌, IfOk, OnOk, 
 ghost use Rattle.std.specs.List.{fold};
 ghost use Rattle.tocmark_event.specs.Text.{text_of};
 ghost use Rattle.tocmark_event.specs.View.{event_view};
-ghost use Rattle.tocmark_bare_links.specs.Linked.{added, goes_on, is_delimiter, is_ended, is_looked_at, is_plain, linked, linking_view, may_end, may_open, opened, other_added, other_text, passed, stretch_added, stretch_ended, tail_added, tail_end, with_event, with_stretch, with_tail, with_text, word_end, word_length, word_start};
-ghost use Rattle.tocmark_bare_links.specs.Lines.{scan_view, shown};
+ghost use Rattle.tocmark_bare_links.specs.Linked.{added, ahead, begun_at, divided, goes_on, is_delimiter, is_ended, is_escaped, is_in_address, is_looked_at, is_next, is_plain, linked, linking_view, may_end, may_open, other_added, other_text, passed, spelled, stretch_added, stretch_ended, tail_added, text_added, tail_end, with_event, with_stretch, with_tail, with_text, word_end, word_length, word_start};
+ghost use Rattle.tocmark_bare_links.specs.Lines.{brackets_step, scan_view, shown};
+ghost use Rattle.tocmark_bare_links.specs.Signs.{sign_step};
 
 use crate::border::{border_of, closed_after, is_cell_end};
 use crate::scan::{Placed, Scan, add_text, part};
 use crate::sign::Sign;
 use crate::trail::kept_length;
-use crate::words::{Words, is_separator};
+use crate::words::{Brackets, Words, is_separator};
 use std::alloc::{AllocError, Global};
 use tocmark_event::event::{CowStr, Event};
 use tocmark_read_scan::basic::{byte_at, bytes_between, rest, starts_at};
@@ -30,14 +31,17 @@ pub struct Linker {
     pub edge: bool,
     /// Up to where the words of addresses are told.
     pub told: usize,
+    /// Whether each text of the stretch is its source, one after the other.
+    pub plain: bool,
+    /// What the texts since the last other event have of `://` and `www.`; `any` is of the stretch alone.
+    pub sign: Sign,
 }
 
-/// The bytes of a stretch with one text more.
-fn wider(begun: bool, range: (usize, usize), text: (usize, usize)) -> (usize, usize)
-    ensures { result ≡ (if begun then (range.0, text.1) else text) }
-{
-    if begun { (range.0, text.1) } else { text }
-}
+/// No bracket is open.
+const NONE_OPEN: Brackets = Brackets {
+    opened: 0,
+    escaped: false,
+};
 
 /// Whether a text is its source byte for byte.
 #[tactic(auto, unfolding(crate::specs::Linked::is_plain))]
@@ -72,27 +76,60 @@ fn may_end(source: &[u8], place: usize, is_cell: bool) -> bool
     is_separator(byte) || (is_cell && byte == b'|')
 }
 
-/// One more, if a byte is an opening bracket.
-#[tactic(auto, unfolding(crate::specs::Linked::opened))]
-fn opened(count: usize, byte: u8) -> usize
-    ensures { result ≡ opened count byte }
+/// Whether a backslash escapes what is at a place where a stretch begins.
+#[tactic(auto, unfolding(crate::specs::Linked::is_escaped))]
+fn is_escaped(source: &[u8], place: usize) -> bool
+    ensures { result ≡ is_escaped source.now place }
 {
-    if byte == b'[' {
-        count.saturating_add(1)
-    } else {
-        count
-    }
+    byte_at(source, place.saturating_sub(1)) == b'\\'
 }
 
-/// So many, and the opening brackets of a text.
-fn opened_in(count: usize, text: &[u8]) -> usize
-    ensures { result ≡ fold opened count text.now }
+/// Which brackets are open after some bytes.
+fn brackets_in(brackets: Brackets, bytes: &[u8]) -> Brackets
+    ensures { result ≡ fold brackets_step brackets bytes.now }
 {
-    let mut all = count;
-    for byte in text {
-        all = opened(all, *byte);
+    let mut all = brackets;
+    for byte in bytes {
+        all = all.after(*byte);
     }
     all
+}
+
+/// The letters at a place, and at most three bytes more of their word.
+#[tactic(auto, unfolding(crate::specs::Linked::ahead))]
+fn ahead<'s>(source: &'s [u8], place: usize) -> &'s [u8]
+    ensures { result.now ≡ ahead source.now place }
+{
+    let bytes = rest(source, place);
+    let letters = bytes
+        .iter()
+        .take_while(|byte| byte.is_ascii_alphabetic())
+        .count();
+    let front = bytes_between(bytes, 0, letters.saturating_add(3).min(bytes.len()));
+    bytes_between(front, 0, word_length(front))
+}
+
+/// The source of a text with the backslash before it, after a mark if a bracket is open before it.
+#[tactic(auto, unfolding(crate::specs::Linked::spelled))]
+fn spelled(
+    alloc: Global,
+    source: &[u8],
+    range: (usize, usize),
+    brackets: Brackets,
+) -> Result<CowStr<'static>, AllocError>
+    ensures { IfOk result (λ it. text_of it ≡ spelled source.now range brackets) }
+{
+    let mut whole = String::new(alloc);
+    if brackets.opened != 0 {
+        whole.push_str("[")?;
+    }
+    let start = if brackets.escaped {
+        range.0.saturating_sub(1)
+    } else {
+        range.0
+    };
+    whole.push_str(part(alloc, source, start, range.1)?.as_ref())?;
+    Ok(CowStr::Owned(whole))
 }
 
 /// A text that isn't plain. Where programs look for an address, it is the source of it, because they see its escapes.
@@ -101,12 +138,14 @@ fn other_text(
     alloc: Global,
     source: &[u8],
     text: &str,
+    any: bool,
     range: (usize, usize),
+    brackets: Brackets,
 ) -> Result<CowStr<'static>, AllocError>
-    ensures { IfOk result (λ it. text_of it ≡ other_text source.now text.now range) }
+    ensures { IfOk result (λ it. text_of it ≡ other_text source.now text.now any range brackets) }
 {
-    if Sign::of(text.as_bytes()).any {
-        part(alloc, source, range.0, range.1)
+    if any {
+        spelled(alloc, source, range, brackets)
     } else {
         Ok(CowStr::Owned(String::from_str(alloc, text)?))
     }
@@ -119,14 +158,16 @@ fn add_other(
     scan: &mut Scan,
     source: &[u8],
     text: &str,
+    any: bool,
     range: (usize, usize),
 ) -> Result<(), AllocError>
     ensures { OnOk result (scan_view scan.new
-        ≡ other_added source.now text.now range (scan_view scan.old)) }
+        ≡ other_added source.now text.now any range (scan_view scan.old)) }
 {
-    let copy = other_text(alloc, source, text, range)?;
+    let brackets = scan.words.brackets;
+    let copy = other_text(alloc, source, text, any, range, brackets)?;
     scan.events.push((Event::Text(copy), range))?;
-    scan.words.brackets = opened_in(scan.words.brackets, text.as_bytes());
+    scan.words.brackets = brackets_in(brackets, bytes_between(source, range.0, range.1));
     Ok(())
 }
 
@@ -174,15 +215,87 @@ fn tail_end(source: &[u8], range: (usize, usize)) -> usize
 }
 
 impl Linker {
-    /// Adds a text to the stretch.
-    fn add_text(&mut self, text: &str, range: (usize, usize)) -> Result<(), AllocError>
-        ensures { OnOk result (linking_view self.new
-            ≡ with_text (linking_view self.old) text.now range) }
+    /// Whether a text goes on with the stretch byte for byte.
+    #[tactic(auto, unfolding(crate::specs::Linked::is_next))]
+    fn is_next(&self, source: &[u8], text: &[u8], range: (usize, usize)) -> bool
+        ensures { result ≡ is_next source.now (linking_view self.now) text.now range }
     {
-        self.range = wider(self.begun, self.range, range);
-        self.begun = true;
+        self.plain && range.0 == self.range.1 && is_plain(source, text, range)
+    }
+
+    /// Whether programs look for an address before a place in its word, or at the place.
+    #[tactic(auto, unfolding(crate::specs::Linked::is_in_address))]
+    fn is_in_address(&self, source: &[u8], place: usize) -> bool
+        ensures { result ≡ is_in_address source.now (linking_view self.now) place }
+    {
+        self.sign.word || self.sign.through(ahead(source, place)).word
+    }
+
+    /// Ends the stretch before a text after an escape or a reference that is in no address.
+    #[tactic(auto, unfolding(crate::specs::Linked::divided))]
+    fn divide(
+        &mut self,
+        alloc: Global,
+        source: &[u8],
+        text: &[u8],
+        range: (usize, usize),
+    ) -> Result<(), AllocError>
+        ensures { OnOk result (linking_view self.new
+            ≡ divided source.now (linking_view self.old) text.now range) }
+    {
+        let goes_on = self.is_next(source, text, range) || self.is_in_address(source, range.0);
+        if self.begun && !goes_on {
+            self.end_stretch(alloc, source, false)?;
+            self.edge = false;
+            self.sign.any = false;
+        }
+        Ok(())
+    }
+
+    /// Begins a stretch, unless one is begun.
+    #[tactic(auto, unfolding(crate::specs::Linked::begun_at))]
+    fn begin(&mut self, source: &[u8], place: usize)
+        ensures { linking_view self.new ≡ begun_at source.now place (linking_view self.old) }
+    {
+        if !self.begun {
+            self.begun = true;
+            self.plain = true;
+            self.range = (place, place);
+            self.scan.words.brackets.escaped = is_escaped(source, place);
+        }
+    }
+
+    /// Adds a text to the stretch.
+    fn add_text(
+        &mut self,
+        source: &[u8],
+        text: &str,
+        range: (usize, usize),
+    ) -> Result<(), AllocError>
+        ensures { OnOk result (linking_view self.new
+            ≡ with_text source.now (linking_view self.old) text.now range) }
+    {
+        self.plain = self.is_next(source, text.as_bytes(), range);
+        self.range = (self.range.0, range.1);
+        self.sign = self.sign.through(text.as_bytes());
         self.stretch.push_str(text)?;
         Ok(())
+    }
+
+    /// Adds a text outside of links.
+    fn take_text(
+        &mut self,
+        alloc: Global,
+        source: &[u8],
+        text: &str,
+        range: (usize, usize),
+    ) -> Result<(), AllocError>
+        ensures { OnOk result (linking_view self.new
+            ≡ text_added source.now (linking_view self.old) text.now range) }
+    {
+        self.divide(alloc, source, text.as_bytes(), range)?;
+        self.begin(source, range.0);
+        self.add_text(source, text, range)
     }
 
     /// Whether programs look for an address in the last word of the stretch. A word is looked at once.
@@ -213,16 +326,19 @@ impl Linker {
         ensures closed { self.new.closed ≡ self.old.closed }
         ensures edge { self.new.edge ≡ self.old.edge }
         ensures told { self.new.told ≡ self.old.told }
+        ensures plain { self.new.plain ≡ self.old.plain }
+        ensures sign { self.new.sign ≡ self.old.sign }
     {
         let (start, end) = self.range;
         let ends = may_end(source, end, is_cell) || self.is_ended(source);
         let text = self.stretch.as_str();
-        if is_plain(source, text.as_bytes(), self.range) {
+        if self.plain {
             let opens = may_open(source, start, self.edge);
             self.scan
                 .add_line(alloc, text.as_bytes(), start, opens, ends)
         } else {
-            add_other(alloc, &mut self.scan, source, text, self.range)
+            let (any, range) = (self.sign.any, self.range);
+            add_other(alloc, &mut self.scan, source, text, any, range)
         }
     }
 
@@ -263,9 +379,10 @@ impl Linker {
     {
         let border = border_of(&pair.0);
         self.scan.events.push((pair.0.to_static(alloc)?, pair.1))?;
-        self.scan.words.brackets = border.brackets_after(self.scan.words.brackets);
+        self.scan.words.brackets.opened = border.brackets_after(self.scan.words.brackets.opened);
         self.closed = closed_after(self.closed, &pair.0);
         self.edge = border.begins_line();
+        self.sign = Sign::new();
         Ok(())
     }
 
@@ -287,7 +404,7 @@ impl Linker {
         match &pair.0 {
             Event::Text(text) => {
                 if self.closed == 0 {
-                    self.add_text(text.as_ref(), pair.1)
+                    self.take_text(alloc, source, text.as_ref(), pair.1)
                 } else {
                     self.pass(alloc, source, pair)
                 }
@@ -310,7 +427,7 @@ pub(crate) fn linked(
 {
     let mut linker = Linker {
         scan: Scan {
-            words: Words::new(false, 0),
+            words: Words::new(false, NONE_OPEN),
             events: Vec::new(alloc),
         },
         stretch: String::new(alloc),
@@ -319,6 +436,8 @@ pub(crate) fn linked(
         closed: 0,
         edge: true,
         told: 0,
+        plain: true,
+        sign: Sign::new(),
     };
     for pair in events {
         linker.add(alloc, source.as_bytes(), pair)?;

@@ -3,7 +3,7 @@
 ghost use Rattle.std.specs.Prelude.{◌≡◌, ◌++◌, ◌∷◌, [], map, IfOk, OnOk};
 ghost use Rattle.tocmark_event.specs.Text.{text_of};
 ghost use Rattle.tocmark_event.specs.View.{Leaf, Text, event_view, tag_view};
-ghost use Rattle.tocmark_bare_links.specs.Lines.{line_added, line_ended, link_events, link_tag, link_type, part, range_at, scan_step, scan_view, scheme, shown, text_events, with_link, word_ended};
+ghost use Rattle.tocmark_bare_links.specs.Lines.{bracket_told, line_added, line_ended, link_events, link_tag, link_type, part, range_at, scan_before, scan_step, scan_view, scheme, shown, text_events, with_link, word_ended};
 
 use crate::address::Kind;
 use crate::words::{Spot, Words, is_separator};
@@ -161,16 +161,52 @@ impl Scan {
         }
     }
 
+    /// Adds the text up to here, and a mark, because an address is within brackets here.
+    #[tactic(auto, unfolding(crate::specs::Lines::bracket_told))]
+    fn tell_bracket(&mut self, alloc: Global, text: &[u8], base: usize) -> Result<(), AllocError>
+        ensures { OnOk result (scan_view self.new
+            ≡ bracket_told text.now base (scan_view self.old)) }
+    {
+        let (linked, place) = (self.words.linked, self.words.place);
+        add_text(alloc, &mut self.events, text, base, linked, place)?;
+        push_text(
+            &mut self.events,
+            CowStr::Borrowed("["),
+            range_at(base, place, place),
+        )?;
+        self.words.linked = place;
+        Ok(())
+    }
+
+    /// Ends a word before a byte that ends one, and marks an address within brackets.
+    #[tactic(auto, unfolding(crate::specs::Lines::scan_before))]
+    fn come_to(
+        &mut self,
+        alloc: Global,
+        text: &[u8],
+        base: usize,
+        byte: u8,
+    ) -> Result<(), AllocError>
+        ensures { OnOk result (scan_view self.new
+            ≡ scan_before text.now base (scan_view self.old) byte) }
+    {
+        if is_separator(byte) {
+            self.end_word(alloc, text, base)
+        } else if self.words.is_within_brackets(text) {
+            self.tell_bracket(alloc, text, base)
+        } else {
+            Ok(())
+        }
+    }
+
     /// Goes one byte further.
     #[tactic(auto, unfolding(crate::specs::Lines::scan_step))]
     fn add(&mut self, alloc: Global, text: &[u8], base: usize, byte: u8) -> Result<(), AllocError>
         ensures { OnOk result (scan_view self.new
             ≡ scan_step text.now base (scan_view self.old) byte) }
     {
-        if is_separator(byte) {
-            self.end_word(alloc, text, base)?;
-        }
-        self.words = self.words.after(byte);
+        self.come_to(alloc, text, base, byte)?;
+        self.words = self.words.after(text, byte);
         Ok(())
     }
 

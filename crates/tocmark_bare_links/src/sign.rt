@@ -56,12 +56,11 @@ impl Sign {
         }
     }
 
-    /// What a text has of them.
-    #[tactic(auto, unfolding(crate::specs::Signs::sign_of))]
-    pub(crate) fn of(text: &[u8]) -> Sign
-        ensures { result ≡ sign_of text.now }
+    /// Before the first byte.
+    pub(crate) fn new() -> Sign
+        ensures { result ≡ sign_start }
     {
-        let mut sign = Sign {
+        Sign {
             any: false,
             word: false,
             start: 0,
@@ -69,10 +68,25 @@ impl Sign {
             first: 0,
             second: 0,
             third: 0,
-        };
+        }
+    }
+
+    /// What the front has of them with one more text.
+    pub(crate) fn through(self, text: &[u8]) -> Sign
+        ensures { result ≡ fold sign_step self text.now }
+    {
+        let mut sign = self;
         for byte in text {
             sign = sign.after(*byte);
         }
         sign
+    }
+
+    /// What a text has of them.
+    #[tactic(auto, unfolding(crate::specs::Signs::sign_of))]
+    pub(crate) fn of(text: &[u8]) -> Sign
+        ensures { result ≡ sign_of text.now }
+    {
+        Sign::new().through(text)
     }
 }

@@ -1,10 +1,19 @@
 //! The words of a line, and where the address of a word is.
 
-ghost use Rattle.std.specs.Prelude.{◌≡◌};
-ghost use Rattle.tocmark_bare_links.specs.Lines.{bracketed, is_lead, is_separator, lead_length, lead_step, spot_from, spot_in, spot_of, web_start, words_start, words_step};
+ghost use Rattle.std.specs.Prelude.{◌≡◌, is_none};
+ghost use Rattle.tocmark_bare_links.specs.Lines.{brackets_step, is_lead, is_separator, is_within_brackets, lead_length, may_begin, mail_spot, spot_from, spot_of, words_start, words_step};
 
-use crate::address::{Address, Kind, address_of, has_scheme};
+use crate::address::{Address, Kind, has_scheme, is_sign, mail_address, web_address};
 use tocmark_read_scan::basic::{bytes_between, rest};
+
+/// How many brackets are open after the front of a text.
+#[derive(Clone, Copy)]
+pub struct Brackets {
+    /// How many `[` have no `]`.
+    pub opened: usize,
+    /// Whether a backslash escapes the next byte.
+    pub escaped: bool,
+}
 
 /// The words of the front of a line.
 #[derive(Clone, Copy)]
@@ -15,25 +24,14 @@ pub struct Words {
     pub start: usize,
     /// Whether an address may begin there.
     pub opens: bool,
-    /// How many `[` have no `]`.
-    pub brackets: usize,
-    /// How many `[` before the last word have none.
-    pub around: usize,
+    /// Whether an address may begin where the front ends.
+    pub leads: bool,
+    /// Which brackets are open.
+    pub brackets: Brackets,
+    /// Where the first web address of the last word may be.
+    pub found: Option<usize>,
     /// Where the last link ends.
     pub linked: usize,
-}
-
-/// What the front of a word says about its web address.
-#[derive(Clone, Copy)]
-pub struct Lead {
-    /// Where the front ends.
-    pub place: usize,
-    /// Whether an address may begin there.
-    pub opens: bool,
-    /// How many `[` of the word have no `]`.
-    pub brackets: usize,
-    /// Where the first web address may be.
-    pub found: Option<usize>,
 }
 
 /// An address in a line.
@@ -68,17 +66,25 @@ fn lead_length(word: &[u8]) -> usize
     word.iter().take_while(|byte| is_lead(**byte)).count()
 }
 
-/// How many `[` have no `]`, after one byte more.
-#[tactic(auto, unfolding(crate::specs::Lines::bracketed))]
-fn bracketed(count: usize, byte: u8) -> usize
-    ensures { result ≡ bracketed count byte }
-{
-    if byte == b'[' {
-        count.saturating_add(1)
-    } else if byte == b']' {
-        count.saturating_sub(1)
-    } else {
-        count
+impl Brackets {
+    /// One byte further: one more `[` is open, or one less, unless a backslash escapes it.
+    #[tactic(auto, unfolding(crate::specs::Lines::brackets_step))]
+    pub(crate) fn after(self, byte: u8) -> Brackets
+        ensures { result ≡ brackets_step self byte }
+    {
+        let opened = if self.escaped {
+            self.opened
+        } else if byte == b'[' {
+            self.opened.saturating_add(1)
+        } else if byte == b']' {
+            self.opened.saturating_sub(1)
+        } else {
+            self.opened
+        };
+        Brackets {
+            opened,
+            escaped: !self.escaped && byte == b'\\',
+        }
     }
 }
 
@@ -96,88 +102,66 @@ fn spot_from(start: usize, address: Option<Address>) -> Option<Spot>
     }
 }
 
-impl Lead {
-    /// One byte further.
-    #[tactic(auto, unfolding(crate::specs::Lines::lead_step))]
-    fn after(self, word: &[u8], byte: u8) -> Lead
-        ensures { result ≡ lead_step word.now self byte }
-    {
-        let begins = self.found.is_none() && self.opens && self.brackets == 0;
-        Lead {
-            place: self.place.saturating_add(1),
-            opens: is_lead(byte),
-            brackets: bracketed(self.brackets, byte),
-            found: if begins && has_scheme(word, self.place) {
-                Some(self.place)
-            } else {
-                self.found
-            },
-        }
-    }
-}
-
-/// Where the first web address of a word may be.
-#[tactic(auto, unfolding(crate::specs::Lines::web_start))]
-fn web_start(opens: bool, word: &[u8]) -> Option<usize>
-    ensures { result ≡ web_start opens word.now }
+/// Where the mail address of a word is, which begins at a place.
+#[tactic(auto, unfolding(crate::specs::Lines::mail_spot))]
+fn mail_spot(opens: bool, start: usize, word: &[u8]) -> Option<Spot>
+    ensures { result ≡ mail_spot opens start word.now }
 {
-    let mut lead = Lead {
-        place: 0,
-        opens,
-        brackets: 0,
-        found: None,
-    };
-    for byte in word {
-        lead = lead.after(word, *byte);
+    if !opens {
+        return None;
     }
-    lead.found
-}
-
-/// Where the address of a word is, which begins at a place.
-#[tactic(auto, unfolding(crate::specs::Lines::spot_in))]
-fn spot_in(opens: bool, start: usize, word: &[u8]) -> Option<Spot>
-    ensures { result ≡ spot_in opens start word.now }
-{
-    match web_start(opens, word) {
-        Some(lead) => spot_from(start.saturating_add(lead), address_of(rest(word, lead))),
-        None => {
-            if !opens {
-                return None;
-            }
-            let lead = lead_length(word);
-            spot_from(start.saturating_add(lead), address_of(rest(word, lead)))
-        }
-    }
+    let lead = lead_length(word);
+    spot_from(start.saturating_add(lead), mail_address(rest(word, lead)))
 }
 
 impl Words {
     /// Before the first byte of a line.
-    pub(crate) fn new(opens: bool, brackets: usize) -> Words
+    pub(crate) fn new(opens: bool, brackets: Brackets) -> Words
         ensures { result ≡ words_start opens brackets }
     {
         Words {
             place: 0,
             start: 0,
             opens,
+            leads: opens,
             brackets,
-            around: brackets,
+            found: None,
             linked: 0,
         }
     }
 
+    /// Whether the first web address of the last word may be here.
+    #[tactic(auto, unfolding(crate::specs::Lines::may_begin))]
+    fn may_begin(self, text: &[u8]) -> bool
+        ensures { result ≡ may_begin text.now self }
+    {
+        let is_open = self.found.is_none() && self.leads && self.brackets.opened == 0;
+        is_open && has_scheme(text, self.place)
+    }
+
+    /// Whether programs look for an address here, and make no link of it, because a bracket is open.
+    #[tactic(auto, unfolding(crate::specs::Lines::is_within_brackets))]
+    pub(crate) fn is_within_brackets(self, text: &[u8]) -> bool
+        ensures { result ≡ is_within_brackets text.now self }
+    {
+        self.brackets.opened != 0 && self.found.is_none() && is_sign(text, self.place)
+    }
+
     /// One byte further.
     #[tactic(auto, unfolding(crate::specs::Lines::words_step))]
-    pub(crate) fn after(self, byte: u8) -> Words
-        ensures { result ≡ words_step self byte }
+    pub(crate) fn after(self, text: &[u8], byte: u8) -> Words
+        ensures { result ≡ words_step text.now self byte }
     {
         let place = self.place.saturating_add(1);
+        let brackets = self.brackets.after(byte);
         if is_separator(byte) {
             Words {
                 place,
                 start: place,
                 opens: byte != b'<',
-                brackets: self.brackets,
-                around: self.brackets,
+                leads: byte != b'<',
+                brackets,
+                found: None,
                 linked: self.linked,
             }
         } else {
@@ -185,8 +169,13 @@ impl Words {
                 place,
                 start: self.start,
                 opens: self.opens,
-                brackets: bracketed(self.brackets, byte),
-                around: self.around,
+                leads: is_lead(byte),
+                brackets,
+                found: if self.may_begin(text) {
+                    Some(self.place)
+                } else {
+                    self.found
+                },
                 linked: self.linked,
             }
         }
@@ -197,11 +186,12 @@ impl Words {
     pub(crate) fn spot(self, text: &[u8]) -> Option<Spot>
         ensures { result ≡ spot_of text.now self }
     {
-        if self.around == 0 {
-            let word = bytes_between(text, self.start, self.place);
-            spot_in(self.opens, self.start, word)
-        } else {
-            None
+        match self.found {
+            Some(start) => spot_from(start, web_address(bytes_between(text, start, self.place))),
+            None => {
+                let word = bytes_between(text, self.start, self.place);
+                mail_spot(self.opens, self.start, word)
+            }
         }
     }
 }

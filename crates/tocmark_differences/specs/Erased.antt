@@ -1,5 +1,6 @@
 -- Events of which some kinds of things don't count: each of these becomes one fixed value.
-use Rattle.std.specs.Prelude.{ℕ, Bool, if◌then◌else◌, List, [], ◌∷◌, ◌++◌, Option, Some, None}
+use Rattle.std.specs.Prelude.{ℕ, Bool, true, false, ◌-◌, ◌==◌, ◌&&◌, if◌then◌else◌, List, [], ◌∷◌, ◌++◌, length, Option, Some, None}
+use Rattle.std.specs.List.{slice_get}
 use Rattle.tocmark_event.specs.View.{CodeView, Indented, Fenced, TagView, Heading, CodeBlock, ListOf, Link, Image, MetadataBlock, LeafView, Text, Code, InlineMath, DisplayMath, Html, InlineHtml, SoftBreak, HardBreak, EventView, Start, End, Leaf}
 use Rattle.tocmark_event.specs.declared.event.HeadingLevel.TheVariants as level
 use Rattle.tocmark_event.specs.declared.event.LinkType.{LinkType}
@@ -91,7 +92,33 @@ erased_event a w (Start t) = Start (erased_tag a t)
 erased_event a w (End k) = End (erased_end a k)
 erased_event a w (Leaf l) = Leaf (erased_leaf a w l)
 
+-- the line feed that a page adds after a byte
+abbrev pub line_end : Option ℕ → List ℕ
+line_end None = []
+line_end (Some b) = if b == 10 then [] else 10 ∷ []
+
+-- a text with a line feed at its end, unless it is empty
+abbrev pub ended : List ℕ → List ℕ
+ended t = t ++ line_end (slice_get t (length t - 1))
+
+-- the end of code or HTML
+abbrev pub is_lines_end : EventView → Bool
+is_lines_end (End end.CodeBlock) = true
+is_lines_end (End end.HtmlBlock) = true
+is_lines_end e = false
+
+-- code or HTML ends
+abbrev pub ends_lines : List EventView → Bool
+ends_lines [] = false
+ends_lines (e ∷ es) = is_lines_end e
+
+-- the last text of code or HTML, whose last line feed a file may lack
+abbrev pub line_ended : Bool → EventView → EventView
+line_ended true (Leaf (Text t)) = Leaf (Text (ended t))
+line_ended true (Leaf (Html t)) = Leaf (Html (ended t))
+line_ended b e = e
+
 -- the events, of which the first has such texts
 abbrev pub erased : Allowed → Within → List EventView → List EventView
 erased a w [] = []
-erased a w (e ∷ es) = erased_event a w e ∷ erased a (after_event w e) es
+erased a w (e ∷ es) = line_ended (a.fences && ends_lines es) (erased_event a w e) ∷ erased a (after_event w e) es

@@ -7,7 +7,10 @@ pub const KINDS: [(&str, &str); 13] = [
     ("destinations", "where links and images lead"),
     ("titles", "titles of links and images"),
     ("labels", "labels, and how links are spelled"),
-    ("fences", "whether code is fenced or indented"),
+    (
+        "fences",
+        "whether code is fenced, and has its last line feed",
+    ),
     ("levels", "levels of headings"),
     ("numbers", "first numbers of lists"),
     ("code", "code and math"),
@@ -30,7 +33,7 @@ pub struct Allowed {
     pub titles: bool,
     /// The labels of links, and how links are spelled.
     pub labels: bool,
-    /// Whether code is fenced or indented.
+    /// Whether code is fenced or indented, and whether code or HTML lacks its last line feed at the end of a text.
     pub fences: bool,
     /// The levels of headings.
     pub levels: bool,
@@ -68,7 +71,8 @@ impl Allowed {
         }
     }
 
-    /// What no page shows may differ: how links are spelled and defined, and whether code is fenced.
+    /// What no page shows may differ: how links are spelled and defined, whether code is fenced, and whether it lacks its last
+    /// line feed.
     pub fn unrendered() -> Allowed {
         Allowed {
             labels: true,

@@ -1,10 +1,10 @@
 //! Makes one fixed value of what may differ.
 
-ghost use Rattle.std.specs.Prelude.{◌≡◌, if◌then◌else◌, IfOk, string_bytes};
+ghost use Rattle.std.specs.Prelude.{◌≡◌, if◌then◌else◌, IfOk, OnOk, drop, true};
 ghost use Rattle.tocmark_event.specs.Text.{text_of};
 ghost use Rattle.tocmark_event.specs.View.{Start, code_view, event_view, tag_view};
 ghost use Rattle.tocmark_compare.specs.Given.{given_events};
-ghost use Rattle.tocmark_differences.specs.Erased.{addressed, after_event, erased, erased_block, erased_code, erased_destination, erased_end, erased_event, erased_number, erased_tag, may_differ, texts_of, unless};
+ghost use Rattle.tocmark_differences.specs.Erased.{addressed, after_event, ended, ends_lines, erased, erased_block, erased_code, erased_destination, erased_end, erased_event, erased_number, erased_tag, is_lines_end, line_ended, may_differ, texts_of, unless};
 ghost use Rattle.tocmark_differences.specs.declared.erase.Within.TheVariants as within;
 ghost use Rattle.tocmark_event.specs.declared.event.HeadingLevel.TheVariants as levels;
 ghost use Rattle.tocmark_event.specs.declared.event.LinkType.TheVariants as link;
@@ -248,6 +248,55 @@ fn erased_event(
     }
 }
 
+/// Adds the line feed that a text lacks at its end, unless it is empty.
+fn end_line(alloc: Global, text: &mut CowStr<'static>) -> Result<(), AllocError>
+    ensures { OnOk result (text_of text.new ≡ ended (text_of text.old)) }
+{
+    let bytes = text.as_ref().as_bytes();
+    match bytes.get(bytes.len().saturating_sub(1)) {
+        None | Some(b'\n') => Ok(()),
+        Some(_) => {
+            let mut whole = String::from_str(alloc, text.as_ref())?;
+            whole.push_str("\n")?;
+            *text = CowStr::Owned(whole);
+            Ok(())
+        }
+    }
+}
+
+/// Adds the line feed that the last text of code or HTML lacks.
+fn end_lines(alloc: Global, event: &mut Event<'static>) -> Result<(), AllocError>
+    ensures { OnOk result (event_view text_of event.new
+        ≡ line_ended true (event_view text_of event.old)) }
+{
+    match event {
+        Event::Text(text) => end_line(alloc, text),
+        Event::Html(text) => end_line(alloc, text),
+        _ => Ok(()),
+    }
+}
+
+/// Whether code or HTML ends.
+fn is_lines_end(event: &Event<'static>) -> bool
+    ensures { result ≡ is_lines_end (event_view text_of event.now) }
+{
+    match event {
+        Event::End(TagEnd::CodeBlock) => true,
+        Event::End(TagEnd::HtmlBlock) => true,
+        _ => false,
+    }
+}
+
+/// Whether code or HTML ends at a place.
+fn ends_lines(events: &[(Event<'static>, (usize, usize))], place: usize) -> bool
+    ensures { result ≡ ends_lines (given_events (drop place events.now)) }
+{
+    match events.get(place) {
+        Some(pair) => is_lines_end(&pair.0),
+        None => false,
+    }
+}
+
 /// Copies of events, in which all that may differ is one fixed value, beside their bytes. It fails if memory runs out.
 pub fn erased(
     alloc: Global,
@@ -259,8 +308,14 @@ pub fn erased(
 {
     let mut all = Vec::new(alloc);
     let mut within = Within::Prose;
+    let mut next = 0usize;
     for pair in events {
-        all.push((erased_event(alloc, allowed, within, &pair.0)?, pair.1))?;
+        next += 1;
+        let mut copy = erased_event(alloc, allowed, within, &pair.0)?;
+        if allowed.fences && ends_lines(events, next) {
+            end_lines(alloc, &mut copy)?;
+        }
+        all.push((copy, pair.1))?;
         within = after_event(within, &pair.0);
     }
     Ok(all)

@@ -1,7 +1,0 @@
-use Rattle.std.proofs.Common.{◌≡◌, take}
-use Rattle.std.specs.List.{fold}
-use Rattle.tocmark_bare_links.specs.Signs.{sign_start, sign_step}
-use Rattle.tocmark_bare_links.proofs.sign.Sign.of.Given as goal
-
-abbrev pub invariant-loop-byte : goal.invariant-loop-byte
-invariant-loop-byte l = l.sign ≡ fold sign_step sign_start (take l.byte-index l.text)
