@@ -51,8 +51,8 @@ pub struct Difference {
     pub kind: Kind,
     /// What it is, in words.
     pub what: &'static str,
-    /// How many events come before the difference, in the old text and in the new one. Consecutive texts are one event, and what
-    /// may differ is none. Link definitions come after all other events. For letters it is `(0, 0)`.
+    /// How many events come before the difference, in the old text and in the new one. Consecutive texts are one event. If link
+    /// definitions count, they come after all other events. For letters it is `(0, 0)`.
     pub before: (usize, usize),
     /// The first and the last line in the old text, counted from 1. If only the new text has it: where it would be.
     pub old: (usize, usize),
