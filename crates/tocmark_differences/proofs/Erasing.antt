@@ -1,5 +1,5 @@
 -- Events that are erased one by one.
-use Rattle.std.proofs.Common.{◌≡◌, ◌∙◌, ℕ, ◌+◌, ◌<◌, ◌≤◌, Bool, false, ◌&&◌, ap, append_assoc, append_nil, drop, get_or, length, map, sym, List, [], ◌∷◌, ◌++◌, Option, Some, None}
+use Rattle.std.proofs.Common.{◌≡◌, ◌∙◌, ℕ, ◌+◌, ◌<◌, ◌≤◌, Bool, false, ◌&&◌, ap, append_assoc, append-nil, drop, get_or, length, map, sym, List, [], ◌∷◌, ◌++◌, Option, Some, None}
 use Rattle.std.specs.List.{slice_get}
 use Rattle.std.proofs.lemmas.List.{drop_more, drop_all}
 use Rattle.std.proofs.lemmas.Option.{slice_get_within, get_or_from_slice_get}
@@ -28,4 +28,4 @@ module _ {A : Type 0} (view : A → EventView) (events : List A) (i : ℕ) where
 
     -- past the last event
     pub erased-all : (whole : List EventView) → length events ≤ i → all ++ erased a w (map view (drop i events)) ≡ whole → all ≡ whole
-    erased-all whole past e = sym (append_nil all) ∙ (ap (λ es. all ++ erased a w (map view es)) (sym (drop_all i events past)) ∙ e)
+    erased-all whole past e = sym (append-nil all) ∙ (ap (λ es. all ++ erased a w (map view es)) (sym (drop_all i events past)) ∙ e)
