@@ -1,7 +1,7 @@
 //! Containers: quotes, lists, footnotes and definition lists.
 
 use crate::page::{Frame, Kind};
-use crate::part::{Opening, Part};
+use crate::part::{Mark, Opening, Part};
 use crate::piece::push_repeated;
 use crate::printer::Printer;
 use crate::source::without_blanks;
@@ -105,8 +105,19 @@ impl Printer<'_> {
         self.page.open(frame, "")
     }
 
+    /// Whether the item at a place, whose marker ends here in the source, begins with indented code.
+    fn begins_code(&self, part: &Part, at: usize, after: usize) -> bool {
+        let first = at.saturating_add(1);
+        matches!(part.event(first), Some(Mark::Start(Opening::IndentedCode)))
+            && self
+                .source
+                .slice(after, part.range(first).0)
+                .trim_matches(&[' ', '\t', '>', '\n'])
+                .is_empty()
+    }
+
     /// What an item has in the source whose marker ends at a place.
-    fn item_columns(&self, start: usize, after: usize) -> ItemColumns {
+    fn item_columns(&self, start: usize, after: usize, begins_code: bool) -> ItemColumns {
         let source = self.source;
         let front = self.page.front(source, start);
         let front_column = front.column.saturating_add(front.spare);
@@ -121,7 +132,7 @@ impl Printer<'_> {
             return ItemColumns {
                 indent,
                 pad: 1,
-                begins_code: !is_empty,
+                begins_code,
                 content: after.saturating_add(1).min(content),
                 column: marker_end.saturating_add(1),
             };
@@ -170,12 +181,13 @@ impl Printer<'_> {
         Ok(first)
     }
 
-    fn open_item(&mut self, range: (usize, usize)) -> Result<(), AllocError> {
-        let (start, end) = range;
+    fn open_item(&mut self, part: &Part, at: usize) -> Result<(), AllocError> {
+        let (start, end) = part.range(at);
         let own = self.source.slice(start, end);
         let digits = digits_in(own);
         let after = start.saturating_add(digits).saturating_add(1);
-        let columns = self.item_columns(start, after);
+        let begins_code = self.begins_code(part, at, after);
+        let columns = self.item_columns(start, after, begins_code);
         let sign = self.item_sign(own.get(..digits).unwrap_or(""), columns)?;
         let before = columns
             .indent
@@ -195,7 +207,8 @@ impl Printer<'_> {
     /// The column of a place after the front of a block that begins here.
     fn column_of(&self, start: usize, at: usize) -> usize {
         let front = self.page.front(self.source, start);
-        self.source.column_at(front.column, front.at.min(start), at)
+        let column = front.column.saturating_add(front.spare);
+        self.source.column_at(column, front.at.min(start), at)
     }
 
     fn open_footnote(&mut self, range: (usize, usize)) -> Result<(), AllocError> {
@@ -235,7 +248,7 @@ impl Printer<'_> {
         match opening {
             Opening::Quote { has_kind } => self.open_quote(range, has_kind),
             Opening::List { is_ordered } => self.open_list(part, at, is_ordered),
-            Opening::Item => self.open_item(range),
+            Opening::Item => self.open_item(part, at),
             Opening::Footnote => self.open_footnote(range),
             Opening::Definition => self.open_definition(range),
             _ => {

@@ -265,9 +265,11 @@ impl Printer<'_> {
         let second = source.line_of(start).saturating_add(1);
         let last = source.line_of(end.saturating_sub(1));
         for line in second..=last {
-            let is_behind = source.line(line).starts_with(&[' ', '\t', '>']);
-            if is_behind && !self.could_be_row(line) {
-                return true;
+            if source.line(line).starts_with(&[' ', '\t', '>']) {
+                let place = self.page.stripped(source, source.start_of(line));
+                if place.is_met && self.indent_behind(place) > 3 {
+                    return true;
+                }
             }
         }
         false
@@ -422,6 +424,7 @@ impl Printer<'_> {
     /// Lets the block at the top keep its lines, because other programs read something in it otherwise.
     fn keep_top(&mut self) {
         self.has_misread = true;
+        self.goes_on = true;
         self.page.stop();
     }
 
@@ -623,7 +626,12 @@ impl Printer<'_> {
     pub(crate) fn begin_foreign(&mut self, start: usize) {
         if !self.is_below_foreign(start) {
             let depth = self.page.depth();
-            let column = self.column_in_container(start);
+            let mut column = self.column_in_container(start);
+            if self.look.is_literal {
+                let place = self.page.front(self.source, start);
+                let indent = self.indent_of(place, self.source.line_end(start));
+                column = column.saturating_add(indent.len());
+            }
             let shift = self.shift_at(start);
             self.foreign = Some(Foreign {
                 depth,
@@ -635,10 +643,11 @@ impl Printer<'_> {
 
     /// Whether a block belongs to another dialect: it has a line of that, or it is below such a block, deeper indented.
     pub(crate) fn is_foreign(&mut self, kind: Kind, start: usize, end: usize) -> bool {
+        self.goes_on = self.goes_on && !self.is_apart(start);
         if self.page.depth() > 0 && self.is_misread(kind, start, end) {
             self.keep_top();
         }
-        if self.is_below_foreign(start) {
+        if self.goes_on || self.is_below_foreign(start) {
             return true;
         }
         let depth = self.page.depth();

@@ -88,12 +88,13 @@ fn first_word(text: &str) -> &str {
 /// How far the end of attributes or of a link of a wiki is looked for, in bytes.
 const LONGEST_BRACKETED: usize = 200;
 
-/// Whether attributes are after a brace that is between two texts, as in `[a](b){ .name }` and `{: .name }`.
+/// Whether attributes are after a brace that is between two texts, as in `[a](b){ .name }`, `:name:{ title="a" }` and
+/// `{: .name }`.
 fn begins_attributes(before: &str, behind: &str) -> bool {
     behind
         .trim_start_matches(&[' ', '\t', '\n'])
         .starts_with(&['.', '#', ':'])
-        || before.ends_with(&[')', ']', '`', '*', '_', '>'])
+        || before.ends_with(&[')', ']', '`', '*', '_', '>', ':'])
 }
 
 /// Where brackets end in a text that a word at a place begins after another text: attributes, or a link of a wiki, as

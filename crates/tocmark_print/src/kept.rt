@@ -83,13 +83,22 @@ fn without_spaces(text: &str, count: usize) -> &str {
 }
 
 impl Printer<'_> {
-    /// Prints a line of the source up to a place, after the blanks that a tab leaves over, without so many blanks. A lazy line
-    /// that would begin a block after the prefixes gets four blanks.
+    /// What a line of the source gets in front: four blanks, if it is lazy and would begin a block after the prefixes.
+    pub(crate) fn indent_of(&self, place: Place, to: usize) -> &'static str {
+        let text = self.source.slice(place.at, to);
+        if !place.is_met && is_hazard(text.trim_start_matches(&[' ', '\t'])) {
+            INDENT
+        } else {
+            ""
+        }
+    }
+
+    /// Prints a line of the source up to a place, after the blanks that a tab leaves over, without so many blanks.
     fn print_rest(&mut self, place: Place, to: usize, shift: usize) -> Result<(), AllocError> {
         let text = self.source.slice(place.at, to);
-        let is_lazy_hazard = !place.is_met && is_hazard(text.trim_start_matches(&[' ', '\t']));
-        if is_lazy_hazard {
-            return self.page.line_with(INDENT, text);
+        let indent = self.indent_of(place, to);
+        if !indent.is_empty() {
+            return self.page.line_with(indent, text);
         }
         let front = blanks(place.spare.saturating_sub(shift));
         let text = without_spaces(text, shift.saturating_sub(place.spare));
@@ -104,8 +113,10 @@ impl Printer<'_> {
         let base = source.line_start(start);
         let top = self.page.top();
         let first_end = end.min(source.line_end(start));
-        if top.content() <= base && !top.owes_sign() {
-            let place = self.page.stripped(source, base);
+        if top.kind == Kind::Quote || (top.content() <= base && !top.owes_sign()) {
+            let mut place = self.page.front(source, start);
+            // only in the source's own spelling it goes on with a definition above it
+            place.is_met = place.is_met || !self.look.is_literal;
             self.print_rest(place, first_end.max(place.at), shift)?;
         } else {
             self.page.line(source.slice(start, first_end))?;

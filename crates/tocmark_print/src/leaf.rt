@@ -493,9 +493,17 @@ impl<'d> Printer<'d> {
     /// would begin; and after a bullet not of its sign.
     pub(crate) fn print_rule(&mut self, range: (usize, usize)) -> Result<(), AllocError> {
         let top = self.page.top();
+        let is_apart = self.is_apart(range.0);
         let own = match self.look.rule {
-            // to cmark-gfm it is text below a definition
-            _ if top.last == Some(Kind::Definitions) => self.source.slice(range.0, range.1),
+            _ if top.last == Some(Kind::Definitions) => {
+                let own = without_end_blanks(self.source.slice(range.0, range.1));
+                if !is_apart && run(own, b'-') == own.len() {
+                    // to cmark-gfm it is text, and goes on below
+                    self.goes_on = true;
+                    return self.page.line(own);
+                }
+                own
+            }
             Rule::Source => self.source.slice(range.0, range.1),
             Rule::Dashes => "---",
         };
@@ -506,7 +514,7 @@ impl<'d> Printer<'d> {
             None
         };
         let is_below = top.last.is_some()
-            && (top.is_tight || (top.keeps_gaps && !self.is_apart(range.0)));
+            && (top.is_tight || (top.keeps_gaps && !is_apart));
         let no_dashes = is_below || self.page.text.is_empty();
         for rule in [own, "***", "___"] {
             let byte = rule.as_bytes().first().copied();

@@ -653,6 +653,11 @@ impl Part {
         self.raw.as_str().get(from..to).unwrap_or("")
     }
 
+    /// Whether the last code or HTML ends with no line feed, at the end of the source.
+    pub(crate) fn is_cut(&self) -> bool {
+        !self.raw.is_empty() && !self.raw.ends_with('\n')
+    }
+
     /// The alignments of the columns of a table that starts at a place.
     pub(crate) fn alignments(&self, at: usize) -> &[Alignment] {
         let (from, to) = share_of(&self.tables, at);

@@ -40,6 +40,8 @@ pub(crate) struct Printer<'d> {
     pub(crate) code_end: usize,
     /// Whether other programs read something in the block at the top otherwise, so that it keeps its lines.
     pub(crate) has_misread: bool,
+    /// Whether these programs could go on with that below the block.
+    pub(crate) goes_on: bool,
     /// The last block of another dialect, as long as only blocks below it came.
     pub(crate) foreign: Option<Foreign>,
 }
@@ -65,6 +67,7 @@ impl<'d> Printer<'d> {
             kept: None,
             code_end: 0,
             has_misread: false,
+            goes_on: false,
             foreign: None,
         }
     }
@@ -98,6 +101,7 @@ impl<'d> Printer<'d> {
             (Kind::Foreign, _) | (_, Kind::Foreign) => true,
             // the text lacks too many cells for one more row, but other programs go on with the table
             (Kind::Table, Kind::Paragraph) => true,
+            (Kind::Rule, Kind::Html) => false,
             // to Python-Markdown the lines can be one paragraph
             (Kind::Html, _) | (_, Kind::Html) => matches!(self.look.list_indent, ListIndent::Four),
             _ => false,
@@ -287,8 +291,10 @@ impl<'d> Printer<'d> {
             self.separate(kind, self.is_apart(start))?;
             // what is in another item isn't above
             self.foreign = None;
+            self.goes_on = self.goes_on && self.has_misread;
         } else if self.is_foreign(kind, start, end) {
             self.print_foreign(start, end)?;
+            self.is_cut = part.is_cut();
             return Ok(behind);
         } else {
             self.begin_events(kind, start, end)?;
@@ -297,6 +303,7 @@ impl<'d> Printer<'d> {
         let is_top = self.page.depth() == 0;
         if is_top && self.ladder.step(tree).keeps_lines() {
             self.print_lines(start, end)?;
+            self.is_cut = part.is_cut();
         } else if self.print_block(part, at)? {
             return Ok(at.saturating_add(1));
         }
