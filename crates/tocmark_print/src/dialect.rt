@@ -3,6 +3,7 @@
 use crate::page::{Kind, Place};
 use crate::part::{Mark, Part};
 use crate::printer::Printer;
+use crate::source::without_blanks;
 use crate::style::{ListIndent, Wrap};
 use std::alloc::AllocError;
 
@@ -389,7 +390,8 @@ impl Printer<'_> {
         for line in second..=last {
             let place = self.page.stripped(source, source.start_of(line));
             let text = source.past_blanks(place.at);
-            if !place.is_met && text > place.at && source.byte(text) != b'\n' {
+            let has_blanks = text > place.at || place.spare > 0;
+            if !place.is_met && has_blanks && source.byte(text) != b'\n' {
                 return true;
             }
         }
@@ -414,9 +416,15 @@ impl Printer<'_> {
     }
 
     /// Keeps the lines of the block at the top if definitions of links between two places go on on a lazy line that begins
-    /// with blanks: to `cmark-gfm` that is text.
+    /// with blanks, or that is a tag: to `cmark-gfm` that is text, or HTML.
     pub(crate) fn keep_lazy_definitions(&mut self, from: usize, end: usize) {
-        if self.page.depth() > 0 && self.goes_on_lazily(from, end.saturating_sub(1)) {
+        if self.page.depth() == 0 {
+            return;
+        }
+        if self.has_lazy_tag(from, end) {
+            self.keep_top();
+            self.goes_on = true;
+        } else if self.goes_on_lazily(from, end.saturating_sub(1)) {
             self.keep_top();
         }
     }
@@ -424,14 +432,15 @@ impl Printer<'_> {
     /// Lets the block at the top keep its lines, because other programs read something in it otherwise.
     fn keep_top(&mut self) {
         self.has_misread = true;
-        self.goes_on = true;
         self.page.stop();
     }
 
     /// Whether other programs read a block in a container otherwise, so that the block at the top has to keep its lines.
     fn is_misread(&self, kind: Kind, start: usize, end: usize) -> bool {
         match kind {
-            Kind::Paragraph => self.has_lazy_tag(start, end) || self.has_lazy_row(start, end),
+            Kind::Paragraph | Kind::Heading => {
+                self.has_lazy_tag(start, end) || self.has_lazy_row(start, end)
+            }
             Kind::Code => self.has_cut_tab(start) || self.would_move(start),
             Kind::Html => self.would_move(start),
             _ => false,
@@ -641,11 +650,24 @@ impl Printer<'_> {
         }
     }
 
+    /// Whether no blank line is above a block. Where other programs read something in the block at the top otherwise, and below
+    /// that, a sign of a quote is text.
+    pub(crate) fn is_below_text(&self, start: usize) -> bool {
+        let source = self.source;
+        let above = source.line(source.line_of(start).saturating_sub(1));
+        if self.page.depth() == 0 || self.has_misread {
+            !without_blanks(above).is_empty()
+        } else {
+            !self.is_apart(start)
+        }
+    }
+
     /// Whether a block belongs to another dialect: it has a line of that, or it is below such a block, deeper indented.
     pub(crate) fn is_foreign(&mut self, kind: Kind, start: usize, end: usize) -> bool {
-        self.goes_on = self.goes_on && !self.is_apart(start);
+        self.goes_on = self.goes_on && self.is_below_text(start);
         if self.page.depth() > 0 && self.is_misread(kind, start, end) {
             self.keep_top();
+            self.goes_on = true;
         }
         if self.goes_on || self.is_below_foreign(start) {
             return true;

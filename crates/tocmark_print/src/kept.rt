@@ -277,6 +277,7 @@ impl Printer<'_> {
         kind: Kind,
     ) -> Result<(), AllocError> {
         let (from, to) = range;
+        self.goes_on = self.goes_on && self.is_below_text(from);
         self.begin_events(kind, from, to)?;
         if kind == Kind::Foreign {
             self.begin_foreign(from);

@@ -179,7 +179,7 @@ impl<'d> Printer<'d> {
         start: usize,
         end: usize,
     ) -> Result<(), AllocError> {
-        let is_apart = self.is_apart(start);
+        let is_apart = !self.goes_on && self.is_apart(start);
         self.print_gap(start)?;
         let tree = self.trees.checked_sub(1);
         self.begin(kind, is_apart, (tree, (start, end)))
