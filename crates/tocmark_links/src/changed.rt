@@ -98,10 +98,18 @@ fn spelled(alloc: Global, destination: &str, has_brackets: bool) -> Result<Strin
     Ok(text)
 }
 
-/// A destination as a value of HTML.
-fn spelled_in_html(alloc: Global, destination: &str) -> Result<String, AllocError> {
+/// A destination as a value of HTML after this byte: a quotation mark, or else the value gets some if it needs them.
+fn spelled_in_html(alloc: Global, destination: &str, mark: u8) -> Result<String, AllocError> {
     let text = destination.replace(alloc, "&", "&amp;")?;
-    text.as_str().replace(alloc, "\"", "&quot;")
+    let text = text.as_str().replace(alloc, "\"", "&quot;")?;
+    if mark == b'"' {
+        return Ok(text);
+    }
+    let text = text.as_str().replace(alloc, "'", "&#39;")?;
+    if mark != b'\'' && text.bytes().any(|b| matches!(b, b'=' | b'`')) {
+        return format!(in alloc; "\"{text}\"");
+    }
+    Ok(text)
 }
 
 /// The bytes that a link's new destination needs, in its place.
@@ -116,7 +124,8 @@ fn edit_of(alloc: Global, text: &str, page: &Page, change: &(usize, String)) -> 
         return Err(Fault::Misread { line: link.line });
     };
     let words = if link.kind == LinkKind::Html {
-        spelled_in_html(alloc, destination.as_str())?
+        let mark = byte_at(text.as_bytes(), start.saturating_sub(1));
+        spelled_in_html(alloc, destination.as_str(), mark)?
     } else {
         let has_brackets = byte_at(text.as_bytes(), start) == b'<' && end > start;
         spelled(alloc, destination.as_str(), has_brackets)?

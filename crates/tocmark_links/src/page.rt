@@ -262,11 +262,13 @@ impl<'t> Collecting<'t> {
         Ok(())
     }
 
+    /// Takes a value of HTML. Backslashes are escaped first, because they are no escapes there.
     fn add_value(&mut self, value: Value) -> Result<(), AllocError> {
         let place = (value.start, value.end);
         let written = self.text.get(value.start..value.end).unwrap_or("");
-        let text = written.replace(self.alloc, "&quot;", "\"")?;
-        let text = text.as_str().replace(self.alloc, "&amp;", "&")?;
+        let text = written.replace(self.alloc, "\\", "\\\\")?;
+        let text = unescaped(self.alloc, Names::All, text.as_bytes())?;
+        let text = String::from_utf8_lossy(self.alloc, &text)?;
         if value.leads {
             self.links.push(FoundLink {
                 kind: LinkKind::Html,

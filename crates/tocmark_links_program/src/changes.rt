@@ -98,7 +98,7 @@ impl Site {
         }
         match with_destinations(alloc, text, self.terms.flags, &page, &changes) {
             Ok(new) => Ok(Some(new)),
-            Err(fault) => Err(fault_of(shown, fault)),
+            Err(fault) => Err(fault_of(in_quotes(alloc, shown.as_str())?, fault)),
         }
     }
 

@@ -261,7 +261,10 @@ impl Site {
         let old = source.text.as_str();
         let new = match with_contents(rt.alloc(), old, self.terms.flags, self.terms.slugs) {
             Ok(new) => new,
-            Err(fault) => return Err(contents_fault(shown, old, fault)),
+            Err(fault) => {
+                let file = in_quotes(rt.alloc(), shown.as_str())?;
+                return Err(contents_fault(file, old, fault));
+            }
         };
         if new.as_str() == old {
             return Ok(None);
