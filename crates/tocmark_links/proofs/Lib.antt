@@ -6,5 +6,6 @@ pub mod Letters
 pub mod Moving
 pub mod Numbers
 pub mod Parts
+pub mod Redirecting
 pub mod Renaming
 pub mod Splicing

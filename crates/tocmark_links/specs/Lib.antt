@@ -3,6 +3,7 @@ pub mod Changed
 pub mod Destinations
 pub mod Headings
 pub mod Leading
+pub mod Leads
 pub mod Naming
 pub mod Numbering
 pub mod Paths

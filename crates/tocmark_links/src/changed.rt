@@ -8,10 +8,12 @@ ghost use Rattle.tocmark_compare.specs.Given.{given_events};
 ghost use Rattle.tocmark_event.specs.Text.{text_of};
 ghost use Rattle.tocmark_event.specs.View.{event_view, tag_view};
 ghost use Rattle.tocmark_links.specs.Changed.{blank, blank_tag, blanked, SayTheSame};
+ghost use Rattle.tocmark_links.specs.Leads.{AreRedirected};
 ghost use Rattle.tocmark_links.specs.Places.{IsAt, IsAsked, DiffersAtPlaces};
 
 use crate::anchors::{Anchor, AnchorKind};
 use crate::edits::{Edit, spliced};
+use crate::leads::{destinations, lead_to, redirected};
 use crate::page::{LinkKind, Page, READER};
 use crate::slug::Slugs;
 use std::alloc::{AllocError, AllocFailed, Global};
@@ -234,21 +236,7 @@ fn line_of(text: &str, at: usize) -> usize {
 }
 
 /// The line of a link of the old page that doesn't lead where it is to lead in the new one.
-fn first_astray(
-    alloc: Global,
-    old: &Page,
-    new: &Page,
-    changes: &[(usize, String)],
-) -> Result<Option<usize>, AllocError> {
-    let mut wanted = Vec::with_capacity(alloc, old.links.len())?;
-    for link in &old.links {
-        wanted.push(link.destination.as_str())?;
-    }
-    for (number, destination) in changes {
-        if let Some(place) = wanted.get_mut(*number) {
-            *place = destination.as_str();
-        }
-    }
+fn first_astray(old: &Page, new: &Page, wanted: &[&str]) -> Option<usize> {
     for (number, link) in old.links.iter().enumerate() {
         let is_led = match (new.links.get(number), wanted.get(number)) {
             (Some(found), Some(wanted)) => {
@@ -257,17 +245,18 @@ fn first_astray(
             _ => false,
         };
         if !is_led {
-            return Ok(Some(link.line));
+            return Some(link.line);
         }
     }
-    Ok(None)
+    None
 }
 
 /// The text in which some links of its page lead elsewhere: each change names a link of `page.links` by its index.
 ///
 /// `page` is the page of this text under these flags. The reader finds the same events in the new text, but for destinations
-/// and HTML, and each link leads where it is to lead. The new text is the old one in which the destinations of these links are
-/// replaced. Definitions are changed in their place, and so all links by their label lead elsewhere, too.
+/// and HTML, and each link leads where it is to lead: those that no change names lead where they led. The new text is the old one
+/// in which the destinations of these links are replaced. Definitions are changed in their place, and so all links by their label
+/// lead elsewhere, too.
 ///
 /// It fails if memory runs out, or if there is no such text: then the fault names the line.
 pub fn with_destinations(
@@ -278,6 +267,8 @@ pub fn with_destinations(
     changes: &[(usize, String)],
 ) -> Result<String, Fault>
     ensures events { IfOk result (λ new. SayTheSame flags text.now (string_bytes new)) }
+    ensures leads { IfOk result (λ new.
+        AreRedirected flags page.now.links.items changes.now text.now (string_bytes new)) }
     ensures bytes { IfOk result (λ new.
         DiffersAtPlaces page.now.links.items changes.now text.now (string_bytes new)) }
 {
@@ -291,8 +282,17 @@ pub fn with_destinations(
         });
     }
     let found = Page::read(alloc, new.as_str(), flags, Slugs::GitHub)?;
-    if let Some(line) = first_astray(alloc, page, &found, changes)? {
+    let links = &page.links;
+    let wanted = redirected(alloc, links, changes)?;
+    if let Some(line) = first_astray(page, &found, &wanted) {
         return Err(Fault::Misread { line });
+    }
+    let old = destinations(alloc, links)?;
+    if !lead_to(alloc, text, flags, links, &old)? {
+        return Err(Fault::Misread { line: 1 });
+    }
+    if !lead_to(alloc, new.as_str(), flags, links, &wanted)? {
+        return Err(Fault::Misread { line: 1 });
     }
     Ok(new)
 }

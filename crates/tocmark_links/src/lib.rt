@@ -7,8 +7,8 @@
 //! which destination a link needs after a move of `moves`. `renamed` says which anchors change with the words of headings, and
 //! `headings` which destination a link to one of them needs then.
 //! `changed` puts new destinations, words or contents into a text, and compares what the reader finds before and after. `paths`,
-//! `destination` and `slug` are the rules below them; `html` finds the attributes of HTML, `anchors` numbers headings, `edits`
-//! replaces bytes of a text.
+//! `destination` and `slug` are the rules below them; `html` finds the attributes of HTML, `leads` compares where links lead,
+//! `anchors` numbers headings, `edits` replaces bytes of a text.
 #![tactic(auto)]
 
 pub mod anchors;
@@ -17,6 +17,7 @@ pub mod destination;
 mod edits;
 pub mod headings;
 mod html;
+mod leads;
 pub mod moved;
 pub mod moves;
 pub mod page;
