@@ -6,6 +6,8 @@
 - The others parse `gfm`. `front`, `before N` and `after N` put a paragraph `New.` in front of all blocks, or before or after
   block N; past the last block, N counts from the first one again. `without N` removes that block. `shorten` removes the last
   block or item of the first block.
+- `note` makes each paragraph that begins with `NOTE: ` a note, a quote of that kind. `frame` puts the HTML `<hr>` before and after
+  each paragraph that is one image. `list` puts a list of one word in front of all blocks.
 - `shout` puts a word in front of each item and cell that begins with a text. `join` moves each heading one level down, and joins
   the lines of those below level 2. `say WORD` puts WORD in place of each `baz` in a text.
 - `merge WORD` joins neighbouring texts first. So do `emphasis WORD`, `strong WORD`, `strike WORD`, `link WORD` and `code WORD`,
@@ -142,6 +144,39 @@ def shouted(pairs):
     return pairs
 
 
+def paragraph_places(pairs):
+    """Where each paragraph begins in the list of pairs, and what is after it."""
+    first = None
+    for at, (event, _) in enumerate(pairs):
+        if event == {'Start': 'Paragraph'}:
+            first = at
+        elif event == {'End': 'Paragraph'}:
+            yield first, at + 1
+
+
+def noted(pairs):
+    for first, past in reversed([*paragraph_places(pairs)]):
+        name, text = key_of(pairs[first + 1][0])
+        if name == 'Text' and text.startswith('NOTE: '):
+            words = [*([[{'Text': text[6:]}, pairs[first + 1][1]]] if text[6:] else []), *pairs[first + 2:past]]
+            pairs[first:past] = [[{'Start': {'BlockQuote': 'Note'}}, None], pairs[first], *words, [{'End': {'BlockQuote': 'Note'}}, None]]
+    return pairs
+
+
+def framed(pairs):
+    for first, past in reversed([*paragraph_places(pairs)]):
+        name, tag = key_of(pairs[first + 1][0])
+        if name == 'Start' and 'Image' in tag:
+            html = [[event, None] for event in ({'Start': 'HtmlBlock'}, {'Html': '<hr>\n'}, {'End': 'HtmlBlock'})]
+            pairs[first:past] = html + pairs[first:past] + html
+    return pairs
+
+
+def listed(pairs):
+    events = ({'Start': {'List': None}}, {'Start': 'Item'}, {'Text': 'New'}, {'End': 'Item'}, {'End': {'List': False}})
+    return [[event, None] for event in events] + pairs
+
+
 def said(pairs, word):
     return [[{'Text': event['Text'].replace('baz', word)} if 'Text' in event else event, place] for event, place in pairs]
 
@@ -188,6 +223,9 @@ ALONE = {
     'title': with_titles,
     'stress': stressed,
     'front': lambda pairs: with_paragraph(pairs, 0, 0),
+    'note': noted,
+    'frame': framed,
+    'list': listed,
     'shorten': shortened,
     'shout': shouted,
     'join': lambda pairs: with_joined_headings(lowered(pairs)),

@@ -24,12 +24,19 @@ pub(crate) struct Work<'w> {
     pub(crate) plans: &'w [Plan],
     /// What replaces bytes of the blocks whose lines stay, and of definitions.
     pub(crate) changes: &'w [Patch],
+    /// How each tree is changed. One without a way is written as a whole.
+    pub(crate) ways: &'w [Way],
 }
 
 impl Work<'_> {
     /// The block of the source that a tree stands for.
     fn block_of(&self, plan: &Plan) -> Option<Block> {
         self.blocks.get(plan.stands_for?).copied()
+    }
+
+    /// Whether the tree with a number is spelled near the source if it is written.
+    pub(crate) fn is_near(&self, number: usize) -> bool {
+        self.ways.get(number) == Some(&Way::Literal)
     }
 
     /// Whether each tree stands for the block of the source in its place.
@@ -98,6 +105,7 @@ fn add_block<'a, R: Reader>(
         None => Ok(false),
         Some(pair) => {
             let patch = block_patch(tools, source, pair.1, new)?;
+            patches.has_texts = patches.has_texts || tools.paragraphs.is_some();
             patches.take(patch)
         }
     }
@@ -219,7 +227,8 @@ pub(crate) fn kept_lines<'a, R: DefinitionReader>(
     for (plan, way) in work.plans.iter().zip(ways) {
         let mut plan = *plan;
         way.set(&mut patches, markers);
-        if add_changes(tools, source, &mut patches, work, &plan, events)? {
+        let tools = tools.near_if(*way == Way::Literal);
+        if add_changes(&tools, source, &mut patches, work, &plan, events)? {
             plan.kept = work.block_of(&plan);
         }
         plans.push(plan)?;
@@ -242,8 +251,9 @@ pub(crate) fn all_patches<'a, R: DefinitionReader>(
     ways: &[Way],
 ) -> Result<Option<Patches>, AllocError> {
     let Standing { plans, mut patches } = kept_lines(tools, source, work, events, ways)?;
-    for plan in &plans {
-        if plan.kept.is_none() && !add_written(tools, source, &mut patches, work, plan, events)? {
+    for (plan, way) in plans.iter().zip(ways) {
+        let tools = tools.near_if(*way == Way::Literal);
+        if plan.kept.is_none() && !add_written(&tools, source, &mut patches, work, plan, events)? {
             return Ok(None);
         }
     }

@@ -214,6 +214,12 @@ fn is_wide(bytes: &[u8], from: usize, to: usize) -> bool {
     ends_between(bytes, from, first) > 1 && ends_between(bytes, past, to) > 1
 }
 
+/// Whether a stretch after the last block has no text, or a blank line before it.
+fn begins_wide(bytes: &[u8], from: usize, to: usize) -> bool {
+    let (first, past) = trimmed(bytes, from, to);
+    first >= past || ends_between(bytes, from, first) > 1
+}
+
 /// Whether there is text in a gap of the source, from one to another.
 fn have_text(source: &str, between: Between<'_>, first: usize, last: usize) -> bool {
     for number in first..last.saturating_add(1) {
@@ -244,13 +250,15 @@ fn stretch_before(
             None
         };
     }
+    let replaces = last.replaces && is_wide(bytes, from, to);
+    if replaces && !have_text(source, between, last.next, place.saturating_sub(1)) {
+        return Some((from, to));
+    }
     if have_text(source, between, last.next, place) {
         return None;
     }
     let (start, past) = gap(source, between.blocks, last.next);
-    if last.replaces && is_wide(bytes, from, to) {
-        Some((from, to))
-    } else if last.next == 0 && !is_loose || is_wide(bytes, start, past) {
+    if last.next == 0 && !is_loose || is_wide(bytes, start, past) {
         Some((start, past))
     } else if is_wide(bytes, from, to) {
         Some((from, to))
@@ -418,10 +426,12 @@ impl Last {
     fn keeps_tail(self, source: &str, between: Between<'_>, is_first: bool) -> bool {
         let count = between.blocks.len();
         if self.next == count {
-            !self.is_new || is_first || !have_text(source, between, count, count)
-        } else {
-            self.replaces && !have_text(source, between, self.next, count)
+            return !self.is_new || is_first || !have_text(source, between, count, count);
         }
+        let (from, to) = gap(source, between.blocks, count);
+        self.replaces
+            && !have_text(source, between, self.next, count.saturating_sub(1))
+            && begins_wide(source.as_bytes(), from, to)
     }
 
     fn with(self, joint: &Joint) -> Last {

@@ -179,8 +179,8 @@ impl<'e> Row<'_, 'e> {
         }
     }
 
-    /// Whether a new tree takes the place of blocks that were taken out: those before the block that the next tree stands
-    /// for. Of several new trees in a row, none does.
+    /// Whether a new tree replaces blocks that were removed. It does if it is the only new tree between two trees that stay,
+    /// and if the source has blocks between these two.
     fn replaces(self, next: usize, last: Option<Joint>, behind: Option<&Plan>) -> bool {
         if let Some(joint) = last
             && joint.plan.stands_for.is_none()

@@ -5,11 +5,13 @@ ghost use Rattle.tocmark_event.specs.Reading.{ReadingView};
 ghost use Rattle.tocmark_event.specs.View.{EventView};
 ghost use Rattle.tocmark_rewrite.specs.Edited.{IsVain};
 
+use crate::changes::Work;
 use crate::destination::definition_line;
 use crate::fault::Fault;
 use crate::given::{GivenEvents, GivenPairs};
 use crate::joint::{Joint, mark_at};
 use crate::line_end::LineEnd;
+use crate::near::{Paragraphs, write_near};
 use crate::patch::Patch;
 use crate::plan::{Plan, kept_blocks, place_of};
 use crate::texts::Texts;
@@ -39,6 +41,24 @@ pub struct Tools<'t, 'o, R> {
     pub line_end: LineEnd,
     /// Whether texts are spelled as in the source.
     pub has_ranges: bool,
+    /// The paragraphs of the source, if new trees are spelled near them.
+    pub paragraphs: Option<&'t Paragraphs<'t>>,
+}
+
+impl<'t, 'o, R> Tools<'t, 'o, R> {
+    /// These, or those that spell trees as the writer does.
+    pub(crate) fn near_if(&self, is_near: bool) -> Tools<'t, 'o, R> {
+        Tools {
+            alloc: self.alloc,
+            reader: self.reader,
+            units: self.units,
+            flags: self.flags,
+            options: self.options,
+            line_end: self.line_end,
+            has_ranges: self.has_ranges,
+            paragraphs: if is_near { self.paragraphs } else { None },
+        }
+    }
 }
 
 /// A changed tree as it is written; empty for a kept one. Its lines end with line feeds.
@@ -114,10 +134,20 @@ fn split_definitions(text: &str) -> (&str, &str) {
     }
 }
 
+/// A text without the end of its last line, unless that line is empty.
+fn without_end(text: &str) -> &str {
+    let past = text.len().saturating_sub(1);
+    if text.ends_with('\n') && !text.ends_with("\n\n") {
+        text.get(..past).unwrap_or(text)
+    } else {
+        text
+    }
+}
+
 /// A tree, and the definitions that it asks for, written under these options by a state of its own.
 ///
 /// An `Err` is one of those of `State::process_with_source_range` but `FormatFailed`.
-pub fn write_with<'a, R: Reader>(
+pub(crate) fn write_plain<'a, R: Reader>(
     tools: &Tools<'_, '_, R>,
     options: Options<'_>,
     source: &str,
@@ -137,10 +167,24 @@ pub fn write_with<'a, R: Reader>(
         return Err(fault_of(error));
     }
     let (front, text) = split_definitions(texts.text_at(0).trim_start_matches('\n'));
-    let body = String::from_str(alloc, text)?;
+    let body = String::from_str(alloc, without_end(text))?;
     let mut definitions = String::from_str(alloc, front)?;
     definitions.push_str(texts.text_at(1).trim_start_matches('\n'))?;
     Ok(Piece { body, definitions })
+}
+
+/// A tree, and the definitions that it asks for, near the source if the tools say so.
+pub fn write_with<'a, R: Reader>(
+    tools: &Tools<'_, '_, R>,
+    options: Options<'_>,
+    source: &str,
+    events: &'a [(Event<'a>, (usize, usize))],
+) -> Result<Piece, Error> {
+    if tools.paragraphs.is_some() {
+        write_near(tools, options, source, events)
+    } else {
+        write_plain(tools, options, source, events)
+    }
 }
 
 /// A tree that begins at a byte of the source, written with the marker that is there.
@@ -193,7 +237,7 @@ fn piece_of<'a, R: Reader>(
 pub(crate) fn make_pieces<'a, R: Reader>(
     tools: &Tools<'_, '_, R>,
     source: &str,
-    blocks: &[Block],
+    work: &Work<'_>,
     joints: &[Joint],
     events: &'a [(Event<'a>, (usize, usize))],
 ) -> Result<Vec<Piece>, Fault>
@@ -202,8 +246,9 @@ pub(crate) fn make_pieces<'a, R: Reader>(
         → IsVain reading labels text given fault) }
 {
     let mut all = Vec::new(tools.alloc);
-    for joint in joints {
-        let piece = piece_of(tools, source, blocks, joint, events)?;
+    for (at, joint) in joints.iter().enumerate() {
+        let tools = tools.near_if(work.is_near(at));
+        let piece = piece_of(&tools, source, work.blocks, joint, events)?;
         all.push(piece)?;
     }
     Ok(all)

@@ -26,6 +26,8 @@ use crate::join::{Manner, PlacedPatches, Written, joined, patched};
 use crate::joint::{Joint, Row, mark_patches};
 use crate::labels::has_all;
 use crate::line_end::LineEnd;
+use crate::look::with_look;
+use crate::near::Paragraphs;
 use crate::output::{Output, Part};
 use crate::patch::{Patch, add_copies};
 use crate::pieces::{Definitions, Piece, Tools, events_of, make_pieces};
@@ -344,7 +346,7 @@ fn side_by_side<'a, R: DefinitionReader>(
         events,
     };
     let joints = row.joints(alloc, tools.options)?;
-    let pieces = make_pieces(tools, source, work.blocks, &joints, events)?;
+    let pieces = make_pieces(tools, source, work, &joints, events)?;
     let (definitions, mut redefined) = definitions_for(tools, source, work, &pieces)?;
     let mut changes = mark_patches(alloc, source, work.found, &joints)?;
     add_copies(alloc, work.changes, &mut changes)?;
@@ -428,6 +430,7 @@ fn standing_text<'a, R: DefinitionReader>(
         let patched = Work {
             plans: &plans,
             changes: &patches.list,
+            ways: &ways,
             ..*work
         };
         let tried = match side_by_side(tools, source, &patched, events) {
@@ -468,11 +471,20 @@ fn joined_text<'a, R: DefinitionReader>(
     if let Some(output) = standing_text(tools, source, work, events)? {
         return Ok(output);
     }
-    let first = side_by_side(tools, source, work, events)?;
-    let Some(place) = first.otherwise else {
-        return Ok(first.output);
+    let ways = first_ways(tools.alloc, work)?;
+    let near = Work {
+        ways: &ways,
+        ..*work
     };
-    match loosened_text(tools, source, work, events, first.output.text.as_str())? {
+    let first = side_by_side(tools, source, &near, events)?;
+    if first.otherwise.is_none() {
+        return Ok(first.output);
+    }
+    let plain = side_by_side(tools, source, work, events)?;
+    let Some(place) = plain.otherwise else {
+        return Ok(plain.output);
+    };
+    match loosened_text(tools, source, work, events, plain.output.text.as_str())? {
         Some(output) => Ok(output),
         None => Err(Fault::ReadOtherwise(place)),
     }
@@ -560,15 +572,18 @@ pub fn rewritten_slice<'a, R: DefinitionReader>(
         blocks: &blocks,
         plans: &plans,
         changes: &[],
+        ways: &[],
     };
+    let paragraphs = Paragraphs::of(alloc, work.found)?;
     let tools = Tools {
         alloc,
         reader,
         units: reader.unit_reader(),
         flags,
-        options,
+        options: with_look(options, source, work.found),
         line_end: LineEnd::of(source),
         has_ranges: true,
+        paragraphs: Some(&paragraphs),
     };
     let output = new_text(&tools, source, &work, events)?;
     Ok(answer(alloc, &work, output)?)
