@@ -9,7 +9,7 @@
 //! where `hunks` differ; a `marker` spells new ones) and of links (`link`), with their `destination` and `title`, or those
 //! of the `label`'s definition, which `definition_reader` finds. `inner` writes the changed blocks in a tree, and `changes`
 //! finds the smallest patches of each tree. `pieces` writes changed trees, which `given` lends to a state, whose reader is
-//! that of `unit_reader`. `joint` decides how trees are after one another, and `join` puts them side by side. All leave a
+//! that of `unit_reader`. `near` spells them as the source does, and `look` finds the marks of the document. `joint` decides how trees are after one another, and `join` puts them side by side. All leave a
 //! list of parts (`output`), whose text is parsed; `labels` compares the labels that it defines. `answer` says what became
 //! of each tree, and `fault` why there is no text.
 //!

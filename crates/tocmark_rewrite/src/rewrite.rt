@@ -593,13 +593,15 @@ pub fn rewritten_slice<'a, R: DefinitionReader>(
 ///
 /// `events` are those that `reader` finds in `source` under `flags`, each with its range, after you changed, added or
 /// removed some. A new event has no range, or the range of what it replaces. `Reading::pairs` gives the events of a reading
-/// that you edited in place. The options say how blocks are written that can't be patched.
+/// that you edited in place. The options say how blocks are written that can't be patched. An option with its default value
+/// gives way to what is most common in the source.
 ///
 /// - If nothing was changed, the answer is the source.
 /// - If a destination, a title, a text, a heading's level, a task's box or an info string was changed, just those bytes are
 ///   replaced. The destination of a link by label is replaced in the label's definition.
 /// - If a word was made strong, emphasized, struck through, code or a link, or isn't any more, just the delimiters change.
 /// - If more was changed, the innermost block or item with a change is written again, or else the block at the top.
+/// - If a paragraph of the source is in a written block, its words keep their spelling.
 /// - If blocks at the top were added or removed, the others keep their lines but for such changes, and so does what is
 ///   between them.
 /// - If a block beside a change would be parsed otherwise there, it is written again, too.
