@@ -110,7 +110,7 @@ fn is_symbol(character: Option<char>) -> bool {
     }
 }
 
-/// Whether some program would read otherwise if another sign of emphasis became this one beside a character.
+/// Whether this sign of emphasis, in place of another one, could parse differently beside a character in some program.
 fn is_hindered(sign: u8, character: Option<char>) -> bool {
     if sign == b'_' {
         hinders_underscore(character)

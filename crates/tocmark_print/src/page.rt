@@ -507,7 +507,7 @@ impl Page {
         }
     }
 
-    /// Where the content of the innermost container that begins after a place begins, with its column; lists don't count.
+    /// Where the content of the innermost container that begins after a place begins, and its column. Lists don't count.
     fn content_after(&self, place: usize) -> Option<(usize, usize)> {
         if self.top.kind != Kind::List && self.top.content() > place {
             return Some((self.top.content(), self.top.column as usize));

@@ -339,7 +339,7 @@ impl Part {
         }
     }
 
-    /// The number of the list round an item that is innermost.
+    /// The index of the innermost item's list.
     fn list_round_item(&self) -> Option<usize> {
         let outer = self.open.len().checked_sub(2)?;
         match self.open.get(outer) {

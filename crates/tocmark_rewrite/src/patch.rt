@@ -328,7 +328,7 @@ impl Patches {
         run.add_patches(alloc, source, &texts, manner, &mut self.list)
     }
 
-    /// Texts that are as they are, as in code: each by itself if there are as many.
+    /// Patches texts of code, which have no escapes: each by itself if there are as many.
     fn raw_texts<'e>(
         &mut self,
         alloc: Global,
@@ -455,7 +455,7 @@ impl Patches {
         !self.definitions.is_empty()
     }
 
-    /// Adds those of the definitions, the first one of each label that is to say something else.
+    /// Patches the first definition of each label, if it changed.
     pub fn add_definitions(
         &mut self,
         alloc: Global,

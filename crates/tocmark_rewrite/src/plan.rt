@@ -94,7 +94,7 @@ impl Documents<'_, '_> {
         }
     }
 
-    /// Whether the tree after one that begins where a block does is that block, as it was.
+    /// Whether the next tree is this block, unchanged.
     fn is_taken(
         &self,
         alloc: Global,
@@ -110,8 +110,8 @@ impl Documents<'_, '_> {
         }
     }
 
-    /// What becomes of a tree that isn't the first block that isn't passed: it stands for the block that begins at
-    /// the same byte, unless it has no bytes, or the next tree is that block.
+    /// The plan of a later tree. It stands for the block that begins at the same byte, unless it has no bytes or the next
+    /// tree is that block.
     fn later_plan(
         &self,
         alloc: Global,

@@ -275,7 +275,7 @@ struct Tried {
 }
 
 /// Trees side by side, in the first manner in which they are read as the events, or else in the last one. The first manner
-/// changes least, so the tree at which that was read otherwise is told.
+/// changes least, so the tree at which that was read otherwise is reported.
 fn try_manners<R: Reader>(
     tools: &Tools<'_, '_, R>,
     source: &str,
