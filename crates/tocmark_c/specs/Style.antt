@@ -14,6 +14,7 @@ use Rattle.tocmark_print.specs.declared.style.Numbering.{Numbering}
 use Rattle.tocmark_print.specs.declared.style.Numbering.TheVariants as numbering
 use Rattle.tocmark_print.specs.declared.style.Rule.{Rule}
 use Rattle.tocmark_print.specs.declared.style.Rule.TheVariants as rule
+use Rattle.tocmark_print.specs.declared.style.Headings.TheVariants as headings
 use Rattle.tocmark_print.specs.declared.style.ListIndent.{ListIndent}
 use Rattle.tocmark_print.specs.declared.style.ListIndent.TheVariants as indent
 use Rattle.tocmark_print.specs.declared.style.Style.{Style}
@@ -103,7 +104,7 @@ has_style s =
     && is_some (hard_break_of s.hard_break) && is_some (rule_of s.rule)
     && is_some (list_indent_of s.list_indent) && is_some (tables_of s.tables)
 
--- a style is what a struct says
+-- a style is what a struct says; headings of one line are after signs
 abbrev pub IsStyleOf : TocmarkStyle → Style → Type 0
 IsStyleOf s style =
     (bullet_of s.bullet ≡ Some style.bullet) × (delimiter_of s.delimiter ≡ Some style.delimiter)
@@ -111,5 +112,5 @@ IsStyleOf s style =
     × (marker_of s.strong ≡ Some style.strong) × (fence_of s.fence ≡ Some style.fence)
     × (style.fence_length ≡ s.fence_length)
     × (hard_break_of s.hard_break ≡ Some style.hard_break) × (rule_of s.rule ≡ Some style.rule)
-    × (style.table_width ≡ table_width_of s.table_width) × (style.wrap ≡ wrap_of s.wrap)
+    × (style.headings ≡ headings.Signs) × (style.table_width ≡ table_width_of s.table_width) × (style.wrap ≡ wrap_of s.wrap)
     × (list_indent_of s.list_indent ≡ Some style.list_indent) × (tables_of s.tables ≡ Some style.tables)

@@ -4,7 +4,8 @@ ghost use Rattle.std.specs.Prelude.{◌≡◌, IfSome, is_some};
 ghost use Rattle.tocmark_c.specs.Style.{bullet_of, delimiter_of, fence_of, hard_break_of, has_style, list_indent_of, marker_of, numbering_of, rule_of, table_width_of, tables_of, wrap_of, IsStyleOf};
 
 use tocmark_print::{
-    Bullet, Delimiter, Fence, HardBreak, ListIndent, Marker, Numbering, Rule, Style, Tables, Wrap,
+    Bullet, Delimiter, Fence, HardBreak, Headings, ListIndent, Marker, Numbering, Rule, Style,
+    Tables, Wrap,
 };
 
 /// The size of `TocmarkStyle` in bytes. A later header can have a larger one.
@@ -180,6 +181,7 @@ pub fn style_of(style: &TocmarkStyle) -> Option<Style>
         fence_length: style.fence_length as usize,
         hard_break: hard_break_of(style.hard_break)?,
         rule: rule_of(style.rule)?,
+        headings: Headings::Signs,
         tables: tables_of(style.tables)?,
         table_width: table_width_of(style.table_width),
         wrap: wrap_of(style.wrap),

@@ -96,7 +96,7 @@ const FORMS: [(&str, Form); 3] = [
 ];
 
 /// The options that say how a document looks.
-static STYLE: [CommandOption<'static>; 15] = [
+static STYLE: [CommandOption<'static>; 16] = [
     CommandOption {
         name: "also-read",
         letter: None,
@@ -162,6 +162,12 @@ static STYLE: [CommandOption<'static>; 15] = [
         letter: None,
         takes: Takes::Sign("RULE"),
         help: "Thematic break: --- (default) or source",
+    },
+    CommandOption {
+        name: "heading",
+        letter: None,
+        takes: Takes::Value("MARKER"),
+        help: "Heading of one line: # (default) or source",
     },
     CommandOption {
         name: "tables",

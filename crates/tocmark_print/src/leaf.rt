@@ -9,7 +9,7 @@ use crate::part::{Mark, Part};
 use crate::piece::{INDENT, Piece, Pieces, ends_with_backslash, push_repeated};
 use crate::printer::Printer;
 use crate::source::{is_blank, without_blanks, without_end_blanks};
-use crate::style::{ListIndent, Rule, Wrap};
+use crate::style::{Headings, ListIndent, Rule, Wrap};
 use crate::width::width;
 use std::alloc::AllocError;
 use std::mem;
@@ -290,7 +290,8 @@ impl<'d> Printer<'d> {
         Ok(())
     }
 
-    /// Prints a heading after `#`; underlined if it has several lines or ends in `#`, or after a task's box.
+    /// Prints a heading after `#`; underlined if it has several lines or ends in `#`, after a task's box, or if the look keeps
+    /// its underline.
     pub(crate) fn print_heading(
         &mut self,
         part: &Part,
@@ -303,14 +304,16 @@ impl<'d> Printer<'d> {
         let lines = self.heading_lines(part, at, start.saturating_add(signs))?;
         let has_box = matches!(part.event(at.saturating_add(1)), Some(Mark::TaskBox));
         let has_signs = signs > 0;
-        let own = if lines.len() > 1 && !has_signs {
+        let stays = !has_signs && self.look.headings == Headings::Source;
+        let own = if stays || (lines.len() > 1 && !has_signs) {
             self.own_underline((start, end))
         } else {
             ""
         };
         let is_underlined = lines.len() > 1
             || has_box
-            || (!has_signs && (self.look.is_literal || ends_with_sign(lines.last())));
+            || stays
+            || (!has_signs && ends_with_sign(lines.last()));
         if is_underlined {
             self.print_underlined(&lines, level, own)
         } else {
@@ -513,8 +516,7 @@ impl<'d> Printer<'d> {
         } else {
             None
         };
-        let is_below = top.last.is_some()
-            && (top.is_tight || (top.keeps_gaps && !is_apart));
+        let is_below = top.last.is_some() && (top.is_tight || (top.keeps_gaps && !is_apart));
         let no_dashes = is_below || self.page.text.is_empty();
         for rule in [own, "***", "___"] {
             let byte = rule.as_bytes().first().copied();

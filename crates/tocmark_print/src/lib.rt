@@ -43,5 +43,6 @@ pub use part::Placed;
 pub use printing::Printing;
 pub use source::Source;
 pub use style::{
-    Bullet, Delimiter, Fence, HardBreak, ListIndent, Marker, Numbering, Rule, Style, Tables, Wrap,
+    Bullet, Delimiter, Fence, HardBreak, Headings, ListIndent, Marker, Numbering, Rule, Style,
+    Tables, Wrap,
 };

@@ -1,7 +1,8 @@
 //! How blocks are printed: a style, or the source's own spelling.
 
 use crate::style::{
-    Bullet, Delimiter, Fence, HardBreak, ListIndent, Marker, Numbering, Rule, Style, Tables, Wrap,
+    Bullet, Delimiter, Fence, HardBreak, Headings, ListIndent, Marker, Numbering, Rule, Style,
+    Tables, Wrap,
 };
 
 /// How blocks are printed. `None` says: as in the source.
@@ -15,12 +16,13 @@ pub(crate) struct Look {
     pub(crate) fence: Option<u8>,
     pub(crate) fence_length: usize,
     pub(crate) rule: Rule,
+    pub(crate) headings: Headings,
     pub(crate) hard_break: HardBreak,
     pub(crate) tables: Tables,
     pub(crate) table_width: usize,
     pub(crate) wrap: Wrap,
     pub(crate) list_indent: ListIndent,
-    /// Whether headings, indents, fences, tables and definitions stay as they are spelled, too.
+    /// Whether indents, fences, tables and definitions stay as they are spelled, too.
     pub(crate) is_literal: bool,
 }
 
@@ -67,6 +69,7 @@ impl Look {
             fence: style.fence.map(fence_byte),
             fence_length: style.fence_length.clamp(3, LONGEST_FENCE),
             rule: style.rule,
+            headings: style.headings,
             hard_break: style.hard_break,
             tables: style.tables,
             table_width: style.table_width,
@@ -87,6 +90,7 @@ impl Look {
             fence: None,
             fence_length: 3,
             rule: Rule::Source,
+            headings: Headings::Source,
             hard_break: HardBreak::Source,
             tables: Tables::Source,
             table_width: 0,

@@ -118,6 +118,15 @@ pub enum Tables {
     Source,
 }
 
+/// How headings of one line look.
+#[derive(Clone, Copy, PartialEq, Eq)]
+pub enum Headings {
+    /// After `#`.
+    Signs,
+    /// As in the source: after `#` or underlined.
+    Source,
+}
+
 /// How a document is to look. `None` says: as in the source.
 #[derive(Clone, Copy)]
 pub struct Style {
@@ -136,6 +145,7 @@ pub struct Style {
     pub fence_length: usize,
     pub hard_break: HardBreak,
     pub rule: Rule,
+    pub headings: Headings,
     pub tables: Tables,
     /// How many columns a table may take. The cells of wider ones aren't padded, unless those of the source are.
     pub table_width: usize,
@@ -145,7 +155,7 @@ pub struct Style {
 
 impl Style {
     /// Bullets, delimiters, numbers, indents of items, emphasis, fences and breaks of lines as in the source, rules of `---`,
-    /// fences of three, and tables that are aligned up to 120 columns.
+    /// headings after `#`, fences of three, and tables that are aligned up to 120 columns.
     pub fn new() -> Style
         ensures { result ≡ usual_style }
     {
@@ -159,6 +169,7 @@ impl Style {
             fence_length: 3,
             hard_break: HardBreak::Source,
             rule: Rule::Dashes,
+            headings: Headings::Signs,
             tables: Tables::Aligned,
             table_width: 120,
             wrap: Wrap::Keep,

@@ -3,7 +3,8 @@
 use crate::settings::Settings;
 use tocmark_command::syntax::{extended, syntax_named};
 use tocmark_print::{
-    Bullet, Delimiter, Fence, HardBreak, ListIndent, Marker, Numbering, Rule, Style, Tables, Wrap,
+    Bullet, Delimiter, Fence, HardBreak, Headings, ListIndent, Marker, Numbering, Rule, Style,
+    Tables, Wrap,
 };
 
 /// An option of formatting. `KEYS` has the name of each.
@@ -22,6 +23,7 @@ pub enum Key {
     FenceLength,
     HardBreak,
     Rule,
+    Heading,
     Tables,
     TableWidth,
     ListIndent,
@@ -38,7 +40,7 @@ pub struct Setting {
 }
 
 /// The options by their names, with what each takes, as messages say it. Those that others change come first.
-pub const KEYS: [(&str, Key, &str); 17] = [
+pub const KEYS: [(&str, Key, &str); 18] = [
     ("syntax", Key::Syntax, "commonmark, gfm or all"),
     (
         "extension",
@@ -56,6 +58,7 @@ pub const KEYS: [(&str, Key, &str); 17] = [
     ("fence-length", Key::FenceLength, "a number from 3 to 1000"),
     ("hard-break", Key::HardBreak, "source, backslash or spaces"),
     ("rule", Key::Rule, "--- or source"),
+    ("heading", Key::Heading, "# or source"),
     ("tables", Key::Tables, "aligned or source"),
     ("table-width", Key::TableWidth, "a number from 1 to 1000"),
     ("list-indent", Key::ListIndent, "source, marker or 4"),
@@ -122,6 +125,8 @@ const HARD_BREAKS: [(&str, HardBreak); 3] = [
 
 const RULES: [(&str, Rule); 2] = [("---", Rule::Dashes), ("source", Rule::Source)];
 
+const HEADINGS: [(&str, Headings); 2] = [("#", Headings::Signs), ("source", Headings::Source)];
+
 const TABLES: [(&str, Tables); 2] = [("aligned", Tables::Aligned), ("source", Tables::Source)];
 
 const LIST_INDENTS: [(&str, ListIndent); 3] = [
@@ -157,6 +162,7 @@ impl Look {
                 fence: None,
                 hard_break: HardBreak::Source,
                 rule: Rule::Source,
+                headings: Headings::Source,
                 tables: Tables::Source,
                 list_indent: ListIndent::Source,
                 ..style
@@ -170,6 +176,7 @@ impl Look {
                 fence: Some(Fence::Backtick),
                 hard_break: HardBreak::Backslash,
                 rule: Rule::Dashes,
+                headings: Headings::Signs,
                 tables: Tables::Aligned,
                 list_indent: one_indent(style.list_indent),
                 ..style
@@ -278,6 +285,7 @@ pub fn set(settings: &mut Settings, key: Key, word: &str) -> bool {
         Key::FenceLength => put(&mut style.fence_length, length_of(word)),
         Key::HardBreak => put(&mut style.hard_break, named(&HARD_BREAKS, word)),
         Key::Rule => put(&mut style.rule, named(&RULES, word)),
+        Key::Heading => put(&mut style.headings, named(&HEADINGS, word)),
         Key::Tables => put(&mut style.tables, named(&TABLES, word)),
         Key::TableWidth => put(&mut style.table_width, width_of(word)),
         Key::ListIndent => put(&mut style.list_indent, named(&LIST_INDENTS, word)),
