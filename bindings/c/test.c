@@ -478,6 +478,9 @@ static void styles(void) {
          "fences");
   expect(formats("a\\\nb\n\n* * *\n", (struct tocmark_style){.size = size, .hard_break = 2, .rule = 1}, "a  \nb\n\n* * *\n"), 13,
          "breaks");
+  expect(formats("a\n===\n\n* * *\n", (struct tocmark_style){.size = size, .rule = 2}, "a\n===\n\n---\n"), 11, "headings");
+  expect(formats("a\n===\n\n* * *\n", (struct tocmark_style){.size = size, .rule = 3}, "a\n===\n\n* * *\n"), 13,
+         "headings and breaks");
   expect(formats("|ab|\n|-|\n", (struct tocmark_style){.size = size, .table_width = 1}, "| ab |\n| --- |\n"), 15, "tables");
   expect(formats("a\nb c\n", (struct tocmark_style){.size = size, .wrap = 3}, "a b\nc\n"), 6, "filled lines");
   expect(formats("a\nb\n", (struct tocmark_style){.size = size, .wrap = UINT32_MAX}, "a b\n"), 4, "joined lines");
@@ -504,7 +507,7 @@ static void styles(void) {
                                    {.size = size, .strong = 1},
                                    {.size = size, .fence = '"'},
                                    {.size = size, .hard_break = 3},
-                                   {.size = size, .rule = 2},
+                                   {.size = size, .rule = 4},
                                    {.size = size, .list_indent = UINT32_MAX},
                                    {.size = size, .tables = 2}};
   for (size_t i = 0; i < sizeof wrongs / sizeof *wrongs; i++)

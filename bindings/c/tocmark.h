@@ -205,7 +205,7 @@ ptrdiff_t tocmark_rewrite(const uint8_t *json, size_t json_len, const uint8_t *s
 
 /* The style of a formatted text. A character is its own number, and 0 is the default:
  * struct tocmark_style style = {.size = sizeof style, .bullet = '-'};
- * As --look source of tocmark-format: {.size = sizeof style, .rule = 1, .tables = 1}. As --look one:
+ * As --look source of tocmark-format: {.size = sizeof style, .rule = 3, .tables = 1}. As --look one:
  * {.size = sizeof style, .bullet = '-', .delimiter = '.', .numbering = 2, .emphasis = '*', .strong = '*', .fence = '`',
  * .hard_break = 1, .list_indent = 1}. */
 struct tocmark_style {
@@ -218,7 +218,8 @@ struct tocmark_style {
   uint32_t fence;        /* '`' or '~'; 0: as in the source */
   uint32_t fence_length; /* minimal length of a fence; below 3 means 3, above 1,000 means 1,000 */
   uint32_t hard_break;   /* a line break: 0: as in the source; 1: a backslash; 2: two spaces */
-  uint32_t rule;         /* a thematic break: 0: ---; 1: as in the source */
+  uint32_t rule;         /* a sum: 1: thematic breaks as in the source, and not ---; 2: so are headings of one line, and not
+                          * after # */
   uint32_t table_width;  /* tables are padded up to this many columns, and wider ones if they are aligned; 0: up to 120 */
   uint32_t wrap;         /* lines of paragraphs: 0: as in the source; UINT32_MAX: joined; UINT32_MAX - 1: one for each sentence;
                           * else filled up to this many columns */

@@ -560,6 +560,8 @@ class Formatting(unittest.TestCase):
             tocmark.format("a", hard_break="x")
         with self.assertRaisesRegex(ValueError, "'x' is none of ---, source"):
             tocmark.format("a", rule="x")
+        with self.assertRaisesRegex(ValueError, "'x' is none of #, source"):
+            tocmark.format("a", heading="x")
         with self.assertRaisesRegex(ValueError, "'x' is none of aligned, source"):
             tocmark.format("a", tables="x")
         with self.assertRaisesRegex(ValueError, "and not 0"):
@@ -585,6 +587,11 @@ class Formatting(unittest.TestCase):
         self.assertEqual(tocmark.format("- a\n\n  b\n", list_indent=4), "-   a\n\n    b\n")
         self.assertEqual(tocmark.format("-  a\n\n   b\n", list_indent="marker"), "- a\n\n  b\n")
         self.assertEqual(tocmark.format("-  a\n\n   b\n"), "-  a\n\n   b\n")
+
+    def test_headings_keep_their_underline(self):
+        self.assertEqual(tocmark.format("a\n=\n\n***\n"), "# a\n\n---\n")
+        self.assertEqual(tocmark.format("a\n=\n\n***\n", heading="source"), "a\n=\n\n---\n")
+        self.assertEqual(tocmark.format("a\n=\n\n***\n", look="source"), "a\n=\n\n***\n")
 
     def test_the_same_is_read(self):
         styles = ({}, {"bullet": "-", "ordered": ")", "numbering": "first", "emphasis": "_", "fence": "~", "hard_break": "backslash", "rule": "source", "table_width": 1},

@@ -340,8 +340,8 @@ def format(text: str, *, syntax: str = "gfm", extensions: Iterable[str] = (), al
 
     `bullet` is "*", "-" or "+", `ordered` "." or ")", `fence` "`" or "~", `emphasis` "*" or "_", and `strong` "**" or "__", or
     one of these characters; "source", the default, or "" keeps what the source has. `numbering` is "source" (the default),
-    "first" or "increment", `hard_break` "source" (the default), "backslash" or "spaces", and `rule` "---" (the default) or
-    "source". A fence has at least `fence_length` characters, from 3 (the default) to 1,000. `tables` is "aligned" (the
+    "first" or "increment", `hard_break` "source" (the default), "backslash" or "spaces", `rule` "---" (the default) or "source",
+    and `heading` "#" (the default), or "source", which keeps underlined headings. A fence has at least `fence_length` characters, from 3 (the default) to 1,000. `tables` is "aligned" (the
     default), or "source", which keeps their rows. Aligned tables are padded up to `table_width` columns, from 1
     to 1,000 (the default is 120), and wider ones if they are aligned. `wrap` is "keep" (the default), "no", which joins the
     lines of a paragraph, "sentence", which gives each sentence a line, or a number of columns up to which lines are filled.

@@ -28,6 +28,7 @@ _RULES = {"---": 0, "source": 1}
 #: What the options of marks take beside "", the default. `delimiter` is another name of `ordered`.
 _MARKS = {"bullet": ("*", "-", "+", "source"), "ordered": (".", ")", "source"), "delimiter": (".", ")", "source"),
           "fence": ("`", "~", "source"), "emphasis": ("*", "_", "source"), "strong": ("*", "_", "**", "__", "source")}
+_HEADINGS = {"#": 0, "source": 2}
 _TABLES = {"aligned": 0, "source": 1}
 _WRAPS: dict[int | str, int] = {"keep": 0, "no": 2**32 - 1, "sentence": 2**32 - 2}
 _LIST_INDENTS: dict[int | str, int] = {"source": 0, "marker": 1, 4: 4}
@@ -35,7 +36,7 @@ _LIST_INDENTS: dict[int | str, int] = {"source": 0, "marker": 1, 4: 4}
 #: What each look sets, if the style doesn't.
 _LOOKS: dict[str, dict[str, Any]] = {
     "": {},
-    "source": {"rule": "source", "tables": "source"},
+    "source": {"rule": "source", "heading": "source", "tables": "source"},
     "one": {"bullet": "-", "ordered": ".", "numbering": "increment", "emphasis": "*", "strong": "**", "fence": "`",
             "hard_break": "backslash", "list_indent": "marker"},
 }
@@ -120,10 +121,11 @@ def with_look(style: Mapping[str, Any]) -> dict[str, Any]:
 
 def style_of(*, bullet: str = "", ordered: str = "", delimiter: str = "", numbering: str = "source", emphasis: str = "",
              strong: str = "", fence: str = "", fence_length: int = 3, hard_break: str = "source", rule: str = "---",
-             tables: str = "aligned", table_width: int = 120, wrap: int | str = "keep",
+             heading: str = "#", tables: str = "aligned", table_width: int = 120, wrap: int | str = "keep",
              list_indent: int | str = "source") -> _library.Style:
     """Returns a style, or raises `ValueError` if a name or a number can't be, and `InvalidStyle` if a character can't."""
-    for name, known in ((numbering, _NUMBERINGS), (hard_break, _HARD_BREAKS), (rule, _RULES), (tables, _TABLES)):
+    for name, known in ((numbering, _NUMBERINGS), (hard_break, _HARD_BREAKS), (rule, _RULES), (heading, _HEADINGS),
+                        (tables, _TABLES)):
         if name not in known:
             raise ValueError(f"{name!r} is none of {', '.join(known)}")
     if not _is_size(fence_length, 3):
@@ -137,6 +139,6 @@ def style_of(*, bullet: str = "", ordered: str = "", delimiter: str = "", number
     codes = _codes_of({"bullet": bullet, "ordered": ordered, "delimiter": delimiter, "emphasis": emphasis, "strong": strong,
                        "fence": fence})
     return _library.Style(size=ctypes.sizeof(_library.Style), numbering=_NUMBERINGS[numbering],
-                          hard_break=_HARD_BREAKS[hard_break], rule=_RULES[rule], fence_length=fence_length,
+                          hard_break=_HARD_BREAKS[hard_break], rule=_RULES[rule] + _HEADINGS[heading], fence_length=fence_length,
                           tables=_TABLES[tables], table_width=table_width, wrap=_WRAPS.get(wrap, wrap),
                           list_indent=_LIST_INDENTS[list_indent], **codes)

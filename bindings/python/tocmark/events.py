@@ -127,6 +127,7 @@ class Style(TypedDict, total=False):
     fence_length: int
     hard_break: Literal["source", "backslash", "spaces"]
     rule: Literal["---", "source"]
+    heading: Literal["#", "source"]
     tables: Literal["aligned", "source"]
     table_width: int
     wrap: int | Literal["keep", "no", "sentence"]

@@ -90,6 +90,16 @@ pub enum Rule {
     Source,
 }
 
+/// Headings of one line.
+#[derive(Clone, Copy, Debug, Default, PartialEq, Eq, Hash)]
+pub enum Heading {
+    /// After `#`.
+    #[default]
+    Signs = 0,
+    /// As in the source: after `#` or underlined.
+    Source = 2,
+}
+
 /// How tables look.
 #[derive(Clone, Copy, Debug, Default, PartialEq, Eq, Hash)]
 pub enum Tables {
@@ -147,6 +157,8 @@ pub struct FormatOptions {
     pub hard_break: HardBreak,
     /// Thematic breaks.
     pub rule: Rule,
+    /// Headings of one line.
+    pub heading: Heading,
     /// How tables look.
     pub tables: Tables,
     /// Tables are padded up to this many columns, and wider ones if they are aligned; 0 means 120.
@@ -171,6 +183,7 @@ impl Default for FormatOptions {
             fence_length: 3,
             hard_break: HardBreak::default(),
             rule: Rule::default(),
+            heading: Heading::default(),
             tables: Tables::default(),
             table_width: 120,
             wrap: Wrap::default(),
@@ -193,6 +206,7 @@ impl FormatOptions {
     pub fn look_source() -> FormatOptions {
         FormatOptions {
             rule: Rule::Source,
+            heading: Heading::Source,
             tables: Tables::Source,
             ..Default::default()
         }
@@ -237,7 +251,7 @@ impl FormatOptions {
             },
             fence_length: self.fence_length,
             hard_break: self.hard_break as u32,
-            rule: self.rule as u32,
+            rule: self.rule as u32 + self.heading as u32,
             tables: self.tables as u32,
             table_width: self.table_width,
             wrap: match self.wrap {

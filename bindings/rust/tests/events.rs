@@ -736,11 +736,11 @@ fn a_text_is_formatted() {
         format(text, ParserOptions::ENABLE_TABLES, &own).unwrap(),
         text
     );
-    let text = "_a_\n\n***\n\n1) b\n1) c\n\n*   d\n";
+    let text = "_a_\n===\n\n***\n\n1) b\n1) c\n\n*   d\n";
     assert_eq!(format(text, NONE, &FormatOptions::look_source()).unwrap(), text);
     assert_eq!(
         format(text, NONE, &FormatOptions::look_one()).unwrap(),
-        "*a*\n\n---\n\n1. b\n2. c\n\n- d\n"
+        "# *a*\n\n---\n\n1. b\n2. c\n\n- d\n"
     );
     let sentences = FormatOptions {
         wrap: Wrap::Sentence,

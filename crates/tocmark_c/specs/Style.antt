@@ -14,6 +14,7 @@ use Rattle.tocmark_print.specs.declared.style.Numbering.{Numbering}
 use Rattle.tocmark_print.specs.declared.style.Numbering.TheVariants as numbering
 use Rattle.tocmark_print.specs.declared.style.Rule.{Rule}
 use Rattle.tocmark_print.specs.declared.style.Rule.TheVariants as rule
+use Rattle.tocmark_print.specs.declared.style.Headings.{Headings}
 use Rattle.tocmark_print.specs.declared.style.Headings.TheVariants as headings
 use Rattle.tocmark_print.specs.declared.style.ListIndent.{ListIndent}
 use Rattle.tocmark_print.specs.declared.style.ListIndent.TheVariants as indent
@@ -70,7 +71,21 @@ hard_break_of n =
     else None
 
 abbrev pub rule_of : ℕ → Option Rule
-rule_of n = if n == 0 then Some rule.Dashes else if n == 1 then Some rule.Source else None
+rule_of n =
+    if n == 0 then Some rule.Dashes
+    else if n == 1 then Some rule.Source
+    else if n == 2 then Some rule.Dashes
+    else if n == 3 then Some rule.Source
+    else None
+
+-- the same number also says how headings look
+abbrev pub headings_of : ℕ → Option Headings
+headings_of n =
+    if n == 0 then Some headings.Signs
+    else if n == 1 then Some headings.Signs
+    else if n == 2 then Some headings.Source
+    else if n == 3 then Some headings.Source
+    else None
 
 abbrev pub tables_of : ℕ → Option Tables
 tables_of n = if n == 0 then Some tables.Aligned else if n == 1 then Some tables.Source else None
@@ -101,10 +116,10 @@ has_style s =
     nat_le 56 s.size && is_some (bullet_of s.bullet) && is_some (delimiter_of s.delimiter)
     && is_some (numbering_of s.numbering) && is_some (marker_of s.emphasis)
     && is_some (marker_of s.strong) && is_some (fence_of s.fence)
-    && is_some (hard_break_of s.hard_break) && is_some (rule_of s.rule)
+    && is_some (hard_break_of s.hard_break) && is_some (rule_of s.rule) && is_some (headings_of s.rule)
     && is_some (list_indent_of s.list_indent) && is_some (tables_of s.tables)
 
--- a style is what a struct says; headings of one line are after signs
+-- a style is what a struct says
 abbrev pub IsStyleOf : TocmarkStyle → Style → Type 0
 IsStyleOf s style =
     (bullet_of s.bullet ≡ Some style.bullet) × (delimiter_of s.delimiter ≡ Some style.delimiter)
@@ -112,5 +127,5 @@ IsStyleOf s style =
     × (marker_of s.strong ≡ Some style.strong) × (fence_of s.fence ≡ Some style.fence)
     × (style.fence_length ≡ s.fence_length)
     × (hard_break_of s.hard_break ≡ Some style.hard_break) × (rule_of s.rule ≡ Some style.rule)
-    × (style.headings ≡ headings.Signs) × (style.table_width ≡ table_width_of s.table_width) × (style.wrap ≡ wrap_of s.wrap)
+    × (headings_of s.rule ≡ Some style.headings) × (style.table_width ≡ table_width_of s.table_width) × (style.wrap ≡ wrap_of s.wrap)
     × (list_indent_of s.list_indent ≡ Some style.list_indent) × (tables_of s.tables ≡ Some style.tables)

@@ -1,7 +1,7 @@
 //! The style of a formatted document, in the form that C gives.
 
 ghost use Rattle.std.specs.Prelude.{◌≡◌, IfSome, is_some};
-ghost use Rattle.tocmark_c.specs.Style.{bullet_of, delimiter_of, fence_of, hard_break_of, has_style, list_indent_of, marker_of, numbering_of, rule_of, table_width_of, tables_of, wrap_of, IsStyleOf};
+ghost use Rattle.tocmark_c.specs.Style.{bullet_of, delimiter_of, fence_of, hard_break_of, has_style, headings_of, list_indent_of, marker_of, numbering_of, rule_of, table_width_of, tables_of, wrap_of, IsStyleOf};
 
 use tocmark_print::{
     Bullet, Delimiter, Fence, HardBreak, Headings, ListIndent, Marker, Numbering, Rule, Style,
@@ -33,7 +33,7 @@ pub struct TocmarkStyle {
     pub fence_length: u32,
     /// 0: each as in the source; 1: a backslash; 2: two spaces.
     pub hard_break: u32,
-    /// 0: `---`; 1: each as in the source.
+    /// A sum. 1: thematic breaks are as in the source, and not `---`. 2: so are headings of one line, and not after `#`.
     pub rule: u32,
     /// Tables are padded up to this many columns; 0: up to 120.
     pub table_width: u32,
@@ -117,8 +117,18 @@ fn rule_of(code: u32) -> Option<Rule>
     ensures { result ≡ rule_of code }
 {
     match code {
-        0 => Some(Rule::Dashes),
-        1 => Some(Rule::Source),
+        0 | 2 => Some(Rule::Dashes),
+        1 | 3 => Some(Rule::Source),
+        _ => None,
+    }
+}
+
+fn headings_of(code: u32) -> Option<Headings>
+    ensures { result ≡ headings_of code }
+{
+    match code {
+        0 | 1 => Some(Headings::Signs),
+        2 | 3 => Some(Headings::Source),
         _ => None,
     }
 }
@@ -181,7 +191,7 @@ pub fn style_of(style: &TocmarkStyle) -> Option<Style>
         fence_length: style.fence_length as usize,
         hard_break: hard_break_of(style.hard_break)?,
         rule: rule_of(style.rule)?,
-        headings: Headings::Signs,
+        headings: headings_of(style.rule)?,
         tables: tables_of(style.tables)?,
         table_width: table_width_of(style.table_width),
         wrap: wrap_of(style.wrap),
