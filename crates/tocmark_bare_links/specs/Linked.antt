@@ -244,13 +244,19 @@ stretch_ended source is_cell l =
 unfoldable pub is_next : List ℕ → LinkingView → List ℕ → ℕ × ℕ → Bool
 is_next source l text range = l.plain && (range.0 == l.range.1) && is_plain source text range
 
+-- how many letters bytes begin with
+unfoldable pub letter_count : List ℕ → ℕ
+letter_count bytes = length (take_while is_ascii_alphabetic bytes)
+
+-- the word that bytes begin with, or so many bytes of it
+unfoldable pub word_front : List ℕ → ℕ → List ℕ
+word_front bytes most =
+    let front = bytes_between bytes 0 (min most (length bytes)) in
+    bytes_between front 0 (word_length front)
+
 -- the letters at a place, and at most three bytes more of their word: a scheme or `www.` that begins there is seen by its end
 unfoldable pub ahead : List ℕ → ℕ → List ℕ
-ahead source place =
-    let bytes = drop place source in
-    let letters = length (take_while is_ascii_alphabetic bytes) in
-    let front = bytes_between bytes 0 (min (plus letters 3) (length bytes)) in
-    bytes_between front 0 (word_length front)
+ahead source place = let bytes = drop place source in word_front bytes (plus (letter_count bytes) 3)
 
 -- programs look for an address before a place in its word, or at the place
 unfoldable pub is_in_address : List ℕ → LinkingView → ℕ → Bool

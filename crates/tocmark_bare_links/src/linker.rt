@@ -4,7 +4,7 @@ ghost use Rattle.std.specs.Prelude.{◌≡◌, if◌then◌else◌, IfOk, OnOk, 
 ghost use Rattle.std.specs.List.{fold};
 ghost use Rattle.tocmark_event.specs.Text.{text_of};
 ghost use Rattle.tocmark_event.specs.View.{event_view};
-ghost use Rattle.tocmark_bare_links.specs.Linked.{added, ahead, begun_at, divided, goes_on, is_delimiter, is_ended, is_escaped, is_in_address, is_looked_at, is_next, is_plain, linked, linking_view, may_end, may_open, other_added, other_text, passed, spelled, stretch_added, stretch_ended, tail_added, text_added, tail_end, with_event, with_stretch, with_tail, with_text, word_end, word_length, word_start};
+ghost use Rattle.tocmark_bare_links.specs.Linked.{added, ahead, begun_at, divided, goes_on, is_delimiter, is_ended, is_escaped, is_in_address, is_looked_at, is_next, is_plain, letter_count, linked, linking_view, may_end, may_open, other_added, other_text, passed, spelled, stretch_added, stretch_ended, tail_added, text_added, tail_end, with_event, with_stretch, with_tail, with_text, word_end, word_front, word_length, word_start};
 ghost use Rattle.tocmark_bare_links.specs.Lines.{brackets_step, scan_view, shown};
 ghost use Rattle.tocmark_bare_links.specs.Signs.{sign_step};
 
@@ -95,18 +95,33 @@ fn brackets_in(brackets: Brackets, bytes: &[u8]) -> Brackets
     all
 }
 
+/// How many letters bytes begin with.
+#[tactic(auto, unfolding(crate::specs::Linked::letter_count))]
+fn letter_count(bytes: &[u8]) -> usize
+    ensures { result ≡ letter_count bytes.now }
+{
+    bytes
+        .iter()
+        .take_while(|byte| byte.is_ascii_alphabetic())
+        .count()
+}
+
+/// The word that bytes begin with, or so many bytes of it.
+#[tactic(auto, unfolding(crate::specs::Linked::word_front))]
+fn word_front(bytes: &[u8], most: usize) -> &[u8]
+    ensures { result.now ≡ word_front bytes.now most }
+{
+    let front = bytes_between(bytes, 0, most.min(bytes.len()));
+    bytes_between(front, 0, word_length(front))
+}
+
 /// The letters at a place, and at most three bytes more of their word.
 #[tactic(auto, unfolding(crate::specs::Linked::ahead))]
-fn ahead<'s>(source: &'s [u8], place: usize) -> &'s [u8]
+fn ahead(source: &[u8], place: usize) -> &[u8]
     ensures { result.now ≡ ahead source.now place }
 {
     let bytes = rest(source, place);
-    let letters = bytes
-        .iter()
-        .take_while(|byte| byte.is_ascii_alphabetic())
-        .count();
-    let front = bytes_between(bytes, 0, letters.saturating_add(3).min(bytes.len()));
-    bytes_between(front, 0, word_length(front))
+    word_front(bytes, letter_count(bytes).saturating_add(3))
 }
 
 /// The source of a text with the backslash before it, after a mark if a bracket is open before it.
