@@ -492,23 +492,25 @@ impl<'d> Printer<'d> {
         self.print_raw(text)
     }
 
+    /// Whether these signs of a rule are dashes directly below a definition. To cmark-gfm they are text, and it goes on below.
+    fn is_text_below(&self, signs: &str, is_apart: bool) -> bool {
+        let is_below = self.page.top().last == Some(Kind::Definitions) && !is_apart;
+        is_below && run(signs, b'-') == signs.len()
+    }
+
     /// Prints a rule: not of `-` below a text without a blank line between, nor at the front of a document, where metadata
     /// would begin; and after a bullet not of its sign.
     pub(crate) fn print_rule(&mut self, range: (usize, usize)) -> Result<(), AllocError> {
-        let top = self.page.top();
         let is_apart = self.is_apart(range.0);
+        let own = without_end_blanks(self.source.slice(range.0, range.1));
+        if self.is_text_below(own, is_apart) {
+            self.goes_on = true;
+            return self.page.line(own);
+        }
+        let top = self.page.top();
         let own = match self.look.rule {
-            _ if top.last == Some(Kind::Definitions) => {
-                let own = without_end_blanks(self.source.slice(range.0, range.1));
-                if !is_apart && run(own, b'-') == own.len() {
-                    // to cmark-gfm it is text, and goes on below
-                    self.goes_on = true;
-                    return self.page.line(own);
-                }
-                own
-            }
-            Rule::Source => self.source.slice(range.0, range.1),
-            Rule::Dashes => "---",
+            Rule::Dashes if top.last != Some(Kind::Definitions) => "---",
+            Rule::Dashes | Rule::Source => own,
         };
         let sign = if top.kind == Kind::Item && !top.is_used {
             let sign = self.page.sign().trim_start_matches(' ');
