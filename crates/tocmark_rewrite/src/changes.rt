@@ -72,7 +72,7 @@ fn add_small<'a>(
 /// Adds the patches of the innermost blocks in which a tree was changed, each by itself; none and false if the
 /// tree is the innermost, or if one is refused.
 fn add_inner<'a, R: Reader>(
-    tools: &Tools<'_, '_, R>,
+    tools: &Tools<'_, '_, '_, R>,
     source: &str,
     patches: &mut Patches,
     old: &'a [(Event<'a>, (usize, usize))],
@@ -92,7 +92,7 @@ fn add_inner<'a, R: Reader>(
 
 /// Adds the patches of a block in a container; none and false if it is refused.
 fn add_block<'a, R: Reader>(
-    tools: &Tools<'_, '_, R>,
+    tools: &Tools<'_, '_, '_, R>,
     source: &str,
     patches: &mut Patches,
     old: &'a [(Event<'a>, (usize, usize))],
@@ -105,7 +105,7 @@ fn add_block<'a, R: Reader>(
         None => Ok(false),
         Some(pair) => {
             let patch = block_patch(tools, source, pair.1, new)?;
-            patches.has_texts = patches.has_texts || tools.paragraphs.is_some();
+            patches.has_texts = patches.has_texts || tools.is_near;
             patches.take(patch)
         }
     }
@@ -113,7 +113,7 @@ fn add_block<'a, R: Reader>(
 
 /// Adds the patch that replaces a block's lines by the tree that stands for it, as it is written; false if it is refused.
 fn add_written<'a, R: Reader>(
-    tools: &Tools<'_, '_, R>,
+    tools: &Tools<'_, '_, '_, R>,
     source: &str,
     patches: &mut Patches,
     work: &Work<'_>,
@@ -180,7 +180,7 @@ impl Way {
 /// Adds the patches by which a tree keeps the lines of the block that it stands for, the smallest that there are: those of
 /// events, or of blocks in it if these may be written by themselves; none and false if there are none.
 fn add_changes<'a, R: Reader>(
-    tools: &Tools<'_, '_, R>,
+    tools: &Tools<'_, '_, '_, R>,
     source: &str,
     patches: &mut Patches,
     work: &Work<'a>,
@@ -214,7 +214,7 @@ pub(crate) struct Standing {
 
 /// Which trees keep the lines of the blocks that they stand for, each changed in its way.
 pub(crate) fn kept_lines<'a, R: DefinitionReader>(
-    tools: &Tools<'_, '_, R>,
+    tools: &Tools<'_, '_, '_, R>,
     source: &str,
     work: &Work<'a>,
     events: &'a [(Event<'a>, (usize, usize))],
@@ -244,7 +244,7 @@ pub(crate) fn kept_lines<'a, R: DefinitionReader>(
 
 /// The patches of all trees, where each stands for the block in its place; none if one is refused.
 pub(crate) fn all_patches<'a, R: DefinitionReader>(
-    tools: &Tools<'_, '_, R>,
+    tools: &Tools<'_, '_, '_, R>,
     source: &str,
     work: &Work<'a>,
     events: &'a [(Event<'a>, (usize, usize))],

@@ -236,7 +236,7 @@ fn list_of_item(
 
 /// An item as it is written by itself.
 fn write_item<R: Reader>(
-    tools: &Tools<'_, '_, R>,
+    tools: &Tools<'_, '_, '_, R>,
     source: &str,
     begins: usize,
     item: &[(Event<'_>, (usize, usize))],
@@ -247,7 +247,7 @@ fn write_item<R: Reader>(
 
 /// A block or an item as it is written by itself; none if it is refused.
 fn write_block<'a, R: Reader>(
-    tools: &Tools<'_, '_, R>,
+    tools: &Tools<'_, '_, '_, R>,
     source: &str,
     begins: usize,
     events: &'a [(Event<'a>, (usize, usize))],
@@ -265,7 +265,7 @@ fn write_block<'a, R: Reader>(
 
 /// The patch of a block in a container, which is written by itself and is as it did; none if it is refused.
 pub(crate) fn block_patch<'a, R: Reader>(
-    tools: &Tools<'_, '_, R>,
+    tools: &Tools<'_, '_, '_, R>,
     source: &str,
     range: (usize, usize),
     events: &'a [(Event<'a>, (usize, usize))],

@@ -28,17 +28,16 @@ struct Paragraph {
 
 /// The paragraphs of the source, in the order of their places.
 #[derive(Drop)]
-pub struct Paragraphs<'e> {
-    found: &'e [(Event<'e>, (usize, usize))],
+pub struct Paragraphs {
     list: Vec<Paragraph>,
 }
 
-impl<'e> Paragraphs<'e> {
+impl Paragraphs {
     /// Those in the events of a source.
     pub(crate) fn of(
         alloc: Global,
-        found: &'e [(Event<'e>, (usize, usize))],
-    ) -> Result<Paragraphs<'e>, AllocError> {
+        found: &[(Event<'_>, (usize, usize))],
+    ) -> Result<Paragraphs, AllocError> {
         let mut list = Vec::new(alloc);
         let (mut begins, mut first) = (0usize, 0usize);
         for (at, pair) in found.iter().enumerate() {
@@ -52,17 +51,21 @@ impl<'e> Paragraphs<'e> {
                 _ => {}
             }
         }
-        Ok(Paragraphs { found, list })
+        Ok(Paragraphs { list })
     }
 
-    /// The events of the paragraph that begins at a byte, if there is one.
-    fn at(&self, begins: usize) -> Option<&'e [(Event<'e>, (usize, usize))]> {
+    /// The events of the paragraph that begins at a byte, if there is one. `found` are those of the source.
+    fn at<'e>(
+        &self,
+        found: &'e [(Event<'e>, (usize, usize))],
+        begins: usize,
+    ) -> Option<&'e [(Event<'e>, (usize, usize))]> {
         let place = self
             .list
             .partition_point(|paragraph| paragraph.begins < begins);
         let paragraph = self.list.get(place)?;
         if paragraph.begins == begins {
-            self.found.get(paragraph.first..paragraph.past)
+            found.get(paragraph.first..paragraph.past)
         } else {
             None
         }
@@ -142,15 +145,15 @@ fn content_of(alloc: Global, text: &str, width: usize) -> Result<String, AllocEr
 
 /// What a changed paragraph of the source says, with as many of its bytes as can be; none if it isn't one, or can't be patched.
 fn patched_content<'a, R: Reader>(
-    tools: &Tools<'_, '_, R>,
+    tools: &Tools<'_, '_, '_, R>,
     source: &str,
     paragraph: &'a [(Event<'a>, (usize, usize))],
 ) -> Result<Option<String>, AllocError> {
     let alloc = tools.alloc;
-    let (Some(paragraphs), Some((_start, given))) = (tools.paragraphs, paragraph.first()) else {
+    let Some((_start, given)) = paragraph.first() else {
         return Ok(None);
     };
-    let Some(old) = paragraphs.at(given.0) else {
+    let Some(old) = tools.paragraphs.at(tools.read.found, given.0) else {
         return Ok(None);
     };
     let Some((_start, range)) = old.first() else {
@@ -169,7 +172,7 @@ fn patched_content<'a, R: Reader>(
 impl Skeleton {
     /// That of a tree.
     fn of<'a, R: Reader>(
-        tools: &Tools<'_, '_, R>,
+        tools: &Tools<'_, '_, '_, R>,
         source: &str,
         events: &'a [(Event<'a>, (usize, usize))],
     ) -> Result<Skeleton, AllocError> {
@@ -258,7 +261,7 @@ fn tidied(alloc: Global, text: &str) -> Result<String, AllocError> {
 
 /// A tree with its paragraphs as they are in the source; none if it has none of these, or if the writer refuses the others.
 fn near_text<'a, R: Reader>(
-    tools: &Tools<'_, '_, R>,
+    tools: &Tools<'_, '_, '_, R>,
     options: Options<'_>,
     source: &str,
     events: &'a [(Event<'a>, (usize, usize))],
@@ -279,7 +282,7 @@ fn near_text<'a, R: Reader>(
 
 /// Whether a text with these definitions parses to a tree.
 fn is_read_as<'a, R: Reader>(
-    tools: &Tools<'_, '_, R>,
+    tools: &Tools<'_, '_, '_, R>,
     text: &str,
     definitions: &str,
     events: &'a [(Event<'a>, (usize, usize))],
@@ -298,7 +301,7 @@ fn is_read_as<'a, R: Reader>(
 /// The text of a tree that is spelled near the source; else the one that the writer has, if it has one, as documents have it.
 /// None if neither parses to the tree.
 fn chosen_text<'a, R: Reader>(
-    tools: &Tools<'_, '_, R>,
+    tools: &Tools<'_, '_, '_, R>,
     options: Options<'_>,
     source: &str,
     events: &'a [(Event<'a>, (usize, usize))],
@@ -333,7 +336,7 @@ fn with_body(piece: Piece, body: String) -> Piece {
 
 /// A tree that is spelled near the source if it can be, or else as the writer spells it.
 pub(crate) fn write_near<'a, R: Reader>(
-    tools: &Tools<'_, '_, R>,
+    tools: &Tools<'_, '_, '_, R>,
     options: Options<'_>,
     source: &str,
     events: &'a [(Event<'a>, (usize, usize))],

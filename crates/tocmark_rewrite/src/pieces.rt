@@ -30,7 +30,7 @@ use tocmark_state::state::State;
 
 /// What reading and writing take beside a text or its events.
 #[derive(Drop)]
-pub struct Tools<'t, 'o, R> {
+pub struct Tools<'t, 'o, 'f, R> {
     pub alloc: Global,
     pub reader: &'t R,
     /// What reads units back, if it isn't the reader.
@@ -41,13 +41,16 @@ pub struct Tools<'t, 'o, R> {
     pub line_end: LineEnd,
     /// Whether texts are spelled as in the source.
     pub has_ranges: bool,
-    /// The paragraphs of the source, if new trees are spelled near them.
-    pub paragraphs: Option<&'t Paragraphs<'t>>,
+    /// The source as it was read, and its paragraphs.
+    pub(crate) read: &'f Work<'f>,
+    pub(crate) paragraphs: &'t Paragraphs,
+    /// Whether new trees are spelled near these paragraphs.
+    pub is_near: bool,
 }
 
-impl<'t, 'o, R> Tools<'t, 'o, R> {
+impl<'t, 'o, 'f, R> Tools<'t, 'o, 'f, R> {
     /// These, or those that spell trees as the writer does.
-    pub(crate) fn near_if(&self, is_near: bool) -> Tools<'t, 'o, R> {
+    pub(crate) fn near_if(&self, is_near: bool) -> Tools<'t, 'o, 'f, R> {
         Tools {
             alloc: self.alloc,
             reader: self.reader,
@@ -56,7 +59,9 @@ impl<'t, 'o, R> Tools<'t, 'o, R> {
             options: self.options,
             line_end: self.line_end,
             has_ranges: self.has_ranges,
-            paragraphs: if is_near { self.paragraphs } else { None },
+            read: self.read,
+            paragraphs: self.paragraphs,
+            is_near: is_near && self.is_near,
         }
     }
 }
@@ -148,7 +153,7 @@ fn without_end(text: &str) -> &str {
 ///
 /// An `Err` is one of those of `State::process_with_source_range` but `FormatFailed`.
 pub(crate) fn write_plain<'a, R: Reader>(
-    tools: &Tools<'_, '_, R>,
+    tools: &Tools<'_, '_, '_, R>,
     options: Options<'_>,
     source: &str,
     events: &'a [(Event<'a>, (usize, usize))],
@@ -175,12 +180,12 @@ pub(crate) fn write_plain<'a, R: Reader>(
 
 /// A tree, and the definitions that it asks for, near the source if the tools say so.
 pub fn write_with<'a, R: Reader>(
-    tools: &Tools<'_, '_, R>,
+    tools: &Tools<'_, '_, '_, R>,
     options: Options<'_>,
     source: &str,
     events: &'a [(Event<'a>, (usize, usize))],
 ) -> Result<Piece, Error> {
-    if tools.paragraphs.is_some() {
+    if tools.is_near {
         write_near(tools, options, source, events)
     } else {
         write_plain(tools, options, source, events)
@@ -189,7 +194,7 @@ pub fn write_with<'a, R: Reader>(
 
 /// A tree that begins at a byte of the source, written with the marker that is there.
 pub(crate) fn write_tree<'a, R: Reader>(
-    tools: &Tools<'_, '_, R>,
+    tools: &Tools<'_, '_, '_, R>,
     source: &str,
     begins: usize,
     events: &'a [(Event<'a>, (usize, usize))],
@@ -208,7 +213,7 @@ pub fn events_of<'e>(
 
 /// The piece of a tree, or why and where it is refused.
 fn piece_of<'a, R: Reader>(
-    tools: &Tools<'_, '_, R>,
+    tools: &Tools<'_, '_, '_, R>,
     source: &str,
     blocks: &[Block],
     joint: &Joint,
@@ -235,7 +240,7 @@ fn piece_of<'a, R: Reader>(
 
 /// The trees that aren't kept, each written by itself. An `Err` names the first one that is refused.
 pub(crate) fn make_pieces<'a, R: Reader>(
-    tools: &Tools<'_, '_, R>,
+    tools: &Tools<'_, '_, '_, R>,
     source: &str,
     work: &Work<'_>,
     joints: &[Joint],

@@ -144,7 +144,7 @@ fn says_same(
 /// The first tree at which a text is read otherwise than the events; none if it is read as them, and defines each label
 /// that the source does.
 fn refusal<R: Reader>(
-    tools: &Tools<'_, '_, R>,
+    tools: &Tools<'_, '_, '_, R>,
     work: &Work<'_>,
     text: &str,
     events: &[(Event<'_>, (usize, usize))],
@@ -167,7 +167,7 @@ fn refusal<R: Reader>(
 
 /// Of each tree, whether a text reads otherwise than it, although its neighbours may come and go.
 fn misread_trees<R: Reader>(
-    tools: &Tools<'_, '_, R>,
+    tools: &Tools<'_, '_, '_, R>,
     work: &Work<'_>,
     text: &str,
     events: &[(Event<'_>, (usize, usize))],
@@ -197,7 +197,7 @@ const ROUNDS: usize = 4;
 
 /// The source with just what was edited replaced, in the first way in which it is read as the events.
 fn patched_text<'a, R: DefinitionReader>(
-    tools: &Tools<'_, '_, R>,
+    tools: &Tools<'_, '_, '_, R>,
     source: &str,
     work: &Work<'a>,
     events: &'a [(Event<'a>, (usize, usize))],
@@ -236,7 +236,7 @@ fn patched_text<'a, R: DefinitionReader>(
 /// The definitions that written trees ask for, those that were in blocks which aren't kept, and the patches of the source
 /// by which the first ones take the place of the source's.
 fn definitions_for<R: DefinitionReader>(
-    tools: &Tools<'_, '_, R>,
+    tools: &Tools<'_, '_, '_, R>,
     source: &str,
     work: &Work<'_>,
     pieces: &[Piece],
@@ -277,7 +277,7 @@ struct Tried {
 /// Trees side by side, in the first manner in which they are read as the events, or else in the last one. The first manner
 /// changes least, so the tree at which that was read otherwise is reported.
 fn try_manners<R: Reader>(
-    tools: &Tools<'_, '_, R>,
+    tools: &Tools<'_, '_, '_, R>,
     source: &str,
     work: &Work<'_>,
     joints: &[Joint],
@@ -320,7 +320,7 @@ fn try_manners<R: Reader>(
 /// Kept blocks and written ones side by side, in the first manner in which they are read as the events, or else in the last
 /// one.
 fn side_by_side<'a, R: DefinitionReader>(
-    tools: &Tools<'_, '_, R>,
+    tools: &Tools<'_, '_, '_, R>,
     source: &str,
     work: &Work<'_>,
     events: &'a [(Event<'a>, (usize, usize))],
@@ -369,7 +369,7 @@ const LOOSENINGS: usize = 2;
 /// Puts kept and written blocks side by side, after a first text was refused. Blocks beside a change that parsed otherwise
 /// are written, too. None if no such text parses to the events.
 fn loosened_text<'a, R: DefinitionReader>(
-    tools: &Tools<'_, '_, R>,
+    tools: &Tools<'_, '_, '_, R>,
     source: &str,
     work: &Work<'_>,
     events: &'a [(Event<'a>, (usize, usize))],
@@ -410,7 +410,7 @@ fn loosened_text<'a, R: DefinitionReader>(
 /// Kept, patched and written blocks side by side, as they are read as the events. None if no tree can be patched, or if no
 /// such text is read so.
 fn standing_text<'a, R: DefinitionReader>(
-    tools: &Tools<'_, '_, R>,
+    tools: &Tools<'_, '_, '_, R>,
     source: &str,
     work: &Work<'a>,
     events: &'a [(Event<'a>, (usize, usize))],
@@ -454,7 +454,7 @@ fn standing_text<'a, R: DefinitionReader>(
 
 /// Kept blocks and written ones side by side, as they are read as the events.
 fn joined_text<'a, R: DefinitionReader>(
-    tools: &Tools<'_, '_, R>,
+    tools: &Tools<'_, '_, '_, R>,
     source: &str,
     work: &Work<'a>,
     events: &'a [(Event<'a>, (usize, usize))],
@@ -492,7 +492,7 @@ fn joined_text<'a, R: DefinitionReader>(
 
 /// The new text: the source if nothing was changed, else with patches, else kept and written blocks.
 fn new_text<'a, R: DefinitionReader>(
-    tools: &Tools<'_, '_, R>,
+    tools: &Tools<'_, '_, '_, R>,
     source: &str,
     work: &Work<'a>,
     events: &'a [(Event<'a>, (usize, usize))],
@@ -583,7 +583,9 @@ pub fn rewritten_slice<'a, R: DefinitionReader>(
         options: with_look(options, source, work.found),
         line_end: LineEnd::of(source),
         has_ranges: true,
-        paragraphs: Some(&paragraphs),
+        read: &work,
+        paragraphs: &paragraphs,
+        is_near: true,
     };
     let output = new_text(&tools, source, &work, events)?;
     Ok(answer(alloc, &work, output)?)
