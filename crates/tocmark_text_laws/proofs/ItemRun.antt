@@ -39,7 +39,7 @@ use Rattle.tocmark_text_laws.proofs.ItemTrees.{one_list}
 -- the lines come in
 
 -- pages with so many open containers at most
-abbrev Reaches : ItemStart → List ℕ → List ℕ → State → State → Type 0
+abbrev pub Reaches : ItemStart → List ℕ → List ℕ → State → State → Type 0
 Reaches item t q there here = (n : ℕ) × Inside item t q n there here
 
 run_in : (item : ItemStart) (first t q : List ℕ) (n before : ℕ) (ls' ls : List Line) (there here : State) → LinesOn (IsInItem first item.width) t q before n ls' ls → 0 < before → AllByRecursion (IsLine t) ls → 0 < item.width → 2 * n + 9 < 2 ^ 64 → Inside item t q (2 * n) there here
@@ -101,7 +101,7 @@ first_in m t q l' l f h start some one = by (beside t q l' l h.line)
         inside_more (item_of m) t q (0 + 2 * length r) (2 * (l.end - l.start)) _ _ (omega (arith, both.wide))
         (first_cells (item_of m) m.before t q l' l shift w r both (begins both same))
 
-run_first : (m : ItemMark) (t q : List ℕ) (ls' ls : List Line) → Fits m t → LinesOn (IsInItem (item_front m) (item_of m).width) t q 0 0 ls' ls → Leads ls → AllByRecursion (IsLine t) ls → 0 < length ls
+pub run_first : (m : ItemMark) (t q : List ℕ) (ls' ls : List Line) → Fits m t → LinesOn (IsInItem (item_front m) (item_of m).width) t q 0 0 ls' ls → Leads ls → AllByRecursion (IsLine t) ls → 0 < length ls
     → Reaches (item_of m) t q (fold (line_taken_in core_known q) first_page ls') (fold (line_taken_in core_known t) first_page ls)
 run_first m t q [] [] f h lead one some = absurd (omega (arith, some))
 run_first m t q [] (l ∷ ls) f h lead one some = absurd h

@@ -63,6 +63,7 @@ pub mod QuotedLines
 pub mod QuotedTrees
 pub mod QuotedRun
 pub mod Fronts
+pub mod Beyond
 pub mod SequencePieces
 pub mod SequencePages
 pub mod SequenceLeaves
@@ -102,3 +103,9 @@ pub mod LooseRun
 pub mod Outers
 pub mod OneBlock
 pub mod LooseRows
+pub mod OneMoreHeads
+pub mod OneMoreFirst
+pub mod OneMoreTrees
+pub mod OneMoreLeft
+pub mod OneMoreRun
+pub mod OneMoreRows

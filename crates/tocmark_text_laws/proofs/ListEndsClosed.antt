@@ -114,7 +114,7 @@ no_definitions : (mark : ℕ) → is_definitions (container.List mark) ≡ false
 unfolding is_definitions
 no_definitions mark = refl
 
-only_list : (t : List ℕ) (mark : ℕ) (s : State) → Lists mark s → containers (closed_to t 1 s).opened ≡ container.List mark ∷ []
+pub only_list : (t : List ℕ) (mark : ℕ) (s : State) → Lists mark s → containers (closed_to t 1 s).opened ≡ container.List mark ∷ []
 only_list t mark s h = closed_containers t 1 s ∙ ap (take 1) h.first
 
 left_one : (mark : ℕ) (v : State) (o : Opened) → v.opened ≡ o ∷ [] → o.container ≡ container.List mark → list_left v ≡ one_closed v

@@ -62,7 +62,7 @@ cells_passed q cs l s d c found same passes =
     ∙ ap (λ (os : List Opened). taken_at_in core_known q cs l (record { cursor = c; depth = d }) (record s { opened = os })) same
     ∙ ap (λ u. turn_taken_in core_known u q cs l (record { cursor = c; depth = d }) s) passes
 
-shut_passes : (q : List ℕ) (cs : List Cell) (l : Line) (p : LineStart) (s : State) → s.leaf ≡ leaf.Nothing → turn_of q cs l p s ≡ turn.Passes
+pub shut_passes : (q : List ℕ) (cs : List Cell) (l : Line) (p : LineStart) (s : State) → s.leaf ≡ leaf.Nothing → turn_of q cs l p s ≡ turn.Passes
 unfolding turn_of leaf_turn
 shut_passes q cs l p s h = by (nat_le (length s.opened) p.depth)
   where
@@ -131,7 +131,7 @@ pub touched_zero : (end line : ℕ) (qs : List ℕ) (os : List Opened) → touch
 touched_zero end line [] os = refl
 touched_zero end line (q ∷ qs) os = ap (λ x. if x then os else touched_from 0 end line qs (raised_at os q end line)) (let z : nat_le 0 q ≡ true = grind (arith, nat_tests) in z)
 
-no_first_quote : (mark : ℕ) (inner : List Container) → quotes_of 0 (container.List mark ∷ inner) ≡ quotes_of 1 inner
+pub no_first_quote : (mark : ℕ) (inner : List Container) → quotes_of 0 (container.List mark ∷ inner) ≡ quotes_of 1 inner
 unfolding is_quote
 no_first_quote mark inner = refl
 
@@ -141,7 +141,7 @@ pub record Waits (mark : ℕ) (s : State) : Type 0 where
   pub behind : Behind lists.inner
   pub quotes : s.quotes ≡ quotes_of 0 (containers s.opened)
 
-waiting_cells : (q : List ℕ) (cs : List Cell) (l : Line) (mark : ℕ) (s : State) → Margin cs → Waits mark s → turn_of q cs l (record { cursor = first_cursor cs; depth = 1 }) s ≡ turn.Passes
+pub waiting_cells : (q : List ℕ) (cs : List Cell) (l : Line) (mark : ℕ) (s : State) → Margin cs → Waits mark s → turn_of q cs l (record { cursor = first_cursor cs; depth = 1 }) s ≡ turn.Passes
     → cells_taken_in core_known q cs l s ≡ leaf_started_in core_known q cs l (record { cursor = first_cursor cs; depth = 1 }) s
 waiting_cells q cs l mark s m w passes = cells_passed q cs l s 1 (first_cursor cs) (listed_matched cs mark w.lists.inner s.opened s.quotes m w.lists.first w.behind) same passes
   where
@@ -150,7 +150,7 @@ waiting_cells q cs l mark s m w passes = cells_passed q cs l s 1 (first_cursor c
         ap (λ qs. touched_from 1 l.end l.number qs s.opened) (w.quotes ∙ ap (quotes_of 0) w.lists.first ∙ no_first_quote mark w.lists.inner)
         ∙ touched_low l.end l.number 0 w.lists.inner s.opened
 
-empty_cells : (q : List ℕ) (cs : List Cell) (l : Line) (s : State) → s.opened ≡ [] → s.leaf ≡ leaf.Nothing → cells_taken_in core_known q cs l s ≡ leaf_started_in core_known q cs l (record { cursor = first_cursor cs; depth = 0 }) s
+pub empty_cells : (q : List ℕ) (cs : List Cell) (l : Line) (s : State) → s.opened ≡ [] → s.leaf ≡ leaf.Nothing → cells_taken_in core_known q cs l s ≡ leaf_started_in core_known q cs l (record { cursor = first_cursor cs; depth = 0 }) s
 empty_cells q cs l s e h =
     cells_passed q cs l s 0 (first_cursor cs) (ap (λ (os : List Opened). matched cs os s.quotes) e) (touched_zero l.end l.number s.quotes s.opened) (shut_passes q cs l (record { cursor = first_cursor cs; depth = 0 }) s h)
 
@@ -160,7 +160,7 @@ no_paragraph : (k : Leaf) → k ≡ leaf.Nothing → is_paragraph k ≡ false
 unfolding is_paragraph
 no_paragraph k e = ap is_paragraph e
 
-not_directly : (d : ℕ) (s : State) → s.leaf ≡ leaf.Nothing → goes_directly d s ≡ false
+pub not_directly : (d : ℕ) (s : State) → s.leaf ≡ leaf.Nothing → goes_directly d s ≡ false
 unfolding goes_directly
 not_directly d s h = ap (λ b. b && nat_le (length s.opened) d) (no_paragraph s.leaf h)
 

@@ -118,7 +118,7 @@ leaf_known t s h = by s.leaf
     by (leaf.Metadata k) = finish s h
     by (leaf.Table x) = finish s h
 
-closed_known : (t : List ℕ) (d : ℕ) (s : State) → Known s → Known (closed_to t d s)
+pub closed_known : (t : List ℕ) (d : ℕ) (s : State) → Known s → Known (closed_to t d s)
 unfolding closed_to
 closed_known t d s h = times_known (length (leaf_closed t s).opened - d) (leaf_closed t s) (leaf_known t s h)
 
@@ -143,7 +143,7 @@ waits_after q mark (suc d) s low h = record {
 
 -- what the page of the text alone says of it
 
-pairs_containers : (f : Earlier) (there here : List Opened) → Pairs (OpenedOn f) there here → containers there ≡ containers here
+pub pairs_containers : (f : Earlier) (there here : List Opened) → Pairs (OpenedOn f) there here → containers there ≡ containers here
 pairs_containers f [] [] h = refl
 pairs_containers f [] (y ∷ ys) h = absurd h
 pairs_containers f (x ∷ xs) [] h = absurd h
@@ -183,7 +183,7 @@ first_home : Home first_page
 unfolding is_paragraph
 first_home = record { house = record { chain = tt; fit = tt; housed = tt }; words = λ w. absurd cc }
 
-first_core : is_core first_page.leaf ≡ true
+pub first_core : is_core first_page.leaf ≡ true
 unfolding is_core
 first_core = refl
 
@@ -220,11 +220,11 @@ pub blank_ends : (f : Earlier) (there here : State) → Pairs (OpenedOn f) there
 blank_ends f there here p same ends e = ap ends_before_blank same ∙ left_open (has_quote here.opened) (ends_before_blank here.leaf) ends (sym (pairs_quote f there.opened here.opened p) ∙ e)
 
 -- the page after the text and an empty line, if anything comes after them
-record Left (t v : List ℕ) (mark : ℕ) : Type 0 where
-  depth : ℕ
-  low : 1 ≤ depth
-  holds : Holds mark (fold (line_taken_in core_known ((t ++ 10 ∷ []) ++ v)) first_page (lines_of t))
-  page : fold (line_taken_in core_known ((t ++ 10 ∷ []) ++ v)) first_page (lines_of (t ++ 10 ∷ [])) ≡ closed_to ((t ++ 10 ∷ []) ++ v) depth (fold (line_taken_in core_known ((t ++ 10 ∷ []) ++ v)) first_page (lines_of t))
+pub record Left (t v : List ℕ) (mark : ℕ) : Type 0 where
+  pub depth : ℕ
+  pub low : 1 ≤ depth
+  pub holds : Holds mark (fold (line_taken_in core_known ((t ++ 10 ∷ []) ++ v)) first_page (lines_of t))
+  pub page : fold (line_taken_in core_known ((t ++ 10 ∷ []) ++ v)) first_page (lines_of (t ++ 10 ∷ [])) ≡ closed_to ((t ++ 10 ∷ []) ++ v) depth (fold (line_taken_in core_known ((t ++ 10 ∷ []) ++ v)) first_page (lines_of t))
 
 pub blank_cells : (q : List ℕ) (a b : ℕ) (s : State) → line_taken_in core_known q s (line a b b (b + 1)) ≡ cells_taken_in core_known q [] (line a b b (b + 1)) s
 unfolding line_taken_in
@@ -233,13 +233,13 @@ blank_cells q a b s = ap (λ bs. cells_taken_in core_known q (cells_of [] b bs) 
 pub feeds : (t : List ℕ) (mark : ℕ) → LeavesList t mark → Feed t
 feeds t mark c = subst (λ xs. Feed xs) (sym ((c.line).1)) (feed_end ((c.line).0))
 
-lines_more : (t : List ℕ) → length t < 2 ^ 64 - 1 → Feed t → (count : ℕ) × (lines_of (t ++ 10 ∷ []) ≡ lines_of t ++ line count (length t) (length t) (length t + 1) ∷ [])
+pub lines_more : (t : List ℕ) → length t < 2 ^ 64 - 1 → Feed t → (count : ℕ) × (lines_of (t ++ 10 ∷ []) ≡ lines_of t ++ line count (length t) (length t) (length t + 1) ∷ [])
 lines_more t small f = by (split_lines t (10 ∷ []) small f)
   where
     by : Splits t (10 ∷ []) (length t) (lines_of (t ++ 10 ∷ [])) (lines_of t) → (count : ℕ) × (lines_of (t ++ 10 ∷ []) ≡ lines_of t ++ line count (length t) (length t) (length t + 1) ∷ [])
     by split = (split.count, split.lines ∙ ap (λ ls. lines_of t ++ ls) (one_line (t ++ 10 ∷ []) split.count (length t)))
 
-left_after : (t v : List ℕ) (mark : ℕ) → LeavesList t mark → ends_leaf (after_lines t) ≡ true → 4 * (length t + length v) + 28 < 2 ^ 64 → Left t v mark
+pub left_after : (t v : List ℕ) (mark : ℕ) → LeavesList t mark → ends_leaf (after_lines t) ≡ true → 4 * (length t + length v) + 28 < 2 ^ 64 → Left t v mark
 left_after t v mark c ends small = by (lines_more t (omega (arith, small)) feed)
   where
     q : List ℕ

@@ -156,7 +156,7 @@ came_on item first t q top l' ls' ls there last came = record {
   goes = came.goes;
 }
 
-abbrev UpTo : ℕ → List Line → Type 0
+abbrev pub UpTo : ℕ → List Line → Type 0
 UpTo top ls = AllByRecursion (λ (l : Line). l.number ≤ top) ls
 
 core_in : (item : ItemStart) (t q : List ℕ) (n : ℕ) (there here : State) → Inside item t q n there here → is_core there.leaf ≡ true
@@ -225,11 +225,11 @@ lines_counted q before from at (b ∷ bs) = by (ends_here q b at) (lines_counted
     by true g again = (refl, g)
     by false g again = again
 
-counted_later : (before : ℕ) (xs ls : List Line) → Counted before (xs ++ ls) → Counted (before + length xs) ls
+pub counted_later : (before : ℕ) (xs ls : List Line) → Counted before (xs ++ ls) → Counted (before + length xs) ls
 counted_later before [] ls h = subst (λ n. Counted n ls) (let z : before ≡ before + 0 = omega arith in z) h
 counted_later before (x ∷ xs) ls h = subst (λ n. Counted n ls) (let z : before + 1 + length xs ≡ before + suc (length xs) = omega arith in z) (counted_later (before + 1) xs ls (h.1))
 
-counted_low : (before top : ℕ) (xs ls : List Line) → before + length xs ≤ top → Counted before (xs ++ ls) → UpTo top xs
+pub counted_low : (before top : ℕ) (xs ls : List Line) → before + length xs ≤ top → Counted before (xs ++ ls) → UpTo top xs
 counted_low before top [] ls low h = tt
 counted_low before top (x ∷ xs) ls low h = (let z : x.number ≡ plus before 1 = h.0 in omega (arith, z, low), counted_low (before + 1) top xs ls (omega (arith, low)) (h.1))
 

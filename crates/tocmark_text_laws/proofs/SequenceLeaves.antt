@@ -36,7 +36,8 @@ use Rattle.tocmark_read_blocks.specs.declared.leaf.Turn.TheVariants as turn
 use Rattle.tocmark_text_laws.specs.Quoted.{Fenced, Heading as HeadingSort, sort_of}
 use Rattle.tocmark_text_laws.proofs.Alls.{all_set, all_got, all_changed}
 use Rattle.tocmark_text_laws.proofs.Pairs.{PairOf, set_length, changed_length}
-use Rattle.tocmark_text_laws.proofs.Fronts.{Past, past, past_length, past_got, past_set, past_place, past_last}
+use Rattle.tocmark_text_laws.proofs.Fronts.{past, past_length}
+use Rattle.tocmark_text_laws.proofs.Beyond.{beyond, Beyond, beyond_place, beyond_got, beyond_set, beyond_last}
 use Rattle.tocmark_text_laws.proofs.QuotedPages.{Shape}
 use Rattle.tocmark_text_laws.proofs.QuotedLeaves.{paragraph_open}
 use Rattle.tocmark_text_laws.proofs.SequencePieces.{PieceOn, LineOn, code_on, text_on, heading_on}
@@ -129,17 +130,17 @@ html_firm t q f n m l cs p k there here h i =
 
 text_started_firm : (t q : List ℕ) (f : Earlier) (n start far : ℕ) (there here : State) → Firm t q f n there here → Firm t q f n (text_started start there) (text_started far here)
 unfolding text_started
-text_started_firm t q f n start far there here g = rw (place, past_length f.pieces (PieceOn t q) there.pieces here.pieces h.pieces) (by (slice_get there.blocks (past f.blocks (length here.blocks - 1))) (slice_get here.blocks (length here.blocks - 1)) refl (past_got f.blocks (BlockOn t q f n) (length here.blocks - 1) there.blocks here.blocks h.blocks))
+text_started_firm t q f n start far there here g = rw (place, past_length f.pieces (PieceOn t q) there.pieces here.pieces h.pieces) (by (slice_get there.blocks (beyond f.blocks (length here.blocks - 1))) (slice_get here.blocks (length here.blocks - 1)) refl (beyond_got f.blocks (BlockOn t q f n) there.blocks here.blocks h.blocks))
   where
     h : Onward t q f n there here
     h = g.onward
 
-    place : length there.blocks - 1 ≡ past f.blocks (length here.blocks - 1)
-    place = past_place f.blocks (BlockOn t q f n) there.blocks here.blocks h.blocks g.some
+    place : length there.blocks - 1 ≡ beyond f.blocks (length here.blocks - 1)
+    place = beyond_place f.blocks (BlockOn t q f n) there.blocks here.blocks h.blocks g.some
 
-    begins : (x y : Block) → slice_get here.blocks (length here.blocks - 1) ≡ Some y → BlockOn t q f n x y → (k : Bool) → Firm t q f n (if k then record there { blocks = slice_set there.blocks (past f.blocks (length here.blocks - 1)) (record x { start = start }) } else there) (if k then record here { blocks = slice_set here.blocks (length here.blocks - 1) (record y { start = far }) } else here)
+    begins : (x y : Block) → slice_get here.blocks (length here.blocks - 1) ≡ Some y → BlockOn t q f n x y → (k : Bool) → Firm t q f n (if k then record there { blocks = slice_set there.blocks (beyond f.blocks (length here.blocks - 1)) (record x { start = start }) } else there) (if k then record here { blocks = slice_set here.blocks (length here.blocks - 1) (record y { start = far }) } else here)
     begins x y e u true = record {
-      onward = record { opened = h.opened; blocks = past_set f.blocks (BlockOn t q f n) (length here.blocks - 1) (record x { start = start }) (record y { start = far }) (record { shape = u.shape; low = u.low }) there.blocks here.blocks h.blocks; pieces = h.pieces; definitions = h.definitions; quotes = h.quotes; leaf = h.leaf; core = h.core; few = h.few; room = h.room; lasts = all_set (Within here.kept (length here.pieces)) here.blocks (length here.blocks - 1) (record y { start = far }) h.lasts (all_got (Within here.kept (length here.pieces)) here.blocks (length here.blocks - 1) y h.lasts e); tied = λ o. (g.line, some, g.kept) };
+      onward = record { opened = h.opened; inner = h.inner; blocks = beyond_set f.blocks (BlockOn t q f n) (record x { start = start }) (record y { start = far }) (record { shape = u.shape; low = u.low }) there.blocks here.blocks h.blocks; pieces = h.pieces; definitions = h.definitions; quotes = h.quotes; leaf = h.leaf; core = h.core; few = h.few; room = h.room; lasts = all_set (Within here.kept (length here.pieces)) here.blocks (length here.blocks - 1) (record y { start = far }) h.lasts (all_got (Within here.kept (length here.pieces)) here.blocks (length here.blocks - 1) y h.lasts e); tied = λ o. (g.line, some, g.kept) };
       line = g.line;
       some = some;
       kept = g.kept;
@@ -153,12 +154,12 @@ text_started_firm t q f n start far there here g = rw (place, past_length f.piec
     test x y u = ap (λ (s : Shape). nat_le (past f.pieces (length here.pieces)) s.first) u.shape ∙ le_past f.pieces (length here.pieces) y.first
 
     by : (o p : Option Block) → slice_get here.blocks (length here.blocks - 1) ≡ p → PairOf (BlockOn t q f n) o p
-        → Firm t q f n (option_map_or (λ (b : Block). if nat_le (past f.pieces (length here.pieces)) b.first then record there { blocks = slice_set there.blocks (past f.blocks (length here.blocks - 1)) (record b { start = start }) } else there) o there)
+        → Firm t q f n (option_map_or (λ (b : Block). if nat_le (past f.pieces (length here.pieces)) b.first then record there { blocks = slice_set there.blocks (beyond f.blocks (length here.blocks - 1)) (record b { start = start }) } else there) o there)
         (option_map_or (λ (b : Block). if nat_le (length here.pieces) b.first then record here { blocks = slice_set here.blocks (length here.blocks - 1) (record b { start = far }) } else here) p here)
     by None None e u = g
     by None (Some y) e u = absurd u
     by (Some x) None e u = absurd u
-    by (Some x) (Some y) e u = subst (λ k. Firm t q f n (if k then record there { blocks = slice_set there.blocks (past f.blocks (length here.blocks - 1)) (record x { start = start }) } else there) (if nat_le (length here.pieces) y.first then record here { blocks = slice_set here.blocks (length here.blocks - 1) (record y { start = far }) } else here)) (sym (test x y u)) (begins x y e u (nat_le (length here.pieces) y.first))
+    by (Some x) (Some y) e u = subst (λ k. Firm t q f n (if k then record there { blocks = slice_set there.blocks (beyond f.blocks (length here.blocks - 1)) (record x { start = start }) } else there) (if nat_le (length here.pieces) y.first then record here { blocks = slice_set here.blocks (length here.blocks - 1) (record y { start = far }) } else here)) (sym (test x y u)) (begins x y e u (nat_le (length here.pieces) y.first))
 
 in_paragraph_firm : (t q : List ℕ) (f : Earlier) (n m : ℕ) (l : Line) (cs : List Cell) (p : LineStart) (there here : State) → Shared t q f n m l cs → Onward t q f n there here → Firm t q f n (in_paragraph q cs (numbered m l) p there) (in_paragraph t cs l p here)
 unfolding is_core
@@ -197,7 +198,7 @@ heading_firm t q f n m l cs p x there here h i =
 pub underlined_firm : (t q : List ℕ) (f : Earlier) (n m : ℕ) (level : HeadingLevel) (l : Line) (there here : State) → m + f.lines ≡ l.number → Firm t q f n there here → Firm t q f n (underlined_in core_known q level (numbered m l) there) (underlined_in core_known t level l here)
 unfolding underlined_in underlined
 underlined_firm t q f n m level l there here later g = finished_firm t q f n _ _ (record {
-  onward = record { opened = h.opened; blocks = blocks; pieces = h.pieces; definitions = h.definitions; quotes = h.quotes; leaf = h.leaf; core = h.core; few = h.few; room = h.room; lasts = all_changed (Within here.kept (length here.pieces)) here.blocks (length here.blocks - 1) headed (λ y e w. w) h.lasts; tied = λ o. (later, some, g.kept) };
+  onward = record { opened = h.opened; inner = h.inner; blocks = blocks; pieces = h.pieces; definitions = h.definitions; quotes = h.quotes; leaf = h.leaf; core = h.core; few = h.few; room = h.room; lasts = all_changed (Within here.kept (length here.pieces)) here.blocks (length here.blocks - 1) headed (λ y e w. w) h.lasts; tied = λ o. (later, some, g.kept) };
   line = later;
   some = some;
   kept = g.kept;
@@ -209,15 +210,15 @@ underlined_firm t q f n m level l there here later g = finished_firm t q f n _ _
     headed : Block → Block
     headed b = record b { kind = kind.Heading level None }
 
-    blocks : Past f.blocks (BlockOn t q f n) (of_kind (kind.Heading level None) there.blocks) (of_kind (kind.Heading level None) here.blocks)
-    blocks = past_last f.blocks (BlockOn t q f n) headed headed (λ x y k. record { shape = ap (λ (s : Shape). record s { sort = HeadingSort level }) k.shape; low = k.low }) there.blocks here.blocks h.blocks g.some
+    blocks : Beyond f.blocks (BlockOn t q f n) (of_kind (kind.Heading level None) there.blocks) (of_kind (kind.Heading level None) here.blocks)
+    blocks = beyond_last f.blocks (BlockOn t q f n) headed headed (λ x y k. record { shape = ap (λ (s : Shape). record s { sort = HeadingSort level }) k.shape; low = k.low }) there.blocks here.blocks h.blocks g.some
 
     some : 0 < length (of_kind (kind.Heading level None) here.blocks)
     some = omega (arith, g.some, changed_length (length here.blocks - 1) headed here.blocks)
 
 pub ended_firm : (t q : List ℕ) (f : Earlier) (n m : ℕ) (l : Line) (there here : State) → m + f.lines ≡ l.number → Firm t q f n there here → Firm t q f n (leaf_finished (record there { end = l.end; line = m })) (leaf_finished (record here { end = l.end; line = l.number }))
 ended_firm t q f n m l there here later g = finished_firm t q f n _ _ (record {
-  onward = record { opened = h.opened; blocks = h.blocks; pieces = h.pieces; definitions = h.definitions; quotes = h.quotes; leaf = h.leaf; core = h.core; few = h.few; room = h.room; lasts = h.lasts; tied = λ o. (later, g.some, g.kept) };
+  onward = record { opened = h.opened; inner = h.inner; blocks = h.blocks; pieces = h.pieces; definitions = h.definitions; quotes = h.quotes; leaf = h.leaf; core = h.core; few = h.few; room = h.room; lasts = h.lasts; tied = λ o. (later, g.some, g.kept) };
   line = later;
   some = g.some;
   kept = g.kept;

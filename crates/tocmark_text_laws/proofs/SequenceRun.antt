@@ -40,6 +40,7 @@ use Rattle.tocmark_text_laws.proofs.Pages.{is_shut}
 use Rattle.tocmark_text_laws.proofs.Leaves.{is_core}
 use Rattle.tocmark_text_laws.proofs.Pairs.{Pairs, pairs_length, pairs_take, pairs_drop}
 use Rattle.tocmark_text_laws.proofs.Fronts.{Past, past, past_is, past_drop, past_take}
+use Rattle.tocmark_text_laws.proofs.Beyond.{Ahead, Before, beyond}
 use Rattle.tocmark_text_laws.proofs.QuotedPages.{Shape, shape_of}
 use Rattle.tocmark_text_laws.proofs.SequencePieces.{PieceOn}
 use Rattle.tocmark_text_laws.proofs.SequencePages.{Earlier, OpenedOn, shape_on, BlockOn, Within, Onward, closed_on}
@@ -49,7 +50,7 @@ use Rattle.tocmark_text_laws.proofs.SequenceTrees.{Outermost, trees_in_a_row}
 
 -- the lines come in
 
-run_on : (t q : List ℕ) (f : Earlier) (n : ℕ) (ls' ls : List Line) (there here : State) → Pairs (Follows f.lines) ls' ls → AllByRecursion (Shares t q) ls → length f.pieces + (n + length ls) + 1 < 2 ^ 64 - 1 → Onward t q f n there here
+pub run_on : (t q : List ℕ) (f : Earlier) (n : ℕ) (ls' ls : List Line) (there here : State) → Pairs (Follows f.lines) ls' ls → AllByRecursion (Shares t q) ls → length f.pieces + (n + length ls) + 1 < 2 ^ 64 - 1 → Onward t q f n there here
     → Onward t q f (n + length ls) (fold (line_taken_in core_known q) there ls') (fold (line_taken_in core_known t) here ls)
 run_on t q f n [] [] there here p s room h = subst (λ m. Onward t q f m there here) (let z : n ≡ n + 0 = omega arith in z) h
 run_on t q f n [] (l ∷ ls) there here p s room h = absurd p
@@ -62,26 +63,27 @@ run_on t q f n (l' ∷ ls') (l ∷ ls) there here p s room h =
 
 -- nothing is in front
 abbrev pub alone : Earlier
-alone = record { blocks = []; pieces = []; definitions = []; lines = 0 }
+alone = record { blocks = Before []; pieces = []; definitions = []; lines = 0 }
 
 first_onward : (t q : List ℕ) → Onward t q alone 0 first_page first_page
 unfolding is_core is_shut
-first_onward t q = record { opened = tt; blocks = tt; pieces = tt; definitions = refl; quotes = refl; leaf = refl; core = refl; few = omega arith; room = omega arith; lasts = tt; tied = λ o. absurd cc }
+first_onward t q = record { opened = tt; inner = tt; blocks = tt; pieces = tt; definitions = refl; quotes = refl; leaf = refl; core = refl; few = omega arith; room = omega arith; lasts = tt; tied = λ o. absurd cc }
 
 same_lines : (ls : List Line) → Pairs (Follows 0) ls ls
 same_lines [] = tt
 same_lines (l ∷ ls) = ((refl, omega arith), same_lines ls)
 
-past_self : {A B : Type 0} (fs : List A) (R : A → B → Type 0) → Past fs R fs []
+pub past_self : {A B : Type 0} (fs : List A) (R : A → B → Type 0) → Past fs R fs []
 past_self [] R = tt
 past_self (f ∷ fs) R = (refl, past_self fs R)
 
 -- the page after the first text, with all of it in front
 begin_onward : (t q : List ℕ) (s : State) (d : ℕ) → s.leaf ≡ leaf.Nothing → s.opened ≡ [] → s.quotes ≡ [] → length s.pieces + 1 < 2 ^ 64 - 1
-    → Onward t q (record { blocks = s.blocks; pieces = s.pieces; definitions = s.definitions; lines = d }) 0 s first_page
+    → Onward t q (record { blocks = Before s.blocks; pieces = s.pieces; definitions = s.definitions; lines = d }) 0 s first_page
 unfolding is_core is_shut
 begin_onward t q s d l o qs room = record {
   opened = subst (λ os. Pairs (OpenedOn f) os []) (sym o) tt;
+  inner = tt;
   blocks = past_self s.blocks (BlockOn t q f 0);
   pieces = past_self s.pieces (PieceOn t q);
   definitions = sym (append-nil s.definitions);
@@ -95,7 +97,7 @@ begin_onward t q s d l o qs room = record {
 }
   where
     f : Earlier
-    f = record { blocks = s.blocks; pieces = s.pieces; definitions = s.definitions; lines = d }
+    f = record { blocks = Before s.blocks; pieces = s.pieces; definitions = s.definitions; lines = d }
 
 -- nothing is left to end
 pub closed_already : (t : List ℕ) (s : State) → s.leaf ≡ leaf.Nothing → s.opened ≡ [] → closed_to t 0 s ≡ s
@@ -130,22 +132,27 @@ lists_later : {A : Type 0} (fs : List A) (list : Option ℕ) → option_map (pas
 lists_later fs None = refl
 lists_later fs (Some i) = ap Some (past_is fs i)
 
-block_later : (t q : List ℕ) (f : Earlier) (n : ℕ) (ps' ps : List Piece) (x y : Block) → Past f.pieces (PieceOn t q) ps' ps → BlockOn t q f n x y → told q ps' x ≡ later (length f.blocks) (told t ps y)
-block_later t q f n ps' ps x y h u =
+-- the same block in another list
+abbrev pub relisted : Option ℕ → Told → Told
+relisted list b = record { depth = b.depth; sort = b.sort; loose = b.loose; list = list; lines = b.lines }
+
+pub block_relisted : (t q : List ℕ) (f : Earlier) (n : ℕ) (ps' ps : List Piece) (x y : Block) → Past f.pieces (PieceOn t q) ps' ps → BlockOn t q f n x y → told q ps' x ≡ relisted (option_map (beyond f.blocks) y.list) (told t ps y)
+block_relisted t q f n ps' ps x y h u =
     ap (λ (s : Shape). shown s (map (line_told q) (drop s.first (take s.last ps')))) u.shape
     ∙ ap (shown (shape_on f (shape_of t y))) (lines_same t q (drop (past f.pieces y.first) (take (past f.pieces y.last) ps')) (drop y.first (take y.last ps)) (past_drop f.pieces (PieceOn t q) y.first (take (past f.pieces y.last) ps') (take y.last ps) (past_take f.pieces (PieceOn t q) y.last ps' ps h)))
-    ∙ ap made (lists_later f.blocks y.list)
-  where
-    made : Option ℕ → Told
-    made list = record { depth = y.depth; sort = sort_of t y.kind; loose = y.loose; list = list; lines = map (line_told t) (drop y.first (take y.last ps)) }
 
-blocks_later : (t q : List ℕ) (f : Earlier) (n : ℕ) (ps' ps : List Piece) (fs xs ys : List Block) → Past f.pieces (PieceOn t q) ps' ps → Past fs (BlockOn t q f n) xs ys → map (told q ps') xs ≡ map (told q ps') fs ++ map (later (length f.blocks)) (map (told t ps) ys)
-blocks_later t q f n ps' ps [] [] [] h u = refl
-blocks_later t q f n ps' ps [] [] (y ∷ ys) h u = absurd u
-blocks_later t q f n ps' ps [] (x ∷ xs) [] h u = absurd u
-blocks_later t q f n ps' ps [] (x ∷ xs) (y ∷ ys) h u = ap (λ b. b ∷ map (told q ps') xs) (block_later t q f n ps' ps x y h (u.0)) ∙ ap (λ bs. later (length f.blocks) (told t ps y) ∷ bs) (blocks_later t q f n ps' ps [] xs ys h (u.1))
-blocks_later t q f n ps' ps (g ∷ gs) [] ys h u = absurd u
-blocks_later t q f n ps' ps (g ∷ gs) (x ∷ xs) ys h u = ap (λ z. told q ps' z ∷ map (told q ps') xs) (u.0) ∙ ap (λ bs. told q ps' g ∷ bs) (blocks_later t q f n ps' ps gs xs ys h (u.1))
+block_later : (t q : List ℕ) (f : Earlier) (gs : List Block) (n : ℕ) (ps' ps : List Piece) (x y : Block) → f.blocks ≡ Before gs → Past f.pieces (PieceOn t q) ps' ps → BlockOn t q f n x y → told q ps' x ≡ later (length gs) (told t ps y)
+block_later t q f gs n ps' ps x y e h u =
+    block_relisted t q f n ps' ps x y h u
+    ∙ ap (λ list. relisted list (told t ps y)) (ap (λ (g : Ahead). option_map (beyond g) y.list) e ∙ lists_later gs y.list)
+
+blocks_later : (t q : List ℕ) (f : Earlier) (hs : List Block) (n : ℕ) (ps' ps : List Piece) (fs xs ys : List Block) → f.blocks ≡ Before hs → Past f.pieces (PieceOn t q) ps' ps → Past fs (BlockOn t q f n) xs ys → map (told q ps') xs ≡ map (told q ps') fs ++ map (later (length hs)) (map (told t ps) ys)
+blocks_later t q f hs n ps' ps [] [] [] e h u = refl
+blocks_later t q f hs n ps' ps [] [] (y ∷ ys) e h u = absurd u
+blocks_later t q f hs n ps' ps [] (x ∷ xs) [] e h u = absurd u
+blocks_later t q f hs n ps' ps [] (x ∷ xs) (y ∷ ys) e h u = ap (λ b. b ∷ map (told q ps') xs) (block_later t q f hs n ps' ps x y e h (u.0)) ∙ ap (λ bs. later (length hs) (told t ps y) ∷ bs) (blocks_later t q f hs n ps' ps [] xs ys e h (u.1))
+blocks_later t q f hs n ps' ps (g ∷ gs) [] ys e h u = absurd u
+blocks_later t q f hs n ps' ps (g ∷ gs) (x ∷ xs) ys e h u = ap (λ z. told q ps' z ∷ map (told q ps') xs) (u.0) ∙ ap (λ bs. told q ps' g ∷ bs) (blocks_later t q f hs n ps' ps gs xs ys e h (u.1))
 
 -- the blocks in front keep their lines
 
@@ -159,7 +166,7 @@ no_lines zero (suc last) ps h = absurd (omega (arith, h))
 no_lines (suc first) (suc last) [] h = refl
 no_lines (suc first) (suc last) (p ∷ ps) h = no_lines first last ps (omega (arith, h))
 
-take_front : {B : Type 0} (R : Piece → B → Type 0) (n : ℕ) (fs xs : List Piece) (ys : List B) → n ≤ length fs → Past fs R xs ys → take n xs ≡ take n fs
+pub take_front : {B : Type 0} (R : Piece → B → Type 0) (n : ℕ) (fs xs : List Piece) (ys : List B) → n ≤ length fs → Past fs R xs ys → take n xs ≡ take n fs
 take_front R zero fs xs ys h k = refl
 take_front R (suc n) [] xs ys h k = absurd (omega (arith, h))
 take_front R (suc n) (f ∷ fs) [] ys h k = absurd k
@@ -223,11 +230,11 @@ blocks_front : (t : List ℕ) (c : ℕ) (ps : List Piece) (bs : List Block) → 
 blocks_front t c ps [] = refl
 blocks_front t c ps (b ∷ bs) = ap (λ z. z ∷ map (told (c ∷ t) (map piece_on ps)) (map block_on bs)) (block_front t c ps b) ∙ ap (λ zs. told t ps b ∷ zs) (blocks_front t c ps bs)
 
-record Same (t u : List ℕ) : Type 0 where
-  blocks : blocks_told t (blocks_in CORE t) ≡ blocks_told u (blocks_in CORE u)
-  definitions : (blocks_in CORE t).definitions ≡ (blocks_in CORE u).definitions
+pub record Same (t u : List ℕ) : Type 0 where
+  pub blocks : blocks_told t (blocks_in CORE t) ≡ blocks_told u (blocks_in CORE u)
+  pub definitions : (blocks_in CORE t).definitions ≡ (blocks_in CORE u).definitions
 
-same_after : (n : ℕ) (u : List ℕ) → n + length u + 3 < 2 ^ 64 → Same (replicate n 10 ++ u) u
+pub same_after : (n : ℕ) (u : List ℕ) → n + length u + 3 < 2 ^ 64 → Same (replicate n 10 ++ u) u
 same_after zero u small = record { blocks = refl; definitions = refl }
 same_after (suc n) u small = by (same_after n u (omega (arith, small)))
   where
@@ -245,7 +252,7 @@ same_after (suc n) u small = by (same_after n u (omega (arith, small)))
 
 -- the first block of a text is in no container
 
-outermost : (t : List ℕ) → Outermost (blocks_told t (blocks_in CORE t))
+pub outermost : (t : List ℕ) → Outermost (blocks_told t (blocks_in CORE t))
 outermost t = by (blocks_in CORE t).blocks (blocks_housed t)
   where
     by : (bs : List Block) → AreHoused [] bs → Outermost (map (told t (blocks_in CORE t).pieces) bs)
@@ -302,19 +309,23 @@ first_run t u small feed split some =
     (shared_lines t (t ++ u) 0 (length t - 1) 0 (lines_of t) (omega (arith, small)) (omega arith) split.low (agrees_front t u some) (lines_ascend (Inside t) t (inside t)) (lines-end t (omega (arith, small))) (lines_low t (omega (arith, small))))
     (omega (arith, small, lines_few t 0 0 0 t)) (first_onward t (t ++ u))
 
-blanked_lines : (t u : List ℕ) → lines_of (blanked t u) ≡ blanks 0 (length t) ++ lines_from (blanked t u) (length t) (length t) (length t) u
+pub blanked_lines : (t u : List ℕ) → lines_of (blanked t u) ≡ blanks 0 (length t) ++ lines_from (blanked t u) (length t) (length t) (length t) u
 blanked_lines t u = blank_lines (blanked t u) u 0 (length t) ∙ ap (λ n. blanks 0 (length t) ++ lines_from (blanked t u) n n n u) (let z : 0 + length t ≡ length t = omega arith in z)
 
--- the lines after it
-second_run : (t u : List ℕ) (count : ℕ) (f : Earlier) (s : State) → 4 * (length t + length u) + 20 < 2 ^ 64 → count ≤ length t → f.lines ≡ length t - count → length f.pieces ≤ length t + 1 → Onward (blanked t u) (t ++ u) f 0 s first_page
-    → Onward (blanked t u) (t ++ u) f (0 + length (lines_from (blanked t u) (length t) (length t) (length t) u)) (fold (line_taken_in core_known (t ++ u)) s (lines_from (t ++ u) count (length t) (length t) u)) (fold (line_taken_in core_known (blanked t u)) first_page (lines_from (blanked t u) (length t) (length t) (length t) u))
-second_run t u count f s small few shift pieces h =
-    run_on v q f 0 (lines_from q count k k u) ls s first_page
-    (subst (λ d. Pairs (Follows d) (lines_from q count k k u) ls) (sym shift) (follow_from t (replicate k 10) u (k - count) count k k k u wide (omega (arith, few)) (omega (arith, small)) (omega (arith, small, long)) (omega arith) (omega arith) (sym long)))
-    (shared_lines v q k (length v) k ls (omega (arith, small, long)) (omega arith) (within_text v k ls ascend) (agrees_later t (replicate k 10) u wide) ascend
-    (all_back (IsLine v) (blanks 0 k) ls (subst (λ xs. AllByRecursion (IsLine v) xs) (blanked_lines t u) (lines-end v (omega (arith, small, long)))))
-    (all_back LowLine (blanks 0 k) ls (subst (λ xs. AllByRecursion LowLine xs) (blanked_lines t u) (lines_low v (omega (arith, small, long))))))
-    (omega (arith, small, pieces, lines_few v k k k u)) h
+-- the lines after it, in both
+pub record Seconds (t u : List ℕ) (count : ℕ) : Type 0 where
+  pub pairs : Pairs (Follows (length t - count)) (lines_from (t ++ u) count (length t) (length t) u) (lines_from (blanked t u) (length t) (length t) (length t) u)
+  pub shares : AllByRecursion (Shares (blanked t u) (t ++ u)) (lines_from (blanked t u) (length t) (length t) (length t) u)
+  pub ascend : Ascend (Inside (blanked t u)) (blanked t u) (length t) (lines_from (blanked t u) (length t) (length t) (length t) u)
+  pub ones : AllByRecursion (IsLine (blanked t u)) (lines_from (blanked t u) (length t) (length t) (length t) u)
+
+pub second_lines : (t u : List ℕ) (count : ℕ) → 4 * (length t + length u) + 20 < 2 ^ 64 → count ≤ length t → Seconds t u count
+second_lines t u count small few = record {
+  pairs = follow_from t (replicate k 10) u (k - count) count k k k u wide (omega (arith, few)) (omega (arith, small)) (omega (arith, small, long)) (omega arith) (omega arith) (sym long);
+  shares = shared_lines v q k (length v) k ls (omega (arith, small, long)) (omega arith) (within_text v k ls ascend) (agrees_later t (replicate k 10) u wide) ascend ones (all_back LowLine (blanks 0 k) ls (subst (λ xs. AllByRecursion LowLine xs) (blanked_lines t u) (lines_low v (omega (arith, small, long)))));
+  ascend = ascend;
+  ones = ones;
+}
   where
     k : ℕ
     k = length t
@@ -339,6 +350,22 @@ second_run t u count f s small few shift pieces h =
 
     ascend : Ascend (Inside v) v k ls
     ascend = from_ascends (Inside v) v k k k k u (inside v) rest (omega arith) (omega arith) (omega (arith, long))
+
+    ones : AllByRecursion (IsLine v) ls
+    ones = all_back (IsLine v) (blanks 0 k) ls (subst (λ xs. AllByRecursion (IsLine v) xs) (blanked_lines t u) (lines-end v (omega (arith, small, long))))
+
+second_run : (t u : List ℕ) (count : ℕ) (f : Earlier) (s : State) → 4 * (length t + length u) + 20 < 2 ^ 64 → count ≤ length t → f.lines ≡ length t - count → length f.pieces ≤ length t + 1 → Onward (blanked t u) (t ++ u) f 0 s first_page
+    → Onward (blanked t u) (t ++ u) f (0 + length (lines_from (blanked t u) (length t) (length t) (length t) u)) (fold (line_taken_in core_known (t ++ u)) s (lines_from (t ++ u) count (length t) (length t) u)) (fold (line_taken_in core_known (blanked t u)) first_page (lines_from (blanked t u) (length t) (length t) (length t) u))
+second_run t u count f s small few shift pieces h =
+    run_on (blanked t u) (t ++ u) f 0 (lines_from (t ++ u) count (length t) (length t) u) ls s first_page
+    (subst (λ d. Pairs (Follows d) (lines_from (t ++ u) count (length t) (length t) u) ls) (sym shift) both.pairs) both.shares
+    (omega (arith, small, pieces, lines_few (blanked t u) (length t) (length t) (length t) u)) h
+  where
+    ls : List Line
+    ls = lines_from (blanked t u) (length t) (length t) (length t) u
+
+    both : Seconds t u count
+    both = second_lines t u count small few
 
 -- both texts, if the lines of the second one close what is open after the first one
 
@@ -379,7 +406,7 @@ after_row t u feed some small split closes quotes = record { blocks = blocks; de
     no_quotes = first.quotes ∙ quotes
 
     f : Earlier
-    f = record { blocks = there.blocks; pieces = there.pieces; definitions = there.definitions; lines = k - split.count }
+    f = record { blocks = Before there.blocks; pieces = there.pieces; definitions = there.definitions; lines = k - split.count }
 
     few : length there.pieces ≤ k + 1
     few = omega (arith, pairs_length (PieceOn t q) there.pieces here.pieces first.pieces, first.few, lines_few t 0 0 0 t)
@@ -413,7 +440,7 @@ after_row t u feed some small split closes quotes = record { blocks = blocks; de
 
     told_row : tell q end_there ≡ tell t here ++ map (later (length here.blocks)) (tell v end_here)
     told_row =
-        blocks_later v q f n end_there.pieces end_here.pieces there.blocks end_there.blocks end_here.blocks done.pieces done.blocks
+        blocks_later v q f there.blocks n end_there.pieces end_here.pieces there.blocks end_there.blocks end_here.blocks refl done.pieces done.blocks
         ∙ ap (λ bs. bs ++ map (later (length there.blocks)) (tell v end_here)) in_front
         ∙ ap (λ m. tell t here ++ map (later m) (tell v end_here)) count
 

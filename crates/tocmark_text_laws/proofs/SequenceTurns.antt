@@ -33,7 +33,7 @@ use Rattle.tocmark_read_blocks.specs.declared.leaf.Turn.{Turn}
 use Rattle.tocmark_read_blocks.specs.declared.leaf.Turn.TheVariants as turn
 use Rattle.tocmark_text_laws.proofs.Pairs.{Pairs, PairOf, pairs_length}
 use Rattle.tocmark_text_laws.proofs.Fronts.{last_got}
-use Rattle.tocmark_text_laws.proofs.SequencePages.{Earlier, numbered, OpenedOn, Onward, Firm, firm, settled_firm, closed_on, touched_on, list_left_on, opened_with_on, has_text_on}
+use Rattle.tocmark_text_laws.proofs.SequencePages.{Earlier, numbered, OpenedOn, Onward, Firm, firm, settled_firm, closed_on, touched_inner, touched_on, list_left_on, opened_with_on, has_text_on}
 use Rattle.tocmark_text_laws.proofs.SequenceLeaves.{Shared, wider, code_taken_firm, indented_firm, fence_firm, html_firm, text_taken_firm, rule_firm, heading_firm, underlined_firm, ended_firm, FineLeaf, leaf_fine, FineTurn, turn_fine}
 use Rattle.tocmark_text_laws.proofs.QuotedTurns.{directly_open}
 use Rattle.tocmark_text_laws.proofs.Pages.{is_shut}
@@ -100,10 +100,10 @@ once_on t q f n m l cs tail p there here s h =
     rw (directly_on t q f n p.depth there here h) (begun_on t q f n m l cs p (container_in CORE cs tail p.cursor (goes_directly p.depth here)) there here s (container_core cs tail p.cursor (goes_directly p.depth here)) h)
 
 -- both states after all steps
-abbrev Went : List ℕ → List ℕ → Earlier → ℕ → State × LineStart → State × LineStart → Type 0
+abbrev pub Went : List ℕ → List ℕ → Earlier → ℕ → State × LineStart → State × LineStart → Type 0
 Went t q f n a b = Onward t q f n (a.0) (b.0) × (a.1 ≡ b.1)
 
-repeated_on : (t q : List ℕ) (f : Earlier) (n m : ℕ) (l : Line) (cs : List Cell) (tail : Tail) (k : ℕ) (p : LineStart) (there here : State) → Shared t q f n m l cs → Onward t q f n there here
+pub repeated_on : (t q : List ℕ) (f : Earlier) (n m : ℕ) (l : Line) (cs : List Cell) (tail : Tail) (k : ℕ) (p : LineStart) (there here : State) → Shared t q f n m l cs → Onward t q f n there here
     → Went t q f n (repeated (container_once_in CORE q cs (numbered m l) tail) k p there) (repeated (container_once_in CORE t cs l tail) k p here)
 unfolding repeated
 repeated_on t q f n m l cs tail zero p there here s h = (h, refl)
@@ -164,14 +164,14 @@ core_at_on t q f n m l cs tail p there here s h =
     ∙ ap (λ k. leaf_at cs (bytes_between t (start_of cs p l) l.end) tail p.cursor (is_paragraph k) (goes_directly p.depth there)) h.leaf
     ∙ ap (leaf_at cs (bytes_between t (start_of cs p l) l.end) tail p.cursor (is_paragraph here.leaf)) (directly_on t q f n p.depth there here h)
 
-started_at_on : (t q : List ℕ) (f : Earlier) (n m : ℕ) (l : Line) (cs : List Cell) (tail : Tail) (p : LineStart) (there here : State) → Shared t q f n m l cs → Onward t q f n there here
+pub started_at_on : (t q : List ℕ) (f : Earlier) (n m : ℕ) (l : Line) (cs : List Cell) (tail : Tail) (p : LineStart) (there here : State) → Shared t q f n m l cs → Onward t q f n there here
     → Onward t q f (suc n) (started_at_in core_known q cs (numbered m l) tail (there, p)) (started_at_in core_known t cs l tail (here, p))
 started_at_on t q f n m l cs tail p there here s h =
     subst (λ x. Onward t q f (suc n) x (started_at_in core_known t cs l tail (here, p))) (sym (core_begun q cs (numbered m l) tail there p ∙ ap (λ b. started_in core_known b q cs (numbered m l) tail p there) (core_at_on t q f n m l cs tail p there here s h)))
     (subst (λ x. Onward t q f (suc n) (started_in core_known (core_at t cs l tail here p) q cs (numbered m l) tail p there) x) (sym (core_begun t cs l tail here p))
     (started_on t q f n m l cs tail p (goes_directly p.depth here) (core_at t cs l tail here p) there here s (leaf_fine cs (bytes_between t (start_of cs p l) l.end) tail p.cursor (is_paragraph here.leaf) (goes_directly p.depth here)) (directly_open p.depth here) h))
 
-went_started : (t q : List ℕ) (f : Earlier) (n m : ℕ) (l : Line) (cs : List Cell) (tail : Tail) (a b : State × LineStart) → Shared t q f n m l cs → Went t q f n a b → Onward t q f (suc n) (started_at_in core_known q cs (numbered m l) tail a) (started_at_in core_known t cs l tail b)
+pub went_started : (t q : List ℕ) (f : Earlier) (n m : ℕ) (l : Line) (cs : List Cell) (tail : Tail) (a b : State × LineStart) → Shared t q f n m l cs → Went t q f n a b → Onward t q f (suc n) (started_at_in core_known q cs (numbered m l) tail a) (started_at_in core_known t cs l tail b)
 went_started t q f n m l cs tail (u', p') (u, p) s (g, e) = subst (λ x. Onward t q f (suc n) (started_at_in core_known q cs (numbered m l) tail (u', x)) (started_at_in core_known t cs l tail (u, p))) (sym e) (started_at_on t q f n m l cs tail p u' u s g)
 
 leaf_started_on : (t q : List ℕ) (f : Earlier) (n m : ℕ) (l : Line) (cs : List Cell) (p : LineStart) (there here : State) → Shared t q f n m l cs → Onward t q f n there here
@@ -211,6 +211,7 @@ touched_onward : (t q : List ℕ) (f : Earlier) (n m : ℕ) (l : Line) (depth : 
 unfolding touched
 touched_onward t q f n m l depth there here later h = record {
   opened = subst (λ (qs : List ℕ). Pairs (OpenedOn f) (touched_from depth l.end m qs there.opened) (touched_from depth l.end l.number here.quotes here.opened)) (sym h.quotes) (touched_on f depth l.end l.end m l.number here.quotes later there.opened here.opened h.opened);
+  inner = touched_inner f.blocks depth l.end l.number here.quotes here.opened h.inner;
   blocks = h.blocks;
   pieces = h.pieces;
   definitions = h.definitions;

@@ -14,3 +14,4 @@ pub mod Sequence
 pub mod Items
 pub mod Loose
 pub mod ListEnds
+pub mod OneMoreItem

@@ -1,7 +1,7 @@
 //! Laws of what is read of every text, each the contract of a function that does nothing: of a text's lines (`lines`),
 //! of empty lines in front of a text (`empty_line`), of markers of block quotes (`quoted`), of markers of list items (`items`), of
-//! loose lists (`loose`), of two texts in a row (`sequence`), of a list and a text after it (`list_ends`), of where blocks are
-//! (`ranges`), and of the bytes of a leaf's text (`texts`).
+//! loose lists (`loose`), of two texts in a row (`sequence`), of a list and a text after it (`list_ends`), of a list and items after it
+//! (`one_more`), of where blocks are (`ranges`), and of the bytes of a leaf's text (`texts`).
 //!
 //! Below it are the readers, whose definitions the laws speak of. No other crate needs it.
 #![tactic(auto)]
@@ -11,6 +11,7 @@ pub mod items;
 pub mod lines;
 pub mod list_ends;
 pub mod loose;
+pub mod one_more;
 pub mod quoted;
 pub mod ranges;
 pub mod sequence;
