@@ -81,6 +81,7 @@ pub mod ListEndsLeaves
 pub mod ListEndsFirst
 pub mod ListEndsRun
 pub mod ListEndsRows
+pub mod NearMarginRows
 pub mod ItemContainers
 pub mod ItemPages
 pub mod ItemLeaves

@@ -19,6 +19,7 @@ use Rattle.tocmark_text_laws.specs.Further.{cell_on}
 use Rattle.tocmark_text_laws.specs.Items.{is_end, first_line}
 use Rattle.tocmark_text_laws.specs.Lines.{IsInner, IsEnded, IsLine, ending_of}
 use Rattle.tocmark_text_laws.specs.ListEnds.{begins_at_margin}
+use Rattle.tocmark_text_laws.specs.NearMargin.{begins_near_margin}
 use Rattle.tocmark_text_laws.proofs.Cells.{cells_on, same_first}
 use Rattle.tocmark_text_laws.proofs.Marks.{same_tail}
 use Rattle.tocmark_text_laws.proofs.Containers.{same_container}
@@ -200,8 +201,8 @@ first_columns (b ∷ bs) at h = by (b == 9) refl (b == 32) refl (is_end b) refl 
         subst (λ ws. Columns at (cells_of [] at ws)) (sym (take_while-cons (λ b. not (is_end b)) b bs ∙ ap (λ k. cond (not k) (b ∷ first_line bs) []) g))
         (made (b == 9) e f)
 
-pub margin_first : (u : List ℕ) (at : ℕ) → begins_at_margin u ≡ true → Margin (cells_of [] at (first_line u))
-margin_first u at h = by (first_columns u at h)
+margin_at : (u : List ℕ) (at : ℕ) → begins_at_margin u ≡ true → Margin (cells_of [] at (first_line u))
+margin_at u at h = by (first_columns u at h)
   where
     by : Columns at (cells_of [] at (first_line u)) → Margin (cells_of [] at (first_line u))
     by c = subst Margin (sym c.split) (ink_margin (cell c.byte at) c.others c.ink)
@@ -211,6 +212,79 @@ place_first u at end h = by (first_columns u at h)
   where
     by : Columns at (cells_of [] at (first_line u)) → cell_place (cells_of [] at (first_line u)) (first_cursor (cells_of [] at (first_line u))).ink end ≡ at
     by c = ap (λ (xs : List Cell). cell_place xs (first_cursor xs).ink end) c.split ∙ ink_place (cell c.byte at) c.others end c.ink
+
+-- after one space
+
+cells_two : (c d : Cell) (cs : List Cell) (at : ℕ) (bs : List ℕ) → (xs : List Cell) × (cells_of (c ∷ d ∷ cs) at bs ≡ c ∷ d ∷ xs)
+unfolding filled
+cells_two c d cs at [] = (cs, refl)
+cells_two c d cs at (b ∷ bs) = by (b == 9) (λ ys. cells_two c d ys (plus at 1) bs)
+  where
+    by : (k : Bool) → ((ys : List Cell) → (xs : List Cell) × (cells_of (c ∷ d ∷ ys) (plus at 1) bs ≡ c ∷ d ∷ xs))
+        → (xs : List Cell) × (cells_of (if k then (c ∷ d ∷ cs) ++ replicate (4 - length (c ∷ d ∷ cs) % 4) (cell 32 at) else (c ∷ d ∷ cs) ++ cell b at ∷ []) (plus at 1) bs ≡ c ∷ d ∷ xs)
+    by true again = again (cs ++ replicate (4 - length (c ∷ d ∷ cs) % 4) (cell 32 at))
+    by false again = again (cs ++ cell b at ∷ [])
+
+one_ink : (c x : Cell) (xs : List Cell) → (c.byte == 32) ≡ true → (x.byte == 32) ≡ false → ink_from (c ∷ x ∷ xs) 0 ≡ 1
+one_ink c x xs e f =
+    ap (λ (ys : List Cell). plus 0 (length ys))
+    (take_while-cons (λ (y : Cell). y.byte == 32) c (x ∷ xs) ∙ ap (λ k. cond k (c ∷ take_while (λ (y : Cell). y.byte == 32) (x ∷ xs)) []) e
+    ∙ ap (λ (ys : List Cell). c ∷ ys) (take_while-cons (λ (y : Cell). y.byte == 32) x xs ∙ ap (λ k. cond k (x ∷ take_while (λ (y : Cell). y.byte == 32) xs) []) f))
+    ∙ (let z : plus 0 1 ≡ 1 = omega arith in z)
+
+space_margin : (c x : Cell) (xs : List Cell) → (c.byte == 32) ≡ true → (x.byte == 32) ≡ false → Margin (c ∷ x ∷ xs)
+unfolding first_cursor
+space_margin c x xs e f = record {
+  count = length (x ∷ xs);
+  long = refl;
+  some = grind (arith, nat_tests);
+  ink = ap (nat_le (length (c ∷ x ∷ xs))) (one_ink c x xs e f) ∙ (let z : nat_le (length (c ∷ x ∷ xs)) 1 ≡ false = grind (arith, nat_tests) in z);
+  edge = omega (arith, one_ink c x xs e f);
+}
+
+space_columns : (u : List ℕ) (c : Cell) (at : ℕ) → (c.byte == 32) ≡ true → begins_at_margin u ≡ true → Margin (cells_of (c ∷ []) at (first_line u))
+unfolding filled
+space_columns [] c at s h = absurd cc
+space_columns (b ∷ bs) c at s h = by (b == 9) refl (b == 32) refl (is_end b) refl h
+  where
+    one : Cell
+    one = cell b at
+
+    made : (k : Bool) → k ≡ false → (b == 32) ≡ false → Margin (cells_of (if k then (c ∷ []) ++ replicate (4 - length (c ∷ []) % 4) (cell 32 at) else (c ∷ []) ++ one ∷ []) (plus at 1) (first_line bs))
+    made true e f = absurd cc
+    made false e f = subst Margin (sym ((cells_two c one [] (plus at 1) (first_line bs)).1)) (space_margin c one ((cells_two c one [] (plus at 1) (first_line bs)).0) s f)
+
+    by : (x : Bool) → (b == 9) ≡ x → (y : Bool) → (b == 32) ≡ y → (z : Bool) → is_end b ≡ z → not (x || y || z) ≡ true → Margin (cells_of (c ∷ []) at (first_line (b ∷ bs)))
+    by true e y f z g k = absurd cc
+    by false e true f z g k = absurd cc
+    by false e false f true g k = absurd cc
+    by false e false f false g k =
+        subst (λ ws. Margin (cells_of (c ∷ []) at ws)) (sym (take_while-cons (λ b. not (is_end b)) b bs ∙ ap (λ k. cond (not k) (b ∷ first_line bs) []) g))
+        (made (b == 9) e f)
+
+pub margin_first : (u : List ℕ) (at : ℕ) → begins_near_margin u ≡ true → Margin (cells_of [] at (first_line u))
+unfolding filled
+margin_first [] at h = absurd cc
+margin_first (b ∷ bs) at h = by (b == 32) refl h
+  where
+    spaced : b ≡ 32 → begins_at_margin bs ≡ true → Margin (cells_of [] at (first_line (b ∷ bs)))
+    spaced e k =
+        subst (λ x. Margin (cells_of [] at (first_line (x ∷ bs)))) (sym e)
+        (subst (λ ws. Margin (cells_of [] at ws)) (sym (take_while-cons (λ b. not (is_end b)) 32 bs)) (space_columns bs (cell 32 at) (plus at 1) refl k))
+
+    by : (x : Bool) → (b == 32) ≡ x → (if x then begins_at_margin bs else begins_at_margin (b ∷ bs)) ≡ true → Margin (cells_of [] at (first_line (b ∷ bs)))
+    by true e k = spaced (grind (arith, e, nat_tests)) k
+    by false e k = margin_at (b ∷ bs) at k
+
+-- a text at the margin is near it
+pub margin_near : (u : List ℕ) → begins_at_margin u ≡ true → begins_near_margin u ≡ true
+margin_near [] h = h
+margin_near (b ∷ bs) h = by (b == 9) (b == 32) refl (is_end b) h
+  where
+    by : (x y : Bool) → (b == 32) ≡ y → (z : Bool) → not (x || y || z) ≡ true → (if y then begins_at_margin bs else begins_at_margin (b ∷ bs)) ≡ true
+    by true y e z k = absurd cc
+    by false true e z k = absurd cc
+    by false false e z k = h
 
 -- where a line is makes no difference to what it begins
 

@@ -1,5 +1,5 @@
 -- A line at the margin that isn't an item of the open list ends all that is open.
-use Rattle.std.proofs.Common.{◌≡◌, ℕ, suc, ◌<◌, Bool, true, false, not, ◌==◌, ◌&&◌, if◌then◌else◌, nat_lt, nat_le, List, [], ◌∷◌, length, refl, ap, sym, subst, ◌∙◌, arith}
+use Rattle.std.proofs.Common.{◌≡◌, ℕ, suc, ◌<◌, ◌≤◌, Bool, true, false, not, ◌==◌, ◌&&◌, if◌then◌else◌, nat_lt, nat_le, List, [], ◌∷◌, length, refl, ap, sym, subst, ◌∙◌, arith}
 use Rattle.std.specs.Prelude.{Option, Some, None, unwrap_or}
 use Rattle.std.specs.Option.{option_map, option_map_or, option_and_then}
 use Rattle.std.proofs.lemmas.Bool.Decides.{nat_tests}
@@ -70,17 +70,17 @@ shut_passes q cs l p s h = by (nat_le (length s.opened) p.depth)
     by true = ap (leaf_turn q cs l p.cursor) h
     by false = refl
 
--- the front of a line at the margin
+-- the front of a line at the margin, or after one space there
 pub record Margin (cs : List Cell) : Type 0 where
   pub count : ℕ
   pub long : length cs ≡ suc count
   pub some : nat_le (length cs) (first_cursor cs).column ≡ false
   pub ink : is_blank_at cs (first_cursor cs) ≡ false
-  pub edge : indent_of (first_cursor cs) ≡ 0
+  pub edge : indent_of (first_cursor cs) ≤ 1
 
 -- an item that goes on in indented lines alone
 abbrev pub IsWide : Container → Type 0
-IsWide (container.Item width) = 0 < width
+IsWide (container.Item width) = 1 < width
 IsWide c = ⊥
 
 -- what is directly in the outermost list
@@ -93,7 +93,7 @@ unfolding item_goes_on
 wide_stops cs (container.Item width) had m w = rw (m.ink, narrow) refl
   where
     narrow : nat_le width (indent_of (first_cursor cs)) ≡ false
-    narrow = let e : indent_of (first_cursor cs) ≡ 0 = m.edge in let z : indent_of (first_cursor cs) < width = omega (arith, e, w) in grind (arith, z, nat_tests)
+    narrow = let e : indent_of (first_cursor cs) ≤ 1 = m.edge in let z : indent_of (first_cursor cs) < width = omega (arith, e, w) in grind (arith, z, nat_tests)
 wide_stops cs container.Quote had m w = absurd w
 wide_stops cs (container.List sort) had m w = absurd w
 wide_stops cs container.Footnote had m w = absurd w
@@ -375,4 +375,4 @@ list_ends q cs l mark s m w y d =
     same = core_container cs (tail_of cs) (first_cursor cs) false
 
     low : nat_lt (indent_of (first_cursor cs)) 4 ≡ true
-    low = ap (λ n. nat_lt n 4) m.edge
+    low = let e : indent_of (first_cursor cs) ≤ 1 = m.edge in let z : indent_of (first_cursor cs) < 4 = omega (arith, e) in grind (arith, z, nat_tests)

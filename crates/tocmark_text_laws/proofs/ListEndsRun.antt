@@ -33,6 +33,7 @@ use Rattle.tocmark_text_laws.specs.Lines.{IsLine}
 use Rattle.tocmark_text_laws.specs.Quoted.{Told, told, blocks_told, tree_told, read_trees}
 use Rattle.tocmark_text_laws.specs.Sequence.{after_lines, ends_before_blank, later, trees_joined, IsSequence}
 use Rattle.tocmark_text_laws.specs.ListEnds.{list_mark, outer_mark, has_quote, LeavesList, ends_leaf, begins_at_margin, item_mark, first_mark, goes_into, AListEnds, continues, goes_on, AListEndsAtOnce}
+use Rattle.tocmark_text_laws.specs.NearMargin.{begins_near_margin, AListEndsNearMargin}
 use Rattle.tocmark_text_laws.proofs.Leaves.{is_core}
 use Rattle.tocmark_text_laws.proofs.Shut.{closed_shut}
 use Rattle.tocmark_text_laws.proofs.Endings.{lines-end}
@@ -52,7 +53,7 @@ use Rattle.tocmark_text_laws.proofs.ListEndsLine.{IsWide, Behind, Waits, Yields,
 use Rattle.tocmark_text_laws.proofs.ListEndsBlank.{Blanked, blank_listed}
 use Rattle.tocmark_text_laws.proofs.ListEndsLeaves.{Deep, lines_deep}
 use Rattle.tocmark_text_laws.proofs.ListEndsWidths.{HasWidth, lines_wide}
-use Rattle.tocmark_text_laws.proofs.ListEndsFirst.{First, first_from, ascend_back, first_short, first_bytes, margin_first, place_first, begun_in, begun_anywhere, started_in_line, started_anywhere}
+use Rattle.tocmark_text_laws.proofs.ListEndsFirst.{First, first_from, ascend_back, first_short, first_bytes, margin_first, margin_near, place_first, begun_in, begun_anywhere, started_in_line, started_anywhere}
 
 -- the open quotes stay known
 
@@ -191,10 +192,10 @@ left_open : (k : Bool) (e : Bool) → (k || e) ≡ true → k ≡ false → e �
 left_open true e h f = absurd cc
 left_open false e h f = h
 
-pub holds_after : (t v : List ℕ) (mark n : ℕ) → LeavesList t mark → Onward t (t ++ v) alone n (fold (line_taken_in core_known (t ++ v)) first_page (lines_of t)) (after_lines t) → After (after_lines t) → Holds mark (fold (line_taken_in core_known (t ++ v)) first_page (lines_of t))
-holds_after t v mark n c first (a, m, r) = record {
+pub holds_after : (t v : List ℕ) (mark n : ℕ) → 4 * (length t + length v) < 2 ^ 64 - 1 → LeavesList t mark → Onward t (t ++ v) alone n (fold (line_taken_in core_known (t ++ v)) first_page (lines_of t)) (after_lines t) → After (after_lines t) → Holds mark (fold (line_taken_in core_known (t ++ v)) first_page (lines_of t))
+holds_after t v mark n small c first (a, m, r) = record {
   lists = lists;
-  behind = behind_list mark lists.inner (subst (Chain false) lists.first (home.house).chain) (subst (AllByRecursion HasWidth) lists.first (lines_wide q (lines_of t) first_page first_core tt));
+  behind = behind_list mark lists.inner (subst (Chain false) lists.first (home.house).chain) (subst (AllByRecursion HasWidth) lists.first (lines_wide q (lines_of t) first_page (omega (arith, small, length-append t v)) first_core tt));
   known = first.quotes ∙ quotes_known a m here r ∙ sym (ap (quotes_of 0) same);
 }
   where
@@ -261,7 +262,7 @@ left_after t v mark c ends small = by (lines_more t (omega (arith, small)) feed)
     first = first_run t w (omega (arith, small)) feed (split_lines t w (omega (arith, small)) feed) some
 
     holds : Holds mark s
-    holds = subst (λ x. Holds mark (fold (line_taken_in core_known x) first_page (lines_of t))) (sym (append_assoc t (10 ∷ []) v)) (holds_after t w mark (0 + length (lines_of t)) c first (all_lines t (omega (arith, small))))
+    holds = subst (λ x. Holds mark (fold (line_taken_in core_known x) first_page (lines_of t))) (sym (append_assoc t (10 ∷ []) v)) (holds_after t w mark (0 + length (lines_of t)) (omega (arith, small)) c first (all_lines t (omega (arith, small))))
 
     empty : has_quote s.opened ≡ false → ends_before_blank s.leaf ≡ true
     empty =
@@ -319,7 +320,7 @@ ended_list t mark c ends small = record {
     whole = by (lines_more t (omega (arith, small)) feed)
       where
         holds : Holds mark there
-        holds = holds_after t (10 ∷ []) mark n c first (all_lines t (omega (arith, small)))
+        holds = holds_after t (10 ∷ []) mark n (omega (arith, small)) c first (all_lines t (omega (arith, small)))
 
         by : (count : ℕ) × (lines_of (t ++ 10 ∷ []) ≡ lines_of t ++ line count (length t) (length t) (length t + 1) ∷ []) → whole_page q ≡ closed_to q 0 there
         by (count, e) =
@@ -333,7 +334,7 @@ quotes_after t (a, m, r) = closed_known t 0 (after_lines t) (quotes_known a m (a
 -- the first line of the second text ends the list
 
 line_closes : (p u : List ℕ) (mark : ℕ) (l : Line) (s : State) → Waits mark s → Yields (p ++ u) (cells_of [] l.start (first_line u)) l s → bytes_between (p ++ u) l.start l.end ≡ first_line u → l.start + length (first_line u) + 1 < 2 ^ 64 - 1
-    → begins_at_margin u ≡ true → goes_into mark (first_mark u) ≡ false → line_taken_in core_known (p ++ u) s l ≡ line_taken_in core_known (p ++ u) (closed_to (p ++ u) 0 s) l
+    → begins_near_margin u ≡ true → goes_into mark (first_mark u) ≡ false → line_taken_in core_known (p ++ u) s l ≡ line_taken_in core_known (p ++ u) (closed_to (p ++ u) 0 s) l
 unfolding line_taken_in
 line_closes p u mark l s w y bytes few ink other =
     ap (λ bs. cells_taken_in core_known q (cells_of [] l.start bs) l s) bytes
@@ -346,7 +347,7 @@ line_closes p u mark l s w y bytes few ink other =
     cs : List Cell
     cs = cells_of [] l.start (first_line u)
 
-pub some_margin : (u : List ℕ) → begins_at_margin u ≡ true → 0 < length u
+pub some_margin : (u : List ℕ) → begins_near_margin u ≡ true → 0 < length u
 some_margin [] h = absurd cc
 some_margin (b ∷ bs) h = omega arith
 
@@ -355,7 +356,7 @@ abbrev AllYield : List ℕ → List ℕ → State → Type 0
 AllYield p u s = (l : Line) → bytes_between (p ++ u) l.start l.end ≡ first_line u → l.start + length (first_line u) + 1 < 2 ^ 64 - 1 → Yields (p ++ u) (cells_of [] l.start (first_line u)) l s
 
 -- the lines of the second text
-rest_closes : (p u : List ℕ) (mark : ℕ) (s : State) → Waits mark s → AllYield p u s → begins_at_margin u ≡ true → goes_into mark (first_mark u) ≡ false → 4 * (length p + length u) + 20 < 2 ^ 64 → (split : Splits p u (length p) (lines_of (p ++ u)) (lines_of p))
+rest_closes : (p u : List ℕ) (mark : ℕ) (s : State) → Waits mark s → AllYield p u s → begins_near_margin u ≡ true → goes_into mark (first_mark u) ≡ false → 4 * (length p + length u) + 20 < 2 ^ 64 → (split : Splits p u (length p) (lines_of (p ++ u)) (lines_of p))
     → fold (line_taken_in core_known (p ++ u)) s (lines_from (p ++ u) split.count (length p) (length p) u) ≡ fold (line_taken_in core_known (p ++ u)) (closed_to (p ++ u) 0 s) (lines_from (p ++ u) split.count (length p) (length p) u)
 rest_closes p u mark s waits yields ink other small split = by (lines_from q split.count k k u) refl (first_from q split.count k k u (omega (arith, some_margin u ink)))
   where
@@ -389,9 +390,9 @@ rest_closes p u mark s waits yields ink other small split = by (lines_from q spl
         ap (λ (x : State). fold (line_taken_in core_known q) x ls)
         (one l (let z : l ≡ f.first = let y : l ∷ ls ≡ f.first ∷ f.others = f.split in cc in ap (λ (x : Line). x.start) z ∙ f.begins) ((subst (AllByRecursion (IsLine q)) e ends).0) (ascend.0) ((subst (Ascend (Inside q) q (ascend.0)) e (ascend.1)).0))
 
-pub list_between : AListEnds
+pub list_near : AListEndsNearMargin
 unfolding blocks_in page_in known_of
-list_between t u mark c ends ink other small = subst (λ xs. IsSequence xs t u) (append_assoc t (10 ∷ []) u) (record {
+list_near t u mark c ends ink other small = subst (λ xs. IsSequence xs t u) (append_assoc t (10 ∷ []) u) (record {
   trees = s.trees ∙ ap (λ (bs : List Told). trees_joined (tree_told bs) (read_trees u)) blocks;
   blocks = s.blocks
       ∙ ap (λ (bs : List Told). bs ++ map (later (length (blocks_in CORE q).blocks)) (blocks_told u (blocks_in CORE u))) blocks
@@ -441,6 +442,9 @@ list_between t u mark c ends ink other small = subst (λ xs. IsSequence xs t u) 
     count : length (blocks_in CORE q).blocks ≡ length (blocks_in CORE t).blocks
     count = sym (length-map (blocks_in CORE q).blocks (told q (blocks_in CORE q).pieces)) ∙ ap length blocks ∙ length-map (blocks_in CORE t).blocks (told t (blocks_in CORE t).pieces)
 
+pub list_between : AListEnds
+list_between t u mark c ends ink other small = list_near t u mark c ends (margin_near u ink) other small
+
 -- without an empty line
 
 many_open : (q : List ℕ) (cs : List Cell) (l : Line) (c : Cursor) (s : State) → 1 < length s.opened → (turn_of q cs l (record { cursor = c; depth = 1 }) s ≡ turn.Passes) × (goes_directly 1 s ≡ false)
@@ -486,7 +490,7 @@ pub list_at_once : AListEndsAtOnce
 list_at_once t u mark c ink other free small =
     row_sequence t u
     (after_row t u feed some small split
-    (rest_closes t u mark s waits (λ l b n. list_yields q u mark l s holds.lists deep (ap (λ k. is_paragraph k && goes_on u) first.leaf ∙ free) ink b n) ink other small split)
+    (rest_closes t u mark s waits (λ l b n. list_yields q u mark l s holds.lists deep (ap (λ k. is_paragraph k && goes_on u) first.leaf ∙ free) ink b n) (margin_near u ink) other small split)
     (quotes_after t (all_lines t (omega (arith, small)))))
     small
   where
@@ -509,7 +513,7 @@ list_at_once t u mark c ink other free small =
     first = first_run t u small feed split some
 
     holds : Holds mark s
-    holds = holds_after t u mark (0 + length (lines_of t)) c first (all_lines t (omega (arith, small)))
+    holds = holds_after t u mark (0 + length (lines_of t)) (omega (arith, small)) c first (all_lines t (omega (arith, small)))
 
     waits : Waits mark s
     waits = record { lists = holds.lists; behind = holds.behind; quotes = holds.known }

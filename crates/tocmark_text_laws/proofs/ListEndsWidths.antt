@@ -1,14 +1,16 @@
 -- The items that are open go on in indented lines alone.
-use Rattle.std.proofs.Common.{◌≡◌, ℕ, ◌-◌, ◌<◌, Bool, true, false, not, ◌&&◌, ◌||◌, if◌then◌else◌, nat_lt, nat_le, List, [], ◌∷◌, ◌++◌, length, take, ap, sym, subst, ◌∙◌, arith}
-use Rattle.std.specs.Prelude.{slice_get, slice_set, ◌==◌, Option, Some, None, is_some}
+use Rattle.std.proofs.Common.{◌≡◌, ℕ, zero, suc, ◌+◌, ◌-◌, ◌*◌, ◌^◌, ◌<◌, ◌≤◌, Bool, true, false, not, ◌&&◌, ◌||◌, cond, if◌then◌else◌, nat_lt, nat_le, List, [], ◌∷◌, ◌++◌, length, take, drop, refl, ap, sym, subst, ◌∙◌, arith, length-take}
+use Rattle.std.specs.Prelude.{slice_get, slice_set, take_while, ◌==◌, Option, Some, None, is_some}
 use Rattle.std.specs.List.{AllByRecursion, fold}
 use Rattle.std.specs.Option.{option_map, option_map_or, option_and_then, option_or}
-use Rattle.std.proofs.lemmas.List.{map-append}
+use Rattle.std.proofs.lemmas.Bool.Decides.{nat_tests}
+use Rattle.std.proofs.lemmas.List.{map-append, length-drop}
+use Rattle.std.proofs.lemmas.List.Sums.{take_while-cons}
 use Rattle.tocmark_event.specs.declared.event.HeadingLevel.{HeadingLevel}
 use Rattle.tocmark_read_scan.specs.Basic.{plus, bytes_between}
 use Rattle.tocmark_read_scan.specs.declared.syntax.TheConstants.{CORE}
 use Rattle.tocmark_read_lines.specs.Cells.{cells_of, cell_byte, cell_place, bytes_of, indent_of, ink_from}
-use Rattle.tocmark_read_lines.specs.Containers.{matched, may_interrupt, item_from, item_at, container_at, container_in}
+use Rattle.tocmark_read_lines.specs.Containers.{matched, item_gap, may_interrupt, item_from, item_at, container_at, container_in}
 use Rattle.tocmark_read_lines.specs.DefinitionLists.{definition_start}
 use Rattle.tocmark_read_lines.specs.Footnotes.{note_start}
 use Rattle.tocmark_read_lines.specs.Html.{html_ends}
@@ -47,6 +49,7 @@ use Rattle.tocmark_read_blocks.specs.declared.leaf.LeafStart.TheVariants as star
 use Rattle.tocmark_read_blocks.specs.declared.leaf.Turn.{Turn}
 use Rattle.tocmark_read_blocks.specs.declared.leaf.Turn.TheVariants as turn
 use Rattle.tocmark_text_laws.proofs.Alls.{all_both, all_take}
+use Rattle.tocmark_text_laws.proofs.Ranged.{cells_few}
 use Rattle.tocmark_text_laws.proofs.Leaves.{is_core}
 use Rattle.tocmark_text_laws.proofs.Core.{begins_core, leaf_core, repeated_keeps, turns_core}
 use Rattle.tocmark_text_laws.proofs.Begun.{is_core_start, container_core}
@@ -59,7 +62,7 @@ use Rattle.tocmark_text_laws.proofs.ListEndsClosed.{closed_containers}
 
 -- an item has some columns
 abbrev pub HasWidth : Container → Type 0
-HasWidth (container.Item width) = 0 < width
+HasWidth (container.Item width) = 1 < width
 HasWidth c = Unit
 
 abbrev pub Wides : State → Type 0
@@ -226,47 +229,88 @@ started_wide t cs line tail place s (start.Metadata x) h k = absurd cc
 started_wide t cs line tail place s (start.Task d) h k = absurd cc
 started_wide t cs line tail place s (start.QuoteKind x) h k = absurd cc
 
--- a marker has some columns
-abbrev HasMarker : Option Marker → Type 0
-HasMarker None = Unit
-HasMarker (Some m) = 0 < m.length
+-- a marker has some columns, and a space or the end of the line is after it
+abbrev HasMarker : List Cell → ℕ → Option Marker → Type 0
+HasMarker cs c None = Unit
+HasMarker cs c (Some m) = (0 < m.length) × (is_behind cs (plus c m.length) ≡ true)
 
-marker_wide : (cs : List Cell) (c : ℕ) → HasMarker (marker_at cs c)
+last_true : (a b : Bool) → (a && b) ≡ true → b ≡ true
+last_true true b h = h
+last_true false b h = absurd cc
+
+marker_wide : (cs : List Cell) (c : ℕ) → HasMarker cs c (marker_at cs c)
 unfolding marker_at bullet_at ordered_at
-marker_wide cs c =
-    by (((cell_byte cs c == 45) || (cell_byte cs c == 43) || (cell_byte cs c == 42)) && is_behind cs (plus c 1))
-    (nat_le 1 (digit_count cs c) && nat_le (digit_count cs c) 9 && ((cell_byte cs (plus c (digit_count cs c)) == 46) || (cell_byte cs (plus c (digit_count cs c)) == 41)) && is_behind cs (plus (plus c (digit_count cs c)) 1))
+marker_wide cs c = by (bullet && is_behind cs (plus c 1)) (digits && is_behind cs (plus (plus c count) 1)) refl refl
   where
-    by : (x y : Bool)
-        → HasMarker (option_or (if x then Some (record { sort = cell_byte cs c; number = None; length = 1 }) else None)
-        (if y then Some (record { sort = cell_byte cs (plus c (digit_count cs c)); number = Some (number_of (bytes_between (bytes_of cs) c (plus c (digit_count cs c)))); length = plus (digit_count cs c) 1 }) else None))
-    by true y = omega arith
-    by false true = omega arith
-    by false false = tt
+    count : ℕ
+    count = digit_count cs c
+
+    bullet : Bool
+    bullet = (cell_byte cs c == 45) || (cell_byte cs c == 43) || (cell_byte cs c == 42)
+
+    digits : Bool
+    digits = nat_le 1 count && nat_le count 9 && ((cell_byte cs (plus c count) == 46) || (cell_byte cs (plus c count) == 41))
+
+    by : (x y : Bool) → (bullet && is_behind cs (plus c 1)) ≡ x → (digits && is_behind cs (plus (plus c count) 1)) ≡ y
+        → HasMarker cs c (option_or (if x then Some (record { sort = cell_byte cs c; number = None; length = 1 }) else None)
+        (if y then Some (record { sort = cell_byte cs (plus c count); number = Some (number_of (bytes_between (bytes_of cs) c (plus c count))); length = plus count 1 }) else None))
+    by true y e f = (omega arith, last_true bullet (is_behind cs (plus c 1)) e)
+    by false true e f = (omega arith, ap (is_behind cs) (let z : plus c (plus count 1) ≡ plus (plus c count) 1 = omega arith in z) ∙ last_true digits (is_behind cs (plus (plus c count) 1)) f)
+    by false false e f = tt
+
+-- the gap after it has a column
+gap_some : (cs : List Cell) (n : ℕ) → length cs ≤ 2 ^ 64 - 1 → n ≤ 2 ^ 64 - 1 → is_behind cs n ≡ true → 1 ≤ item_gap (nat_le (length cs) (ink_from cs n)) (ink_from cs n - n)
+unfolding is_behind item_gap
+gap_some cs n few low h = by (nat_le (length cs) n) refl (cell_byte cs n == 32) refl h
+  where
+    gap : Bool → ℕ
+    gap e = if e || nat_le 5 (ink_from cs n - n) then 1 else ink_from cs n - n
+
+    run : (xs : List Cell) (i : ℕ) → i < length xs → (option_map_or (λ (c : Cell). c.byte) (slice_get xs i) 10 == 32) ≡ true → 1 ≤ length (take_while (λ (c : Cell). c.byte == 32) (drop i xs))
+    run [] i l e = absurd (omega (arith, l))
+    run (x ∷ xs) zero l e = subst (λ (ws : List Cell). 1 ≤ length ws) (sym (take_while-cons (λ (c : Cell). c.byte == 32) x xs ∙ ap (λ k. cond k (x ∷ take_while (λ (c : Cell). c.byte == 32) xs) []) e)) (omega arith)
+    run (x ∷ xs) (suc i) l e = run xs i (omega (arith, l)) e
+
+    some : (k : Bool) → 1 ≤ ink_from cs n - n → 1 ≤ (if k then 1 else ink_from cs n - n)
+    some true w = omega arith
+    some false w = w
+
+    by : (x : Bool) → nat_le (length cs) n ≡ x → (y : Bool) → (cell_byte cs n == 32) ≡ y → (x || y) ≡ true → 1 ≤ gap (nat_le (length cs) (ink_from cs n))
+    by true e y f g =
+        let low : length cs ≤ n = grind (arith, e, nat_tests) in
+        let over : length cs ≤ ink_from cs n = omega (arith, low, few) in
+        subst (λ k. 1 ≤ gap k) (sym (let z : nat_le (length cs) (ink_from cs n) ≡ true = grind (arith, over, nat_tests) in z)) (omega arith)
+    by false e true f g =
+        let less : n < length cs = grind (arith, e, nat_tests) in
+        some (nat_le (length cs) (ink_from cs n) || nat_le 5 (ink_from cs n - n)) (omega (arith, run cs n less f, less, few))
+    by false e false f g = absurd cc
 
 abbrev HasItem : Option ItemStart → Type 0
 HasItem None = Unit
-HasItem (Some x) = 0 < x.width
+HasItem (Some x) = 1 < x.width
 
 abbrev HasStart : Option ContainerStart → Type 0
-HasStart (Some (begins.Item x)) = 0 < x.width
+HasStart (Some (begins.Item x)) = 1 < x.width
 HasStart o = Unit
 
-item_wide : (cs : List Cell) (cursor : Cursor) (p : Bool) → HasItem (item_at cs cursor p)
+item_wide : (cs : List Cell) (cursor : Cursor) (p : Bool) → length cs ≤ 2 ^ 64 - 1 → HasItem (item_at cs cursor p)
 unfolding item_at
-item_wide cs cursor p = by (marker_at cs cursor.ink) (marker_wide cs cursor.ink)
+item_wide cs cursor p few = by (marker_at cs cursor.ink) (marker_wide cs cursor.ink)
   where
-    inner : (b : Bool) (m : Marker) (gap next : ℕ) → 0 < m.length → HasItem (if b then None else Some (record { sort = m.sort; number = m.number; width = plus (indent_of cursor) (plus m.length gap); next = next }))
-    inner true m gap next h = tt
-    inner false m gap next h = omega (arith, h)
+    inner : (b : Bool) (m : Marker) (gap next : ℕ) → 0 < m.length → 1 ≤ gap → HasItem (if b then None else Some (record { sort = m.sort; number = m.number; width = plus (indent_of cursor) (plus m.length gap); next = next }))
+    inner true m gap next h w = tt
+    inner false m gap next h w = omega (arith, h, w)
 
-    by : (o : Option Marker) → HasMarker o → HasItem (option_and_then (item_from cs cursor p) o)
+    by : (o : Option Marker) → HasMarker cs cursor.ink o → HasItem (option_and_then (item_from cs cursor p) o)
     by None h = tt
-    by (Some m) h = inner (p && not (may_interrupt (nat_le (length cs) (ink_from cs (plus cursor.ink m.length))) m)) m _ _ h
+    by (Some m) (h, behind) =
+        inner (p && not (may_interrupt (nat_le (length cs) (ink_from cs (plus cursor.ink m.length))) m)) m
+        (item_gap (nat_le (length cs) (ink_from cs (plus cursor.ink m.length))) (ink_from cs (plus cursor.ink m.length) - plus cursor.ink m.length)) _ h
+        (gap_some cs (plus cursor.ink m.length) few (omega arith) behind)
 
-container_wide : (cs : List Cell) (tail : Tail) (cursor : Cursor) (p : Bool) → HasStart (container_in CORE cs tail cursor p)
+container_wide : (cs : List Cell) (tail : Tail) (cursor : Cursor) (p : Bool) → length cs ≤ 2 ^ 64 - 1 → HasStart (container_in CORE cs tail cursor p)
 unfolding container_in container_at definition_start note_start
-container_wide cs tail cursor p = by (nat_le (length cs) cursor.ink || nat_le 4 (indent_of cursor)) (cell_byte cs cursor.ink == 62) (is_rule cs tail cursor.ink) (item_at cs cursor p) (item_wide cs cursor p)
+container_wide cs tail cursor p few = by (nat_le (length cs) cursor.ink || nat_le 4 (indent_of cursor)) (cell_byte cs cursor.ink == 62) (is_rule cs tail cursor.ink) (item_at cs cursor p) (item_wide cs cursor p few)
   where
     by : (a b d : Bool) (o : Option ItemStart) → HasItem o → HasStart (if a then None else (if b then Some begins.Quote else (if d then None else option_map (λ i. begins.Item i) o)))
     by true b d o h = tt
@@ -291,38 +335,48 @@ begun_wide t cs line place s (Some (begins.Item i)) k w h = opened_wide (contain
 begun_wide t cs line place s (Some (begins.Footnote n)) k w h = absurd cc
 begun_wide t cs line place s (Some (begins.Definition d)) k w h = absurd cc
 
-containers_wide : (t : List ℕ) (cs : List Cell) (line : Line) (tail : Tail) (place : LineStart) (s : State) → Wides s → Wides ((containers_opened_in CORE t cs line tail place s).0)
+containers_wide : (t : List ℕ) (cs : List Cell) (line : Line) (tail : Tail) (place : LineStart) (s : State) → length cs ≤ 2 ^ 64 - 1 → Wides s → Wides ((containers_opened_in CORE t cs line tail place s).0)
 unfolding container_once_in
-containers_wide t cs line tail place s h =
+containers_wide t cs line tail place s few h =
     repeated_keeps (λ (u : State). Wides u) (container_once_in CORE t cs line tail)
-    (λ next u k. begun_wide t cs line next u (container_in CORE cs tail next.cursor (goes_directly next.depth u)) (container_core cs tail next.cursor (goes_directly next.depth u)) (container_wide cs tail next.cursor (goes_directly next.depth u)) k)
+    (λ next u k. begun_wide t cs line next u (container_in CORE cs tail next.cursor (goes_directly next.depth u)) (container_core cs tail next.cursor (goes_directly next.depth u)) (container_wide cs tail next.cursor (goes_directly next.depth u) few) k)
     (length cs) place s h
 
-leaf_started_wide : (t : List ℕ) (cs : List Cell) (line : Line) (place : LineStart) (s : State) → Wides s → Wides (leaf_started_in core_known t cs line place s)
+leaf_started_wide : (t : List ℕ) (cs : List Cell) (line : Line) (place : LineStart) (s : State) → length cs ≤ 2 ^ 64 - 1 → Wides s → Wides (leaf_started_in core_known t cs line place s)
 unfolding leaf_started_in
-leaf_started_wide t cs line place s h = by (containers_opened_in CORE t cs line (tail_of cs) place s) (containers_wide t cs line (tail_of cs) place s h)
+leaf_started_wide t cs line place s few h = by (containers_opened_in CORE t cs line (tail_of cs) place s) (containers_wide t cs line (tail_of cs) place s few h)
   where
     by : (r : State × LineStart) → Wides (r.0) → Wides (started_at_in core_known t cs line (tail_of cs) r)
     by (u, next) k = subst (λ (x : State). Wides x) (sym (core_begun t cs line (tail_of cs) u next))
         (started_wide t cs line (tail_of cs) next u (core_at t cs line (tail_of cs) u next) k (leaf_core cs (bytes_between t (start_of cs next line) line.end) (tail_of cs) next.cursor (is_paragraph u.leaf) (goes_directly next.depth u)))
 
-turned_wide : (t : List ℕ) (cs : List Cell) (line : Line) (place : LineStart) (s : State) (u : Turn) → Wides s → turns_core u s.leaf ≡ true → Wides (turn_taken_in core_known u t cs line place s)
+turned_wide : (t : List ℕ) (cs : List Cell) (line : Line) (place : LineStart) (s : State) (u : Turn) → length cs ≤ 2 ^ 64 - 1 → Wides s → turns_core u s.leaf ≡ true → Wides (turn_taken_in core_known u t cs line place s)
 unfolding passed_in turns_core leaf_ended
-turned_wide t cs line place s turn.Closes h k = finish_wide (record s { end = line.end; line = line.number }) h
-turned_wide t cs line place s (turn.Takes column) h k = code_wide t cs column line s h
-turned_wide t cs line place s turn.Passes h k = leaf_started_wide t cs line place s h
-turned_wide t cs line place s (turn.Row x) h k = absurd cc
+turned_wide t cs line place s turn.Closes few h k = finish_wide (record s { end = line.end; line = line.number }) h
+turned_wide t cs line place s (turn.Takes column) few h k = code_wide t cs column line s h
+turned_wide t cs line place s turn.Passes few h k = leaf_started_wide t cs line place s few h
+turned_wide t cs line place s (turn.Row x) few h k = absurd cc
 
-line_wide : (t : List ℕ) (line : Line) (s : State) → is_core s.leaf ≡ true → Wides s → Wides (line_taken_in core_known t s line)
+between_short : (t : List ℕ) (from to : ℕ) → length (bytes_between t from to) ≤ length t
+between_short t from to = by (nat_le from to && nat_le to (length t))
+  where
+    by : (k : Bool) → length (if k then take (to - from) (drop from t) else []) ≤ length t
+    by true = omega (arith, length-take (to - from) (drop from t), length-drop from t)
+    by false = omega arith
+
+line_wide : (t : List ℕ) (line : Line) (s : State) → 4 * length t < 2 ^ 64 - 1 → is_core s.leaf ≡ true → Wides s → Wides (line_taken_in core_known t s line)
 unfolding line_taken_in cells_taken_in touched turn_in
-line_wide t line s c h = by (matched cells s.opened s.quotes)
+line_wide t line s small c h = by (matched cells s.opened s.quotes)
   where
     cells : List Cell
     cells = cells_of [] line.start (bytes_between t line.start line.end)
 
-    by : (found : ℕ × Cursor) → Wides (taken_at_in core_known t cells line (record { cursor = found.1; depth = found.0 }) (touched line (found.0) s))
-    by (depth, cursor) = turned_wide t cells line (record { cursor = cursor; depth = depth }) (touched line depth s) _ (same_wide s (touched line depth s) (touched_containers depth line.end line.number s.quotes s.opened) h) (turn_of_core t cells line (record { cursor = cursor; depth = depth }) (touched line depth s) c)
+    few : length cells ≤ 2 ^ 64 - 1
+    few = omega (arith, small, cells_few [] line.start (bytes_between t line.start line.end), between_short t line.start line.end)
 
-pub lines_wide : (t : List ℕ) (ls : List Line) (s : State) → is_core s.leaf ≡ true → Wides s → Wides (fold (line_taken_in core_known t) s ls)
-lines_wide t [] s c h = h
-lines_wide t (l ∷ ls) s c h = lines_wide t ls (line_taken_in core_known t s l) (line_core t l s c) (line_wide t l s c h)
+    by : (found : ℕ × Cursor) → Wides (taken_at_in core_known t cells line (record { cursor = found.1; depth = found.0 }) (touched line (found.0) s))
+    by (depth, cursor) = turned_wide t cells line (record { cursor = cursor; depth = depth }) (touched line depth s) _ few (same_wide s (touched line depth s) (touched_containers depth line.end line.number s.quotes s.opened) h) (turn_of_core t cells line (record { cursor = cursor; depth = depth }) (touched line depth s) c)
+
+pub lines_wide : (t : List ℕ) (ls : List Line) (s : State) → 4 * length t < 2 ^ 64 - 1 → is_core s.leaf ≡ true → Wides s → Wides (fold (line_taken_in core_known t) s ls)
+lines_wide t [] s small c h = h
+lines_wide t (l ∷ ls) s small c h = lines_wide t ls (line_taken_in core_known t s l) small (line_core t l s c) (line_wide t l s small c h)

@@ -31,6 +31,7 @@ use Rattle.tocmark_text_laws.specs.Lines.{IsLine}
 use Rattle.tocmark_text_laws.specs.Quoted.{ListFrom, Item, Node, none, more, Told, told, Trees, read_trees}
 use Rattle.tocmark_text_laws.specs.Sequence.{after_lines, IsSequence, trees_joined}
 use Rattle.tocmark_text_laws.specs.ListEnds.{begins_at_margin, item_mark, goes_into}
+use Rattle.tocmark_text_laws.specs.NearMargin.{begins_near_margin, AListEndsNearMarginInALooseItem}
 use Rattle.tocmark_text_laws.specs.Loose.{begins_blank, MarksMakeALooseItem, AListEndsInALooseItem}
 use Rattle.tocmark_text_laws.proofs.Endings.{lines-end}
 use Rattle.tocmark_text_laws.proofs.Leaves.{is_core}
@@ -49,8 +50,8 @@ use Rattle.tocmark_text_laws.proofs.SequenceBlank.{Blank, leaf_alone, quote_firs
 use Rattle.tocmark_text_laws.proofs.ListEndsClosed.{left_closed, other_list, no_list, none_left}
 use Rattle.tocmark_text_laws.proofs.ListEndsLine.{Margin, listed_matched, Waits, core_container}
 use Rattle.tocmark_text_laws.proofs.ListEndsBlank.{Blanked, blank_listed}
-use Rattle.tocmark_text_laws.proofs.ListEndsFirst.{First, first_from, ascend_back, first_short, first_bytes, margin_first, begun_anywhere}
-use Rattle.tocmark_text_laws.proofs.ListEndsRun.{Holds, waits_after, holds_after, blank_ends, blank_cells, feeds, some_margin, list_between}
+use Rattle.tocmark_text_laws.proofs.ListEndsFirst.{First, first_from, ascend_back, first_short, first_bytes, margin_first, margin_near, begun_anywhere}
+use Rattle.tocmark_text_laws.proofs.ListEndsRun.{Holds, waits_after, holds_after, blank_ends, blank_cells, feeds, some_margin, list_near}
 use Rattle.tocmark_text_laws.proofs.ItemContainers.{two_on}
 use Rattle.tocmark_text_laws.proofs.ItemPages.{Inside, inside_more}
 use Rattle.tocmark_text_laws.proofs.ItemTurns.{IsInItem, line_in}
@@ -485,8 +486,22 @@ margin_inky (b ∷ bs) h = by (b == 9) (b == 32) (is_end b) h
     by false false true g = absurd cc
     by false false false g = refl
 
-pub loose_list : AListEndsInALooseItem
-loose_list m bare t u mark ok starts plain break fits c ends ink other = joined m bare t u ok starts plain break fits some (margin_inky u ink) p (pauses, resumes) (list_between t u mark c ends ink other (omega (arith, fits, long)))
+near_inky : (u : List ℕ) → begins_near_margin u ≡ true → begins_blank u ≡ false
+near_inky [] h = absurd cc
+near_inky (b ∷ bs) h = by (b == 32) h
+  where
+    end : (x y z : Bool) → not (x || y || z) ≡ true → z ≡ false
+    end true y z g = absurd cc
+    end false true z g = absurd cc
+    end false false true g = absurd cc
+    end false false false g = refl
+
+    by : (x : Bool) → (if x then begins_at_margin bs else begins_at_margin (b ∷ bs)) ≡ true → (if x then begins_blank bs else is_end b) ≡ false
+    by true g = margin_inky bs g
+    by false g = end (b == 9) (b == 32) (is_end b) g
+
+pub loose_near : AListEndsNearMarginInALooseItem
+loose_near m bare t u mark ok starts plain break fits c ends ink other = joined m bare t u ok starts plain break fits some (near_inky u ink) p (pauses, resumes) (list_near t u mark c ends ink other (omega (arith, fits, long)))
   where
     w : List ℕ
     w = t ++ 10 ∷ u
@@ -513,7 +528,7 @@ loose_list m bare t u mark ok starts plain break fits c ends ink other = joined 
     onward = first_run t (10 ∷ u) (omega (arith, fits, long)) feed split some
 
     holds : Holds mark last
-    holds = holds_after t (10 ∷ u) mark (0 + length (lines_of t)) c onward (all_lines t (omega (arith, fits, long)))
+    holds = holds_after t (10 ∷ u) mark (0 + length (lines_of t)) (omega (arith, fits, long)) c onward (all_lines t (omega (arith, fits, long)))
 
     blanked : Blanked w p.empty last
     blanked = blank_listed w p.empty mark last holds.lists holds.known (blank_ends alone last (after_lines t) onward.opened onward.leaf ends)
@@ -530,3 +545,6 @@ loose_list m bare t u mark ok starts plain break fits c ends ink other = joined 
     resumes : Resumes w cs (line_taken_in core_known w last p.empty)
     resumes = subst (Resumes w cs) (sym (p.cells last ∙ blanked.same))
         (listed_resumes w cs mark (closed_to w blanked.depth last) (waits_after w mark blanked.depth last blanked.deep holds) (margin_first u p.first.start ink) (closed_shut w blanked.depth last) apart)
+
+pub loose_list : AListEndsInALooseItem
+loose_list m bare t u mark ok starts plain break fits c ends ink other = loose_near m bare t u mark ok starts plain break fits c ends (margin_near u ink) other

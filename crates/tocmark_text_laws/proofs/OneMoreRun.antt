@@ -53,7 +53,7 @@ use Rattle.tocmark_text_laws.proofs.SequenceTrees.{Outermost}
 use Rattle.tocmark_text_laws.proofs.SequenceRun.{alone, run_on, relisted, block_relisted, take_front, blocks_alone, fold_both, feed_end, blanked, whole_page, tell, first_run, blanked_lines, Seconds, second_lines, Same, same_after, outermost}
 use Rattle.tocmark_text_laws.proofs.ListEndsClosed.{closed_further, shut_closed, Lists, only_list}
 use Rattle.tocmark_text_laws.proofs.ListEndsLine.{Margin, Waits, no_first_quote}
-use Rattle.tocmark_text_laws.proofs.ListEndsFirst.{First, first_from, first_short, first_bytes, margin_first, begun_anywhere}
+use Rattle.tocmark_text_laws.proofs.ListEndsFirst.{First, first_from, first_short, first_bytes, margin_first, margin_near, begun_anywhere}
 use Rattle.tocmark_text_laws.proofs.ListEndsRun.{Holds, waits_after, closed_known, pairs_containers, first_core, Left, left_after, feeds, lines_more, some_margin}
 use Rattle.tocmark_text_laws.proofs.Lasting.{Reached, closed_grows, line_grows}
 use Rattle.tocmark_text_laws.proofs.LooseRun.{UpTo, Counted, lines_counted, counted_later, counted_low}
@@ -267,7 +267,7 @@ record Ran (t u : List ℕ) (mark : ℕ) : Type 0 where
   onward : Onward (blanked (fed t) u) (whole t u) (ahead list further) count (after_lines (whole t u)) (after_lines (blanked (fed t) u))
 
 ran : (t u : List ℕ) (mark : ℕ) → LeavesList t mark → (k : Known t u mark) → begins_at_margin u ≡ true → goes_into mark (first_mark u) ≡ true → 4 * (length t + length u) + 28 < 2 ^ 64 → Ran t u mark
-ran t u mark c k ink goes small = by (lines_from w split.count n n u) (lines_from v n n n u) refl refl both.pairs both.shares both.ascend both.ones (first_from v n n n u (omega (arith, some_margin u ink))) later
+ran t u mark c k ink goes small = by (lines_from w split.count n n u) (lines_from v n n n u) refl refl both.pairs both.shares both.ascend both.ones (first_from v n n n u (omega (arith, some_margin u (margin_near u ink)))) later
   where
     p : List ℕ
     p = fed t
@@ -382,7 +382,7 @@ ran t u mark c k ink goes small = by (lines_from w split.count n n u) (lines_fro
         one : Onward v w (ahead list d) 1 (line_taken_in core_known w page l') (line_taken_in core_known v first_page l)
         one = subst (λ x. Onward v w (ahead list d) 1 (line_taken_in core_known w page x) (line_taken_in core_known v first_page l)) (sym (follows.0))
             (line_first v w mark l'.number d l page
-            (subst (λ bs. Margin (cs bs)) (sym bytes) (margin_first u l.start ink)) waits shut list
+            (subst (λ bs. Margin (cs bs)) (sym bytes) (margin_first u l.start (margin_near u ink))) waits shut list
             (subst (λ bs. goes_into mark (item_mark (container_at (cs bs) (tail_of (cs bs)) (first_cursor (cs bs)) false)) ≡ true) (sym bytes)
             (ap (λ o. goes_into mark (item_mark o)) (begun_anywhere l.start (first_line u) short) ∙ goes))
             shared (omega (arith, pieces, small)))

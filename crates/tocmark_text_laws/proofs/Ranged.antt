@@ -118,7 +118,7 @@ filled_length cs b at = by (b == 9)
         (omega arith, omega arith)
     by false = let w : length (cs ++ cell b at ∷ []) ≡ length cs + 1 = length-append cs (cell b at ∷ []) in (omega arith, omega arith)
 
-cells_few : (cs : List Cell) (at : ℕ) (bs : List ℕ) → length (cells_of cs at bs) ≤ length cs + 4 * length bs
+pub cells_few : (cs : List Cell) (at : ℕ) (bs : List ℕ) → length (cells_of cs at bs) ≤ length cs + 4 * length bs
 cells_few cs at [] = omega arith
 cells_few cs at (b ∷ bs) =
     let w : length (cells_of (filled cs b at) (plus at 1) bs) ≤ length (filled cs b at) + 4 * length bs = cells_few (filled cs b at) (plus at 1) bs in

@@ -14,4 +14,5 @@ pub mod Sequence
 pub mod Items
 pub mod Loose
 pub mod ListEnds
+pub mod NearMargin
 pub mod OneMoreItem

@@ -1,6 +1,7 @@
 //! Laws of a text that ends with a list, and of another text after it.
 
 ghost use Rattle.tocmark_text_laws.specs.ListEnds.{AListEnds, AListEndsAtOnce, SomeListsGoOn};
+ghost use Rattle.tocmark_text_laws.specs.NearMargin.{AListEndsNearMargin, SomeTextsNearMargin};
 
 /// A list that is in no container ends before an empty line and a text that begins at the margin, unless that text begins with an
 /// item of the same sort: with the same bullet, or with a number and the same byte after it. Then the CommonMark blocks are those of
@@ -17,6 +18,17 @@ pub fn a_list_ends()
 /// a heading, a thematic break, fenced code, or HTML of the kinds that end a paragraph. Else the paragraph goes on.
 pub fn a_list_ends_at_once()
     ensures { AListEndsAtOnce }
+{}
+
+/// The same holds if the other text begins after one space at the margin, as a block quote with the marker ` > ` does. An item goes on in
+/// lines that are indented by two columns or more.
+pub fn a_list_ends_near_the_margin()
+    ensures { AListEndsNearMargin }
+{}
+
+/// A list ends before a quote and before a paragraph that are after one space. A quote after two spaces is in its item.
+pub fn some_texts_are_near_the_margin()
+    ensures { SomeTextsNearMargin }
 {}
 
 /// A list goes on after an empty line before an item of the same sort, and before a line that is indented as the item's text is. Where

@@ -1,6 +1,7 @@
 //! Laws of loose and tight lists.
 
 ghost use Rattle.tocmark_text_laws.specs.Loose.{AListEndsInALooseItem, MarksMakeALooseItem, MarksMakeATightItem, MarksMakeATightItemOfOneBlock, NoBlankLineIsIdle, NoBlankLineNoLooseList, NoIdleLineNoLooseList, SomeJoins, SomeLists, SomeSingles};
+ghost use Rattle.tocmark_text_laws.specs.NearMargin.{AListEndsNearMarginInALooseItem};
 
 /// No list in a text is loose if none of its lines is idle. A line is idle if it has no ink, and no leaf is open after it whose last
 /// line it is. So a blank line in fenced code isn't idle. Ink is any byte but a space, a tab or `>`.
@@ -42,6 +43,11 @@ pub fn marks_make_a_loose_item()
 /// second text begins at the margin, and not with an item of the same sort. So the inner list and what is after it are apart.
 pub fn a_list_ends_in_a_loose_item()
     ensures { AListEndsInALooseItem }
+{}
+
+/// The same holds if the second text begins after one space at the margin, as a block quote with the marker ` > ` does.
+pub fn a_list_ends_near_the_margin_in_a_loose_item()
+    ensures { AListEndsNearMarginInALooseItem }
 {}
 
 /// Nine lists with one item of two texts and an empty line between them, as computed. The premises are needed: the list is tight where
