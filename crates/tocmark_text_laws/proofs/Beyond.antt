@@ -1,5 +1,5 @@
 -- Blocks that have others in front, and then those of another list. The first one of these may be one of those in front.
-use Rattle.std.proofs.Common.{◌≡◌, ℕ, zero, suc, ◌+◌, ◌-◌, ◌<◌, Bool, true, false, List, [], ◌∷◌, ◌++◌, length, take, refl, ap, sym, ◌∙◌, subst, arith, length-append}
+use Rattle.std.proofs.Common.{◌≡◌, ℕ, zero, suc, ◌-◌, ◌<◌, Bool, true, false, List, [], ◌∷◌, ◌++◌, length, take, refl, ap, sym, ◌∙◌, subst, arith}
 use Rattle.std.specs.Prelude.{slice_get, slice_set, if◌then◌else◌, Option, Some, None}
 use Rattle.std.specs.List.{AllByRecursion}
 use Rattle.std.specs.Option.{option_map_or}
@@ -9,7 +9,7 @@ use Rattle.tocmark_read_page.specs.declared.page.Block.{Block}
 use Rattle.tocmark_text_laws.proofs.Alls.{all_set, all_got, all_both, all_take}
 use Rattle.tocmark_text_laws.proofs.Houses.{lists}
 use Rattle.tocmark_text_laws.proofs.Pairs.{Pairs, PairOf, changed, changed_length, pairs_length, pairs_got, pairs_set, pairs_end}
-use Rattle.tocmark_text_laws.proofs.Fronts.{Past, past, past_is, past_got, past_set, past_end, past_changed, past_place, past_last}
+use Rattle.tocmark_text_laws.proofs.Fronts.{Past, past, past_is, past_got, past_set, past_end, past_changed, past_place}
 
 -- What is in front. With `Into`, the first of the other blocks isn't there: what it has is in the one at a place in front.
 pub data Ahead : Type 0 where

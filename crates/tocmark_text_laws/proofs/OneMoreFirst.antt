@@ -1,6 +1,6 @@
 -- The first line of a text that begins with an item, where a list for it is open and where nothing is.
 use Rattle.std.proofs.Common.{◌≡◌, inl, inr, ℕ, suc, ◌+◌, ◌-◌, ◌^◌, ◌<◌, ◌≤◌, Bool, true, false, if◌then◌else◌, nat_lt, List, [], ◌∷◌, ◌++◌, length, append-nil, refl, ap, sym, subst, ◌∙◌, arith, length-append}
-use Rattle.std.specs.Prelude.{slice_get, slice_set, ◌==◌, Option, Some, None}
+use Rattle.std.specs.Prelude.{slice_set, ◌==◌, Option, Some, None}
 use Rattle.std.specs.List.{AllByRecursion}
 use Rattle.std.specs.Option.{option_map_or}
 use Rattle.std.proofs.lemmas.Bool.Decides.{nat_tests}
@@ -33,7 +33,7 @@ use Rattle.tocmark_text_laws.proofs.Leaves.{is_core}
 use Rattle.tocmark_text_laws.proofs.Pages.{is_shut}
 use Rattle.tocmark_text_laws.proofs.Pairs.{pairs_length}
 use Rattle.tocmark_text_laws.proofs.Fronts.{past, past_is}
-use Rattle.tocmark_text_laws.proofs.Beyond.{Into, loose_at, Behind}
+use Rattle.tocmark_text_laws.proofs.Beyond.{Into, Behind}
 use Rattle.tocmark_text_laws.proofs.QuotedPages.{Shape}
 use Rattle.tocmark_text_laws.proofs.SequencePieces.{PieceOn}
 use Rattle.tocmark_text_laws.proofs.SequencePages.{Earlier, numbered, OpenedOn, BlockOn, Onward, outer_list}

@@ -42,7 +42,7 @@ use Rattle.tocmark_read_blocks.specs.declared.leaf.LeafStart.{LeafStart}
 use Rattle.tocmark_read_blocks.specs.declared.leaf.LeafStart.TheVariants as start
 use Rattle.tocmark_read_blocks.specs.declared.leaf.Turn.{Turn}
 use Rattle.tocmark_read_blocks.specs.declared.leaf.Turn.TheVariants as turn
-use Rattle.tocmark_text_laws.proofs.Alls.{all_got, all_changed, all_both, all_take, last_place}
+use Rattle.tocmark_text_laws.proofs.Alls.{all_changed, all_both, all_take, last_place}
 use Rattle.tocmark_text_laws.proofs.Leaves.{is_core}
 use Rattle.tocmark_text_laws.proofs.Core.{begins_core, leaf_core, repeated_keeps, turns_core}
 use Rattle.tocmark_text_laws.proofs.Begun.{is_core_start, container_core}

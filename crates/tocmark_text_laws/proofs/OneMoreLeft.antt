@@ -1,14 +1,10 @@
 -- What is open after a text: after empty lines in front of it, and after an item that it makes.
 use Rattle.std.proofs.Common.{◌≡◌, ℕ, zero, suc, ◌+◌, ◌^◌, ◌<◌, Bool, ◌||◌, List, [], ◌∷◌, ◌++◌, length, map, replicate, refl, ap, ◌∙◌, arith, length-append}
 use Rattle.std.specs.Prelude.{Some}
-use Rattle.std.specs.List.{fold}
 use Rattle.tocmark_read_lines.specs.Lines.{lines_of}
-use Rattle.tocmark_read_lines.specs.declared.container.Container.{Container}
-use Rattle.tocmark_read_lines.specs.declared.container.Container.TheVariants as container
 use Rattle.tocmark_read_lines.specs.declared.container.ItemStart.{ItemStart}
 use Rattle.tocmark_read_lines.specs.declared.container.Opened.{Opened}
-use Rattle.tocmark_read_page.specs.Pages.{State, first_page, is_quote}
-use Rattle.tocmark_read_blocks.specs.Blocks.{core_known, line_taken_in}
+use Rattle.tocmark_read_page.specs.Pages.{State, is_quote}
 use Rattle.tocmark_text_laws.specs.Further.{opened_on}
 use Rattle.tocmark_text_laws.specs.Items.{ListMark, Bullet, Numbered, ItemMark, item_text}
 use Rattle.tocmark_text_laws.specs.Sequence.{after_lines, ends_before_blank}

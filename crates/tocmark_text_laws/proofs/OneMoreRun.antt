@@ -1,5 +1,5 @@
 -- A list gets the items at the front of a text that comes after it.
-use Rattle.std.proofs.Common.{◌≡◌, ℕ, zero, suc, ◌+◌, ◌-◌, ◌*◌, ◌^◌, ◌<◌, ◌≤◌, Bool, true, false, ◌&&◌, List, [], ◌∷◌, ◌++◌, length, map, take, replicate, append_assoc, refl, ap, sym, subst, ◌∙◌, arith, length-append}
+use Rattle.std.proofs.Common.{◌≡◌, ℕ, zero, suc, ◌+◌, ◌-◌, ◌*◌, ◌^◌, ◌<◌, ◌≤◌, Bool, true, false, List, [], ◌∷◌, ◌++◌, length, map, take, replicate, append_assoc, refl, ap, sym, subst, ◌∙◌, arith, length-append}
 use Rattle.std.specs.Prelude.{slice_get, slice_set, if◌then◌else◌, Option, Some, None}
 use Rattle.std.specs.List.{AllByRecursion, fold}
 use Rattle.std.specs.Option.{option_map, option_map_or}
@@ -26,11 +26,11 @@ use Rattle.tocmark_read_blocks.specs.Blocks.{core_known, line_taken_in, page_in,
 use Rattle.tocmark_text_laws.specs.Housed.{AreHoused}
 use Rattle.tocmark_text_laws.specs.Items.{first_line}
 use Rattle.tocmark_text_laws.specs.Lines.{IsLine}
-use Rattle.tocmark_text_laws.specs.ListEnds.{outer_mark, LeavesList, ends_leaf, begins_at_margin, item_mark, first_mark, goes_into}
+use Rattle.tocmark_text_laws.specs.ListEnds.{LeavesList, ends_leaf, begins_at_margin, item_mark, first_mark, goes_into}
 use Rattle.tocmark_text_laws.specs.OneMoreItem.{lists_joined, IsOneMore, OneMoreItem}
-use Rattle.tocmark_text_laws.specs.Quoted.{Told, told, blocks_told, Trees, tree_told, read_trees}
+use Rattle.tocmark_text_laws.specs.Quoted.{Told, told, tree_told, read_trees}
 use Rattle.tocmark_text_laws.specs.Sequence.{after_lines}
-use Rattle.tocmark_text_laws.proofs.Alls.{all_got, same_numbers}
+use Rattle.tocmark_text_laws.proofs.Alls.{same_numbers}
 use Rattle.tocmark_text_laws.proofs.Leaves.{is_core}
 use Rattle.tocmark_text_laws.proofs.Shut.{closed_shut}
 use Rattle.tocmark_text_laws.proofs.Kept.{line_core}
@@ -41,20 +41,19 @@ use Rattle.tocmark_text_laws.proofs.Nesting.{closed_to_calm}
 use Rattle.tocmark_text_laws.proofs.NestRun.{After, all_lines, lines_few}
 use Rattle.tocmark_text_laws.proofs.HouseWalk.{blocks_housed}
 use Rattle.tocmark_text_laws.proofs.Houses.{lists}
-use Rattle.tocmark_text_laws.proofs.Ranged.{LineIn, Ascend}
+use Rattle.tocmark_text_laws.proofs.Ranged.{Ascend}
 use Rattle.tocmark_text_laws.proofs.Pairs.{Pairs, PairOf, pairs_length, pairs_got}
-use Rattle.tocmark_text_laws.proofs.Fronts.{Past, past}
-use Rattle.tocmark_text_laws.proofs.Beyond.{Into, beyond, SameBut, Behind, Beyond}
+use Rattle.tocmark_text_laws.proofs.Fronts.{Past}
+use Rattle.tocmark_text_laws.proofs.Beyond.{Into, beyond, Behind, Beyond}
 use Rattle.tocmark_text_laws.proofs.SequencePieces.{PieceOn}
-use Rattle.tocmark_text_laws.proofs.SequencePages.{Earlier, numbered, OpenedOn, BlockOn, Onward, closed_on}
+use Rattle.tocmark_text_laws.proofs.SequencePages.{Earlier, OpenedOn, BlockOn, Onward, closed_on}
 use Rattle.tocmark_text_laws.proofs.SequenceLeaves.{Shared}
-use Rattle.tocmark_text_laws.proofs.SequenceLines.{Inside, Feed, Splits, split_lines, Shares, Follows, blanks, blanks_taken}
-use Rattle.tocmark_text_laws.proofs.SequenceTrees.{Outermost}
-use Rattle.tocmark_text_laws.proofs.SequenceRun.{alone, run_on, relisted, block_relisted, take_front, blocks_alone, fold_both, feed_end, blanked, whole_page, tell, first_run, blanked_lines, Seconds, second_lines, Same, same_after, outermost}
-use Rattle.tocmark_text_laws.proofs.ListEndsClosed.{closed_further, shut_closed, Lists, only_list}
+use Rattle.tocmark_text_laws.proofs.SequenceLines.{Inside, Feed, Splits, split_lines, Shares, Follows, blanks_taken}
+use Rattle.tocmark_text_laws.proofs.SequenceRun.{alone, run_on, relisted, block_relisted, take_front, blocks_alone, fold_both, feed_end, blanked, tell, first_run, blanked_lines, Seconds, second_lines, Same, same_after}
+use Rattle.tocmark_text_laws.proofs.ListEndsClosed.{closed_further, shut_closed, only_list}
 use Rattle.tocmark_text_laws.proofs.ListEndsLine.{Margin, Waits, no_first_quote}
 use Rattle.tocmark_text_laws.proofs.ListEndsFirst.{First, first_from, first_short, first_bytes, margin_first, margin_near, begun_anywhere}
-use Rattle.tocmark_text_laws.proofs.ListEndsRun.{Holds, waits_after, closed_known, pairs_containers, first_core, Left, left_after, feeds, lines_more, some_margin}
+use Rattle.tocmark_text_laws.proofs.ListEndsRun.{waits_after, closed_known, pairs_containers, first_core, Left, left_after, feeds, lines_more, some_margin}
 use Rattle.tocmark_text_laws.proofs.Lasting.{Reached, closed_grows, line_grows}
 use Rattle.tocmark_text_laws.proofs.LooseRun.{UpTo, Counted, lines_counted, counted_later, counted_low}
 use Rattle.tocmark_text_laws.proofs.OneMoreHeads.{Filled, Full, closed_full, lines_full}

@@ -1,5 +1,5 @@
 -- What the blocks are of a text that ends with a list, an empty line, and a text that begins with an item of the same sort.
-use Rattle.std.specs.Prelude.{ℕ, ◌+◌, ◌*◌, ◌^◌, ◌<◌, ◌≡◌, Bool, true, false, ◌==◌, ◌&&◌, List, [], ◌∷◌, ◌++◌, length, codes, Option, Some}
+use Rattle.std.specs.Prelude.{ℕ, ◌+◌, ◌*◌, ◌^◌, ◌<◌, ◌≡◌, Bool, true, false, ◌==◌, ◌&&◌, List, ◌∷◌, ◌++◌, length, codes, Some}
 use Rattle.std.specs.List.{list_any}
 use Rattle.tocmark_read_scan.specs.declared.syntax.TheConstants.{CORE}
 use Rattle.tocmark_read_blocks.specs.Blocks.{blocks_in}
