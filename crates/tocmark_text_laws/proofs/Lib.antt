@@ -110,3 +110,5 @@ pub mod OneMoreTrees
 pub mod OneMoreLeft
 pub mod OneMoreRun
 pub mod OneMoreRows
+pub mod SequenceStates
+pub mod ListEndsStates

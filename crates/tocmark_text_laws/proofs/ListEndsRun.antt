@@ -282,11 +282,11 @@ left_after t v mark c ends small = by (lines_more t (omega (arith, small)) feed)
 
 -- the empty line adds no block
 
-record Ended (t : List ℕ) : Type 0 where
-  blocks : tell (t ++ 10 ∷ []) (whole_page (t ++ 10 ∷ [])) ≡ tell t (whole_page t)
-  definitions : (whole_page (t ++ 10 ∷ [])).definitions ≡ (whole_page t).definitions
+pub record Ended (t : List ℕ) : Type 0 where
+  pub blocks : tell (t ++ 10 ∷ []) (whole_page (t ++ 10 ∷ [])) ≡ tell t (whole_page t)
+  pub definitions : (whole_page (t ++ 10 ∷ [])).definitions ≡ (whole_page t).definitions
 
-ended_list : (t : List ℕ) (mark : ℕ) → LeavesList t mark → ends_leaf (after_lines t) ≡ true → 4 * length t + 28 < 2 ^ 64 → Ended t
+pub ended_list : (t : List ℕ) (mark : ℕ) → LeavesList t mark → ends_leaf (after_lines t) ≡ true → 4 * length t + 28 < 2 ^ 64 → Ended t
 ended_list t mark c ends small = record {
   blocks = ap (tell q) whole ∙ blocks_alone t q n (closed_to t 0 here).kept (closed_to q 0 there).pieces (closed_to q 0 there).pieces (closed_to t 0 here).pieces (closed_to q 0 there).blocks (closed_to t 0 here).blocks done.pieces (λ i e. refl) done.lasts done.blocks;
   definitions = ap (λ (s : State). s.definitions) whole ∙ done.definitions;
@@ -328,7 +328,7 @@ ended_list t mark c ends small = record {
             ap (closed_to q 0) (ap (fold (line_taken_in core_known q) first_page) e ∙ fold_both (line_taken_in core_known q) first_page (lines_of t) (line count (length t) (length t) (length t + 1) ∷ []) ∙ blank_cells q count (length t) there ∙ b.same)
             ∙ closed_further q 0 b.depth there (omega arith)
 
-quotes_after : (t : List ℕ) → After (after_lines t) → (closed_to t 0 (after_lines t)).quotes ≡ []
+pub quotes_after : (t : List ℕ) → After (after_lines t) → (closed_to t 0 (after_lines t)).quotes ≡ []
 quotes_after t (a, m, r) = closed_known t 0 (after_lines t) (quotes_known a m (after_lines t) r) ∙ ap (λ os. quotes_of 0 (containers os)) (none_of (closed_to t 0 (after_lines t)).opened (none_open t (after_lines t)))
 
 -- the first line of the second text ends the list
@@ -352,11 +352,11 @@ some_margin [] h = absurd cc
 some_margin (b ∷ bs) h = omega arith
 
 -- the open leaf lets the first line of the second text begin something else
-abbrev AllYield : List ℕ → List ℕ → State → Type 0
+abbrev pub AllYield : List ℕ → List ℕ → State → Type 0
 AllYield p u s = (l : Line) → bytes_between (p ++ u) l.start l.end ≡ first_line u → l.start + length (first_line u) + 1 < 2 ^ 64 - 1 → Yields (p ++ u) (cells_of [] l.start (first_line u)) l s
 
 -- the lines of the second text
-rest_closes : (p u : List ℕ) (mark : ℕ) (s : State) → Waits mark s → AllYield p u s → begins_near_margin u ≡ true → goes_into mark (first_mark u) ≡ false → 4 * (length p + length u) + 20 < 2 ^ 64 → (split : Splits p u (length p) (lines_of (p ++ u)) (lines_of p))
+pub rest_closes : (p u : List ℕ) (mark : ℕ) (s : State) → Waits mark s → AllYield p u s → begins_near_margin u ≡ true → goes_into mark (first_mark u) ≡ false → 4 * (length p + length u) + 20 < 2 ^ 64 → (split : Splits p u (length p) (lines_of (p ++ u)) (lines_of p))
     → fold (line_taken_in core_known (p ++ u)) s (lines_from (p ++ u) split.count (length p) (length p) u) ≡ fold (line_taken_in core_known (p ++ u)) (closed_to (p ++ u) 0 s) (lines_from (p ++ u) split.count (length p) (length p) u)
 rest_closes p u mark s waits yields ink other small split = by (lines_from q split.count k k u) refl (first_from q split.count k k u (omega (arith, some_margin u ink)))
   where

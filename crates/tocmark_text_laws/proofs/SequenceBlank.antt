@@ -125,12 +125,12 @@ one_line q a b =
     ∙ ap (λ n. line a b n (b + 1) ∷ lines_from q (a + 1) (b + 1) (b + 1) []) (feed_stop q b)
     ∙ ap (λ ls. line a b b (b + 1) ∷ ls) (nothing_left (a + 1) (b + 1))
 
-record Ended (t : List ℕ) : Type 0 where
-  closed : IsClosed (t ++ 10 ∷ [])
-  blocks : tell (t ++ 10 ∷ []) (whole_page (t ++ 10 ∷ [])) ≡ tell t (whole_page t)
-  definitions : (whole_page (t ++ 10 ∷ [])).definitions ≡ (whole_page t).definitions
+pub record Ended (t : List ℕ) : Type 0 where
+  pub closed : IsClosed (t ++ 10 ∷ [])
+  pub blocks : tell (t ++ 10 ∷ []) (whole_page (t ++ 10 ∷ [])) ≡ tell t (whole_page t)
+  pub definitions : (whole_page (t ++ 10 ∷ [])).definitions ≡ (whole_page t).definitions
 
-ended : (t : List ℕ) → IsQuiet t → 4 * length t + 28 < 2 ^ 64 → Ended t
+pub ended : (t : List ℕ) → IsQuiet t → 4 * length t + 28 < 2 ^ 64 → Ended t
 ended t c small = record {
   closed = record { line = (t, refl); leaf = ap (λ (s : State). s.leaf) last ∙ closed_shut q 0 there; opened = ap (λ (s : State). s.opened) last ∙ none };
   blocks = ap (tell q) whole ∙ blocks_alone t q n (closed_to t 0 here).kept (closed_to q 0 there).pieces (closed_to q 0 there).pieces (closed_to t 0 here).pieces (closed_to q 0 there).blocks (closed_to t 0 here).blocks done.pieces (λ i e. refl) done.lasts done.blocks;

@@ -78,7 +78,7 @@ past_self [] R = tt
 past_self (f ∷ fs) R = (refl, past_self fs R)
 
 -- the page after the first text, with all of it in front
-begin_onward : (t q : List ℕ) (s : State) (d : ℕ) → s.leaf ≡ leaf.Nothing → s.opened ≡ [] → s.quotes ≡ [] → length s.pieces + 1 < 2 ^ 64 - 1
+pub begin_onward : (t q : List ℕ) (s : State) (d : ℕ) → s.leaf ≡ leaf.Nothing → s.opened ≡ [] → s.quotes ≡ [] → length s.pieces + 1 < 2 ^ 64 - 1
     → Onward t q (record { blocks = Before s.blocks; pieces = s.pieces; definitions = s.definitions; lines = d }) 0 s first_page
 unfolding is_core is_shut
 begin_onward t q s d l o qs room = record {
@@ -106,7 +106,7 @@ closed_already t s l o =
     ap (λ (u : State). times one_closed (length u.opened - 0) u) (ap (λ k. leaf_closed_as k t s) l)
     ∙ ap (λ (os : List Opened). times one_closed (length os - 0) s) o
 
-quotes_none : (c n : ℕ) (s : State) → Rests 0 n c n s → s.leaf ≡ leaf.Nothing → s.opened ≡ [] → s.quotes ≡ []
+pub quotes_none : (c n : ℕ) (s : State) → Rests 0 n c n s → s.leaf ≡ leaf.Nothing → s.opened ≡ [] → s.quotes ≡ []
 quotes_none c n s (calm e k) l o = (k.2).quotes ∙ ap (λ os. quotes_of 0 (containers os)) o
 quotes_none c n s (leafed w low fs b k) l o = absurd (true≢false (sym w ∙ ap is_worded l))
 
@@ -354,7 +354,7 @@ second_lines t u count small few = record {
     ones : AllByRecursion (IsLine v) ls
     ones = all_back (IsLine v) (blanks 0 k) ls (subst (λ xs. AllByRecursion (IsLine v) xs) (blanked_lines t u) (lines-end v (omega (arith, small, long))))
 
-second_run : (t u : List ℕ) (count : ℕ) (f : Earlier) (s : State) → 4 * (length t + length u) + 20 < 2 ^ 64 → count ≤ length t → f.lines ≡ length t - count → length f.pieces ≤ length t + 1 → Onward (blanked t u) (t ++ u) f 0 s first_page
+pub second_run : (t u : List ℕ) (count : ℕ) (f : Earlier) (s : State) → 4 * (length t + length u) + 20 < 2 ^ 64 → count ≤ length t → f.lines ≡ length t - count → length f.pieces ≤ length t + 1 → Onward (blanked t u) (t ++ u) f 0 s first_page
     → Onward (blanked t u) (t ++ u) f (0 + length (lines_from (blanked t u) (length t) (length t) (length t) u)) (fold (line_taken_in core_known (t ++ u)) s (lines_from (t ++ u) count (length t) (length t) u)) (fold (line_taken_in core_known (blanked t u)) first_page (lines_from (blanked t u) (length t) (length t) (length t) u))
 second_run t u count f s small few shift pieces h =
     run_on (blanked t u) (t ++ u) f 0 (lines_from (t ++ u) count (length t) (length t) u) ls s first_page
