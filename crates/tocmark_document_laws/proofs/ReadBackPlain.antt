@@ -132,7 +132,7 @@ module _ (o : OptionsView) (flags : ParserOptions) (tokens : ArePlainTokens o) w
         closes = subst (λ (ls : List Line). length (ended true ls) < 2 ^ 64 → Closes ls (feeds_below o b)) (sym h.lines) h.closes;
       }
 
-  stand : (b : PlainBlock) → IsPlainBlock b → IsTabless b → Stands o flags b
+  pub stand : (b : PlainBlock) → IsPlainBlock b → IsTabless b → Stands o flags b
   stand (PlainParagraph l ms) h t =
       let lines = lines_good l ms h in
       let parts : List Part = parts_of (first_in ms) l in

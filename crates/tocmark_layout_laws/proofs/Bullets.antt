@@ -95,7 +95,7 @@ broken b x h =
     all_fail (is_rule_byte b) (b == c) (nat_le (length cs - tail_length cs c) 0) (nat_le 3 (count_of cs 0 b))
     (λ same. let low : tail_length cs c < length cs = tail_after b c x h (eq_of b c same) in grind (arith, low, nat_tests))
 
-no_rule : (b : ℕ) (x : List ℕ) → IsBullet b → IsNoRule b x → is_rule (numbered 0 (b ∷ 32 ∷ x)) (tail_of (numbered 0 (b ∷ 32 ∷ x))) 0 ≡ false
+pub no_rule : (b : ℕ) (x : List ℕ) → IsBullet b → IsNoRule b x → is_rule (numbered 0 (b ∷ 32 ∷ x)) (tail_of (numbered 0 (b ∷ 32 ∷ x))) 0 ≡ false
 unfolding is_rule is_rule_byte tail_of
 no_rule b x bullet (inl e) = rw e refl
 no_rule b x (inl e) (inr (inl f)) = rw (e, f) refl

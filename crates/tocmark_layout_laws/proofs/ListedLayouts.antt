@@ -111,7 +111,7 @@ module _ (o : OptionsView) (flags : ParserOptions) (tokens : ArePlainTokens o) w
             (λ at. (s.places at).1 ∙ ap (λ n. at + suc n) (sym long)));
       }
 
-  laid : (c : Outside) (how : How) (b : PlainBlock) → IsPlainBlock b → AreShort (2 ^ 64) (plain_lines o flags c how b) → LaidLeaf b (declared_block o flags b) (plain_lines o flags c how b)
+  pub laid : (c : Outside) (how : How) (b : PlainBlock) → IsPlainBlock b → AreShort (2 ^ 64) (plain_lines o flags c how b) → LaidLeaf b (declared_block o flags b) (plain_lines o flags c how b)
   laid c how (PlainParagraph l ms) plain short = let s = declares o flags tokens (PlainParagraph l ms) plain in leaf_of (PlainParagraph l ms) _ s (sym s.is) short
   laid c how (PlainHeading level ts) plain short = let s = declares o flags tokens (PlainHeading level ts) plain in leaf_of (PlainHeading level ts) _ s (sym s.is) short
   laid c how (PlainCode info lines) plain short = let s = declares o flags tokens (PlainCode info lines) plain in leaf_of (PlainCode info lines) _ s (sym s.is) short

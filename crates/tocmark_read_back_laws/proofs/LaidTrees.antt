@@ -175,7 +175,7 @@ module _ (o : OptionsView) (flags : ParserOptions) (tokens : ArePlainTokens o) w
   some_lines fed l (m ∷ n ∷ ns) = refl
 
   -- a plain block is the declared one
-  block_told : (fed : Bool) (b : PlainBlock) (bs : block.Blocks) → IsPlainBlock b → more_if (block_from (sort_read b) false (block_read o flags fed b) block.none) bs ≡ told_before (declared_block o flags b) bs
+  pub block_told : (fed : Bool) (b : PlainBlock) (bs : block.Blocks) → IsPlainBlock b → more_if (block_from (sort_read b) false (block_read o flags fed b) block.none) bs ≡ told_before (declared_block o flags b) bs
   block_told fed (PlainParagraph l ms) bs h =
       let ls : List Line = paragraph_lines o flags l ms in
       ap (λ x. more_if x bs) (some_lines fed l ms)

@@ -15,3 +15,14 @@ pub mod LaidReadings
 pub mod TightLists
 pub mod ShortLists
 pub mod ReadBackExamples
+pub mod NestedTexts
+pub mod NestedLines
+pub mod NestedBare
+pub mod NestedMarks
+pub mod NestedBlocks
+pub mod NestedLaws
+pub mod NestedLeaves
+pub mod NestedTags
+pub mod NestedReadings
+pub mod NestedOptions
+pub mod NestedExamples

@@ -306,7 +306,7 @@ module _ (o : OptionsView) (flags : ParserOptions) (tokens : ArePlainTokens o) w
   here_safe c how (PlainHeading level ts) h t = block_safe (PlainHeading level ts) h t
   here_safe c how (PlainCode info ls) h t = block_safe (PlainCode info ls) h t
 
-  blocks_safe : (items : Bool) (c : Outside) (how : How) (f : Blocks) → HasMarker items c → ArePlainIn items f → HasBullets o f → BlocksTabless f → LinesSafe (lines_of o flags c how f)
+  pub blocks_safe : (items : Bool) (c : Outside) (how : How) (f : Blocks) → HasMarker items c → ArePlainIn items f → HasBullets o f → BlocksTabless f → LinesSafe (lines_of o flags c how f)
   blocks_safe items c how Nothing m h q t = tt
   blocks_safe true c how (PlainThen b f) m h q t = absurd h
   blocks_safe false c how (PlainThen b f) m h q t =

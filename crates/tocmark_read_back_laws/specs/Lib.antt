@@ -1,3 +1,4 @@
 pub mod Contents
 pub mod Trees
 pub mod Documents
+pub mod Nested

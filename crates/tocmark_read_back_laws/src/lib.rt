@@ -3,4 +3,5 @@
 
 pub mod contents;
 pub mod documents;
+pub mod nested;
 pub mod trees;
