@@ -9,3 +9,5 @@ pub mod ReadBackLines
 pub mod ReadBackRows
 pub mod ReadBackBlocks
 pub mod ReadBackPlain
+pub mod ProperLists
+pub mod ReadingsExpected

@@ -2,3 +2,4 @@ pub mod Blocks
 pub mod DocumentLines
 pub mod LaidOut
 pub mod ReadBack
+pub mod ProperLists

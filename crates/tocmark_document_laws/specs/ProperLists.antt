@@ -1,0 +1,41 @@
+-- Lists of events that the writer never refuses as unexpected.
+use Rattle.std.specs.Prelude.{◌≡◌, ◌≢◌, ℕ, List, [], ◌++◌, Err, map}
+use Rattle.std.specs.List.{AllByRecursion}
+use Rattle.tocmark_event.specs.Forest.{IsBalanced}
+use Rattle.tocmark_event.specs.Options.{OptionsView}
+use Rattle.tocmark_event.specs.Reading.{ReadingView}
+use Rattle.tocmark_event.specs.View.{EventView}
+use Rattle.tocmark_event.specs.declared.event.flags.ParserOptions.{ParserOptions}
+use Rattle.tocmark_event.specs.declared.options.Error.TheVariants.{UnexpectedEvent}
+use Rattle.tocmark_read_scan.specs.declared.syntax.TheConstants.{CORE}
+use Rattle.tocmark_read_blocks.specs.Blocks.{blocks_in}
+use Rattle.tocmark_reader.specs.Reading.{core_reading}
+use Rattle.tocmark_text_laws.specs.Proper.{IsCounted, NoneIsMisplaced}
+use Rattle.tocmark_state.specs.Ranges.{Pair}
+use Rattle.tocmark_state.specs.Walk.{nothing_yet, script, walk}
+use Rattle.tocmark_state.specs.WorkView.{rendering}
+
+-- each container is ended, the innermost first, and none begins where it is refused
+pub record IsProper (es : List EventView) : Type 0 where
+  pub balanced : IsBalanced es
+  pub placed : NoneIsMisplaced [] es
+
+-- the events of pairs
+abbrev pub events_of : List Pair → List EventView
+events_of p = map (λ x. x.0) p
+
+-- a new state never refuses these pairs as unexpected, and no front of them, whatever their ranges are
+pub record AreExpected (options : OptionsView) (reading : List ℕ → ParserOptions → ReadingView) (flags : ParserOptions) (source : List ℕ) (p : List Pair) : Type 0 where
+  pub whole : (script (rendering options reading) source (nothing_yet flags) p).outcome ≢ Err UnexpectedEvent
+  pub fronts : (front rest : List Pair) → p ≡ front ++ rest → (walk (rendering options reading) source (nothing_yet flags) front).outcome ≢ Err UnexpectedEvent
+
+-- so it is with proper events, under all options, over every reader
+abbrev pub ProperListsAreExpected : Type 0
+ProperListsAreExpected = (options : OptionsView) (reading : List ℕ → ParserOptions → ReadingView) (flags : ParserOptions) (source : List ℕ) (p : List Pair)
+    → IsProper (events_of p) → AreExpected options reading flags source p
+
+-- so it is with what `CoreReader` reads of each text
+abbrev pub ReadingsAreExpected : Type 0
+ReadingsAreExpected = (options : OptionsView) (reading : List ℕ → ParserOptions → ReadingView) (flags : ParserOptions) (source text : List ℕ) (p : List Pair)
+    → AllByRecursion (IsCounted text (blocks_in CORE text).pieces) (blocks_in CORE text).blocks → events_of p ≡ map (λ e. e.0) (core_reading text).events
+    → AreExpected options reading flags source p
