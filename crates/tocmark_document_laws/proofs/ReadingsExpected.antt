@@ -8,7 +8,8 @@ use Rattle.tocmark_reader.specs.Emitted.{NodeView, Writing, emitted, step}
 use Rattle.tocmark_reader.specs.Reading.{core_reading, found_under, reading_of}
 use Rattle.tocmark_reader.proofs.EmitLaws.{leads_closed, leads_fold, levels}
 use Rattle.tocmark_text_laws.proofs.Assembling.{readings_proper}
-use Rattle.tocmark_document_laws.specs.ProperLists.{IsProper, ProperListsAreExpected, ReadingsAreExpected}
+use Rattle.tocmark_text_laws.proofs.ShortTexts.{short_counted}
+use Rattle.tocmark_document_laws.specs.ProperLists.{IsProper, ProperListsAreExpected, ReadingsAreExpected, ShortReadingsAreExpected}
 use Rattle.tocmark_document_laws.proofs.ProperLists.{proper_expected}
 
 nodes_balanced : (text : List ℕ) (nodes : List NodeView) → IsBalanced (map (λ e. e.0) (emitted text nodes))
@@ -27,3 +28,6 @@ pub readings_expected : ReadingsAreExpected
 readings_expected options reading flags source text p counted same =
     let is : IsProper (map (λ e. e.0) (core_reading text).events) = record { balanced = reading_balanced CORE text; placed = readings_proper text counted } in
     proper_expected options reading flags source p (subst IsProper (sym same) is)
+
+pub short_readings_expected : ShortReadingsAreExpected
+short_readings_expected options reading flags source text p short same = readings_expected options reading flags source text p (short_counted text short) same

@@ -1,5 +1,5 @@
 -- Lists of events that the writer never refuses as unexpected.
-use Rattle.std.specs.Prelude.{◌≡◌, ◌≢◌, ℕ, List, [], ◌++◌, Err, map}
+use Rattle.std.specs.Prelude.{◌≡◌, ◌≢◌, ℕ, ◌^◌, ◌<◌, List, [], ◌++◌, Err, length, map}
 use Rattle.std.specs.List.{AllByRecursion}
 use Rattle.tocmark_event.specs.Forest.{IsBalanced}
 use Rattle.tocmark_event.specs.Options.{OptionsView}
@@ -39,3 +39,8 @@ abbrev pub ReadingsAreExpected : Type 0
 ReadingsAreExpected = (options : OptionsView) (reading : List ℕ → ParserOptions → ReadingView) (flags : ParserOptions) (source text : List ℕ) (p : List Pair)
     → AllByRecursion (IsCounted text (blocks_in CORE text).pieces) (blocks_in CORE text).blocks → events_of p ≡ map (λ e. e.0) (core_reading text).events
     → AreExpected options reading flags source p
+
+-- and with that of each text of fewer than 2^30 bytes
+abbrev pub ShortReadingsAreExpected : Type 0
+ShortReadingsAreExpected = (options : OptionsView) (reading : List ℕ → ParserOptions → ReadingView) (flags : ParserOptions) (source text : List ℕ) (p : List Pair)
+    → length text < 2 ^ 30 → events_of p ≡ map (λ e. e.0) (core_reading text).events → AreExpected options reading flags source p

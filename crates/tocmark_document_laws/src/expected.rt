@@ -1,6 +1,6 @@
 //! Laws of what the writer never refuses as unexpected.
 
-ghost use Rattle.tocmark_document_laws.specs.ProperLists.{ProperListsAreExpected, ReadingsAreExpected};
+ghost use Rattle.tocmark_document_laws.specs.ProperLists.{ProperListsAreExpected, ReadingsAreExpected, ShortReadingsAreExpected};
 
 /// A new state never refuses a list of events as `UnexpectedEvent` if its containers nest and none begins where the writer
 /// refuses it. It refuses no front of such a list so. This holds under all options and flags, over every reader, and
@@ -9,8 +9,9 @@ pub fn proper_lists_are_expected()
     ensures { ProperListsAreExpected }
 {}
 
-/// So the writer never refuses what `CoreReader` reads of a text as `UnexpectedEvent`. The depth of each block and the
-/// length of its text, together, are numbers of 64 bits.
+/// So the writer never refuses what `CoreReader` reads of a text as `UnexpectedEvent`. The text has fewer than 2^30 bytes
+/// (`short`), or the depth of each block and the length of its text, together, are numbers of 64 bits (`counted`).
 pub fn readings_are_expected()
-    ensures { ReadingsAreExpected }
+    ensures counted { ReadingsAreExpected }
+    ensures short { ShortReadingsAreExpected }
 {}

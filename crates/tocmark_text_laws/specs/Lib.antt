@@ -14,5 +14,6 @@ pub mod Sequence
 pub mod Items
 pub mod Loose
 pub mod ListEnds
+pub mod Counted
 pub mod NearMargin
 pub mod OneMoreItem
