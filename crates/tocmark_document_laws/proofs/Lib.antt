@@ -11,3 +11,4 @@ pub mod ReadBackBlocks
 pub mod ReadBackPlain
 pub mod ProperLists
 pub mod ReadingsExpected
+pub mod UnexpectedRows

@@ -1,6 +1,6 @@
 //! Laws of what the writer never refuses as unexpected.
 
-ghost use Rattle.tocmark_document_laws.specs.ProperLists.{ProperListsAreExpected, ReadingsAreExpected, ShortReadingsAreExpected};
+ghost use Rattle.tocmark_document_laws.specs.ProperLists.{ProperListsAreExpected, ReadingsAreExpected, ShortReadingsAreExpected, SomeListsAreUnexpected};
 
 /// A new state never refuses a list of events as `UnexpectedEvent` if its containers nest and none begins where the writer
 /// refuses it. It refuses no front of such a list so. This holds under all options and flags, over every reader, and
@@ -14,4 +14,9 @@ pub fn proper_lists_are_expected()
 pub fn readings_are_expected()
     ensures counted { ReadingsAreExpected }
     ensures short { ShortReadingsAreExpected }
+{}
+
+/// Two lists that are refused so, computed: an item in no list, and a heading in a heading.
+pub fn some_lists_are_unexpected()
+    ensures { SomeListsAreUnexpected }
 {}

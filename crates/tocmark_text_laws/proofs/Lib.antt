@@ -114,3 +114,5 @@ pub mod OneMoreRun
 pub mod OneMoreTrees
 pub mod SequenceStates
 pub mod ShortTexts
+pub mod InlineOrder
+pub mod Rising

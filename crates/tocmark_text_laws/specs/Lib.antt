@@ -17,3 +17,5 @@ pub mod ListEnds
 pub mod Counted
 pub mod NearMargin
 pub mod OneMoreItem
+pub mod InlineOrder
+pub mod LineOrder

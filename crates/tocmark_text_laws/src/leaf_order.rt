@@ -1,0 +1,21 @@
+//! Laws of the order of lines and inlines of leaves.
+
+ghost use Rattle.tocmark_text_laws.specs.InlineOrder.{InlinesAreInOrder, SomeInlines};
+ghost use Rattle.tocmark_text_laws.specs.LineOrder.{LinesOfLeavesAreInOrder};
+
+/// The lines of all CommonMark leaves of a text come one after the other, and don't overlap.
+pub fn lines_of_leaves_are_in_order()
+    ensures { LinesOfLeavesAreInOrder }
+{}
+
+/// The inlines of a leaf begin within its text, none before one that comes before it in the list. A text among them has a
+/// byte, lies within the leaf's text, and ends before the next inline begins, or where it does. So it is whatever roles the
+/// bytes have, so with any extensions.
+pub fn inlines_are_in_order()
+    ensures { InlinesAreInOrder }
+{}
+
+/// The inlines of three lists of roles, computed.
+pub fn some_inlines_are_in_order()
+    ensures { SomeInlines }
+{}
