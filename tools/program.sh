@@ -1,6 +1,6 @@
 # shellcheck shell=bash disable=SC2034,SC2154
 # What ./tocmark, ./tocmark-compare, ./tocmark-events, ./tocmark-format, ./tocmark-links, ./tocmark-lsp, tools/install and tools/release share:
-# the programs' names, whether one is built and current, and what the wrappers do before that. It is sourced, with the
+# the programs' names, whether one is built and current, sums of sources, and what the wrappers do before that. It is sourced, with the
 # repository's top in top, and speaks of tocmark then.
 
 # Each command with its crate; tools/install builds them in this order.
@@ -75,6 +75,16 @@ find_sources() {
       [[ ! -d $part ]] || sources+=("$part")
     done
   done
+}
+
+# Prints a sum of the sources, which is the same in each checkout.
+sum_of_sources() {
+  (cd "$top" && find "${sources[@]#"$top/"}" -type f -print0 | LC_ALL=C sort -z | xargs -0 sha256sum | sha256sum)
+}
+
+# Prints the same sum for the library for C.
+sum_of_library() {
+  (name_crate tocmark_c && sum_of_sources)
 }
 
 # is_current FILE: it is there, and no source is newer.
