@@ -1,5 +1,8 @@
 //! What a call asks for.
 
+ghost use Rattle.std.specs.Prelude.{◌≡◌};
+ghost use Rattle.tocmark_format_program.specs.Formats.{is_dry};
+
 use crate::lookup::{Refused, whole_path};
 use crate::outcome::Terms;
 use crate::report::Form;
@@ -24,7 +27,9 @@ pub struct Task {
 
 impl Task {
     /// Whether no file is changed.
-    pub fn is_dry(&self) -> bool {
+    pub fn is_dry(&self) -> bool
+        ensures { result ≡ is_dry self.now }
+    {
         self.terms.checks || self.shows
     }
 }

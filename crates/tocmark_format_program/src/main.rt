@@ -14,6 +14,11 @@
 //! messages.
 #![tactic(auto)]
 
+ghost use Rattle.std.specs.Prelude.{◌≡◌, IfOk, IsFalse, IsTrue, MatchResult, OnErr, OnOk, length};
+ghost use Rattle.tocmark_files.specs.Replaced.{IsGivenNothing, steps_on};
+ghost use Rattle.tocmark_format_program.specs.Formats.{IsFormattedBy, is_dry};
+ghost use Rattle.tocmark_format_program.specs.Outcomes.{AreAnswered, EndsBy, failed};
+
 mod arguments;
 mod decide;
 mod fault;
@@ -40,18 +45,19 @@ use replace::format_file;
 use report::{Form, Report};
 use search::{Found, Origin, Search, Target};
 use std::alloc::{AllocError, Global};
-use std::io::{BufWriter, IsTerminal, Read, Stderr, Write};
+use std::io::{BufWriter, IsTerminal, Stderr};
 use std::process::ExitCode;
 use std::{env, fs, io};
-use stream::{Passed, READER, format_stream, passed_by};
+use stream::{Passed, READER, copy_stream, format_stream, passed_by};
 use text::text_in;
 use tocmark_command::program::Program;
 use tocmark_command::streams::{wants_color, write_out};
 use tocmark_command::syntax::syntax_help;
 use tocmark_files::diff::{Look, unified_diff};
-use tocmark_files::place::Place;
+use tocmark_files::place::OpenFile;
 use tocmark_files::quoted::Quoted;
 use tocmark_files::replace::remove_left;
+use tocmark_judge::PartReader;
 use tocmark_settings::Settings;
 use words::{Words, words_of};
 
@@ -107,26 +113,45 @@ fn show_change(rt: &HostRuntime, work: Work, name: &str, decision: &Decision) ->
 }
 
 /// Shows what would change in the text of a file, and changes nothing.
-fn preview(
+fn preview<R: PartReader>(
     rt: &HostRuntime,
     work: Work,
+    reader: &R,
     settings: Settings,
     name: &str,
     text: String,
 ) -> Result<Passed, Fault> {
-    let decision = decided(rt.alloc(), text, &READER, settings)?;
+    let decision = decided(rt.alloc(), text, reader, settings)?;
     show_change(rt, work, name, &decision)?;
     Ok(passed_by(decision))
 }
 
-/// Formats a file that was found, or shows what would change in it.
-fn done_in(rt: &HostRuntime, work: Work, target: &Target, place: &Place) -> Result<Passed, Fault> {
-    let mut file = place.open(rt).map_err(Fault::Read)?;
+/// Formats an open file, or shows what would change in it and leaves it alone.
+fn done_in<R: PartReader>(
+    rt: &HostRuntime,
+    work: Work,
+    reader: &R,
+    target: &Target,
+    file: &mut OpenFile,
+) -> Result<Passed, Fault>
+    ensures dry { IsTrue (is_dry work.task) → steps_on file.new ≡ steps_on file.old }
+    ensures given { IsFalse (is_dry work.task) → IfOk result (λ passed. IsFormattedBy
+        target.now.settings (R.reading reader.now) (R.definitions reader.now) work.task.syncs
+        passed.outcome.is_changed file.old file.new) }
+    ensures stays { OnErr result (IsGivenNothing file.old file.new) }
+{
     if !work.task.is_dry() {
-        return format_file(rt, &mut file, &READER, target, work.task.syncs);
+        return format_file(rt, file, reader, target, work.task.syncs);
     }
     let text = text_in(rt.alloc(), &mut file.file)?;
-    preview(rt, work, target.settings, target.path.as_str(), text)
+    preview(
+        rt,
+        work,
+        reader,
+        target.settings,
+        target.path.as_str(),
+        text,
+    )
 }
 
 /// Formats standard input to standard output.
@@ -138,11 +163,7 @@ fn pass_through(rt: &HostRuntime, settings: Settings) -> Result<Passed, Fault> {
 /// Copies standard input to standard output, unless nothing is to be written.
 fn copy_through(rt: &HostRuntime, work: Work) -> Result<Passed, Fault> {
     if !work.task.is_dry() {
-        let mut bytes = Vec::new(rt.alloc());
-        rt.stdin().read_to_end(&mut bytes).map_err(Fault::Read)?;
-        let mut output = rt.stdout();
-        output.write_all(&bytes).map_err(Fault::Output)?;
-        output.flush().map_err(Fault::Output)?;
+        copy_stream(rt.alloc(), &mut rt.stdin(), &mut rt.stdout())?;
     }
     Ok(Passed {
         outcome: Outcome::UNCHANGED,
@@ -162,10 +183,13 @@ fn done(rt: &HostRuntime, work: Work, target: &Target) -> Result<Passed, Fault> 
         Origin::ExcludedInput => copy_through(rt, work),
         Origin::Input if is_dry => {
             let text = text_in(rt.alloc(), &mut rt.stdin())?;
-            preview(rt, work, settings, path, text)
+            preview(rt, work, &READER, settings, path, text)
         }
         Origin::Input => pass_through(rt, settings),
-        Origin::File(place) => done_in(rt, work, target, place),
+        Origin::File(place) => {
+            let mut file = place.open(rt).map_err(Fault::Read)?;
+            done_in(rt, work, &READER, target, &mut file)
+        }
     }
 }
 
@@ -174,7 +198,10 @@ fn outcome_said(
     report: &mut Report<BufWriter<Stderr>>,
     path: &str,
     done: &Result<Passed, Fault>,
-) -> Result<Outcome, AllocError> {
+) -> Result<Outcome, AllocError>
+    ensures { IfOk result (λ outcome. MatchResult done.now
+        (λ passed. outcome ≡ passed.outcome) (λ _. outcome ≡ failed)) }
+{
     match done {
         Ok(passed) => {
             report.left(path, &passed.left)?;
@@ -190,13 +217,15 @@ fn outcome_said(
     }
 }
 
-/// Formats a text and reports what became of it, and whether no other one is formatted after it.
+/// Formats a text and reports what became of it, and whether no other one is formatted after it: then it failed.
 fn do_one(
     rt: &HostRuntime,
     work: Work,
     target: &Target,
     report: &mut Report<BufWriter<Stderr>>,
-) -> Result<(Outcome, bool), AllocError> {
+) -> Result<(Outcome, bool), AllocError>
+    ensures { IfOk result (λ done. IsTrue done.1 → done.0 ≡ failed) }
+{
     let done = done(rt, work, target);
     let is_last = match &done {
         Ok(_) => false,
@@ -206,14 +235,18 @@ fn do_one(
     Ok((outcome, is_last))
 }
 
-/// Formats all texts, or stops once standard output can't be written, and reports what became of them.
+/// Formats all texts, or stops once standard output can't be written, and reports what became of them. Each text has an outcome
+/// then, or one has failed.
 fn do_all(
     rt: &HostRuntime,
     work: Work,
     targets: &[Target],
     report: &mut Report<BufWriter<Stderr>>,
     outcomes: &mut Vec<Outcome>,
-) -> Result<(), AllocError> {
+) -> Result<(), AllocError>
+    ensures { OnOk result (AreAnswered (length targets.now)
+        outcomes.old.items outcomes.new.items) }
+{
     for target in targets {
         if work.task.is_dry() {
             report.clear();
@@ -221,7 +254,7 @@ fn do_all(
         let (outcome, is_last) = do_one(rt, work, target, report)?;
         outcomes.push(outcome)?;
         if is_last {
-            break;
+            return Ok(());
         }
         report.progress(outcomes.len(), targets.len());
     }
@@ -358,13 +391,17 @@ fn found_of(
     Ok(search.end())
 }
 
-/// Formats all texts that were found, and returns the status.
+/// Formats all texts that were found, and returns the status. It follows from a failure for each text that can't be found, and
+/// an outcome for each other one.
 fn perform(
     rt: &HostRuntime,
     work: Work,
     found: &Found,
     report: &mut Report<BufWriter<Stderr>>,
-) -> Result<u8, AllocError> {
+) -> Result<u8, AllocError>
+    ensures { IfOk result (EndsBy work.task.terms
+        (length found.now.failures.items) (length found.now.targets.items)) }
+{
     let mut outcomes = Vec::new(rt.alloc());
     outcomes.reserve(found.targets.len().saturating_add(found.failures.len()))?;
     for failure in &found.failures {

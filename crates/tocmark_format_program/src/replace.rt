@@ -1,6 +1,6 @@
 //! Replaces a file's text by another one that says the same.
 
-ghost use Rattle.std.specs.Prelude.{◌≡◌, MatchOption, OnErr, OnOk, string_bytes};
+ghost use Rattle.std.specs.Prelude.{◌≡◌, IfOk, MatchOption, OnErr, OnOk, string_bytes};
 ghost use Rattle.tocmark_files.specs.Replaced.{IsGiven, IsGivenNothing, steps_on};
 ghost use Rattle.tocmark_format_program.specs.Formats.{IsFormattedBy, KeepsWhatItSays};
 
@@ -50,8 +50,8 @@ pub fn replace_text<R: Reader>(
     replacement.put_in(rt, file)
 }
 
-/// Formats an open file by the settings of a target. A file whose text stays isn't touched. After an `Err` the file is as it
-/// was.
+/// Formats an open file by the settings of a target, and says whether it is changed. A file whose text stays isn't touched.
+/// After an `Err` the file is as it was.
 pub fn format_file<R: PartReader>(
     rt: &HostRuntime,
     file: &mut OpenFile,
@@ -59,7 +59,8 @@ pub fn format_file<R: PartReader>(
     target: &Target,
     syncs: bool,
 ) -> Result<Passed, Fault>
-    ensures given { OnOk result (IsFormattedBy target.now.settings (R.reading reader.now) syncs
+    ensures given { IfOk result (λ passed. IsFormattedBy target.now.settings
+        (R.reading reader.now) (R.definitions reader.now) syncs passed.outcome.is_changed
         file.old file.new) }
     ensures stays { OnErr result (IsGivenNothing file.old file.new) }
 {

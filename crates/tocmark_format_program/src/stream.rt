@@ -1,9 +1,8 @@
 //! Standard input, formatted to standard output.
 
-ghost use Rattle.std.specs.Prelude.{◌≡◌, IfErr, IfOk, IfSome, OnOk, string_bytes};
+ghost use Rattle.std.specs.Prelude.{◌≡◌, ◌↔◌, IfErr, IfOk, IfSome, IsSome, IsTrue, OnOk, false, string_bytes, vec_len};
 ghost use Rattle.std.specs.Io.KnownBytes.{Appends};
-ghost use Rattle.tocmark_judge.specs.Letters.{letters};
-ghost use Rattle.tocmark_format_program.specs.Formats.{IsFormatted, IsOutputFault, SaysTheSame};
+ghost use Rattle.tocmark_format_program.specs.Formats.{IsForm, IsFormatted, IsOutputFault};
 
 use crate::decide::{Decision, decided};
 use crate::fault::Fault;
@@ -31,7 +30,12 @@ pub struct Passed {
 }
 
 /// What became of a text by a decision that is carried out.
-pub fn passed_by(decision: Decision) -> Passed {
+pub fn passed_by(decision: Decision) -> Passed
+    ensures changed { IsTrue result.outcome.is_changed ↔ IsSome decision.new }
+    ensures done { result.outcome.has_failed ≡ false }
+    ensures warned { result.outcome.warnings ≡ vec_len decision.left }
+    ensures left { result.left ≡ decision.left }
+{
     let outcome = outcome_of(&decision);
     let line = first_change(&decision);
     let Decision { left, .. } = decision;
@@ -49,11 +53,9 @@ fn formatted_text<R: PartReader>(
     settings: Settings,
     text: String,
 ) -> Result<(String, Passed), Fault>
-    ensures same { IfOk result (λ done. SaysTheSame
-        settings.style.wrap (λ t. R.reading reader.now t settings.flags)
+    ensures form { IfOk result (λ done. IsForm settings (R.reading reader.now)
+        (R.definitions reader.now) done.1.outcome.is_changed
         (string_bytes text) (string_bytes done.0)) }
-    ensures letters { IfOk result (λ done.
-        letters (string_bytes done.0) ≡ letters (string_bytes text)) }
     ensures fault { IfErr result (λ fault. ¬ (IsOutputFault fault)) }
 {
     let decision = decided(alloc, text, reader, settings)?;
@@ -78,19 +80,17 @@ fn formatted_input<R: PartReader, I: Read>(
     settings: Settings,
     input: &mut I,
 ) -> Result<(String, Passed), Fault>
-    ensures same { IfSome (I.remaining input.old) (λ bytes. IfOk result (λ done. SaysTheSame
-        settings.style.wrap (λ t. R.reading reader.now t settings.flags)
+    ensures form { IfSome (I.remaining input.old) (λ bytes. IfOk result (λ done. IsForm settings
+        (R.reading reader.now) (R.definitions reader.now) done.1.outcome.is_changed
         bytes (string_bytes done.0))) }
-    ensures letters { IfSome (I.remaining input.old) (λ bytes. IfOk result (λ done.
-        letters (string_bytes done.0) ≡ letters bytes)) }
     ensures fault { IfErr result (λ fault. ¬ (IsOutputFault fault)) }
 {
     let text = text_in(alloc, input)?;
     formatted_text(alloc, reader, settings, text)
 }
 
-/// Writes all that an input has, as it is formatted. What is written says the same as the input, and has the same letters.
-/// After an `Err` that isn't of the output, nothing is written.
+/// Writes all that an input has, as it is formatted, and says whether that is another text. What is written says the same as
+/// the input, defines the same links, and has the same letters. After an `Err` that isn't of the output, nothing is written.
 pub fn format_stream<R: PartReader, I: Read, O: Write>(
     alloc: Global,
     reader: &R,
@@ -98,9 +98,9 @@ pub fn format_stream<R: PartReader, I: Read, O: Write>(
     input: &mut I,
     output: &mut O,
 ) -> Result<Passed, Fault>
-    ensures same { IfSome (I.remaining input.old) (λ bytes. OnOk result (IsFormatted
-        settings.style.wrap (λ t. R.reading reader.now t settings.flags) bytes
-        (O.contents output.old) (O.contents output.new))) }
+    ensures same { IfSome (I.remaining input.old) (λ bytes. IfOk result (λ passed. IsFormatted
+        settings (R.reading reader.now) (R.definitions reader.now) passed.outcome.is_changed
+        bytes (O.contents output.old) (O.contents output.new))) }
     ensures unwritten { IfErr result (λ fault.
         ¬ (IsOutputFault fault) → output.new ≡ output.old) }
 {
@@ -109,4 +109,25 @@ pub fn format_stream<R: PartReader, I: Read, O: Write>(
         Ok(()) => Ok(passed),
         Err(error) => Err(Fault::Output(error)),
     }
+}
+
+/// Writes all that an input has, as it is. After an `Err` that isn't of the output, nothing is written.
+pub fn copy_stream<I: Read, O: Write>(
+    alloc: Global,
+    input: &mut I,
+    output: &mut O,
+) -> Result<(), Fault>
+    ensures same { IfSome (I.remaining input.old) (λ bytes. OnOk result
+        (Appends (O.contents output.old) (O.contents output.new) bytes)) }
+    ensures unwritten { IfErr result (λ fault.
+        ¬ (IsOutputFault fault) → output.new ≡ output.old) }
+{
+    let mut bytes = Vec::new(alloc);
+    if let Err(error) = input.read_to_end(&mut bytes) {
+        return Err(Fault::Read(error));
+    }
+    if let Err(error) = output.write_all(&bytes) {
+        return Err(Fault::Output(error));
+    }
+    output.flush().map_err(Fault::Output)
 }
