@@ -4,7 +4,7 @@
 //! (`one_more`), of where blocks are (`ranges`), of the bytes of a leaf's text (`texts`), of the order of lines and inlines of leaves
 //! (`leaf_order`), and of texts that aren't too long (`counted`).
 //!
-//! Below it are the readers, whose definitions the laws speak of. No other crate needs it.
+//! Below it are the readers, whose definitions the laws speak of. Only crates of laws need it.
 #![tactic(auto)]
 
 pub mod counted;
