@@ -39,13 +39,13 @@ pub fn marks_make_a_loose_item()
     ensures { MarksMakeALooseItem }
 {}
 
-/// The same holds if the first text leaves a list open that is in no container, and the second text ends it, as `a_list_ends` says: the
+/// The same law for a first text that leaves a list open, in no container, and a second text that ends this list. As in `a_list_ends`, the
 /// second text begins at the margin, and not with an item of the same sort. So the inner list and what is after it are apart.
 pub fn a_list_ends_in_a_loose_item()
     ensures { AListEndsInALooseItem }
 {}
 
-/// The same holds if the second text begins after one space at the margin, as a block quote with the marker ` > ` does.
+/// The same law for a second text that begins after one space at the margin, such as a block quote with the marker ` > `.
 pub fn a_list_ends_near_the_margin_in_a_loose_item()
     ensures { AListEndsNearMarginInALooseItem }
 {}
