@@ -249,7 +249,7 @@ ptrdiff_t tocmark_format_also(const uint8_t *text, size_t text_len, uint32_t fla
 #define TOCMARK_ALLOW_DESTINATIONS (1u << 2)  /* where links and images lead */
 #define TOCMARK_ALLOW_TITLES (1u << 3)        /* titles of links and images */
 #define TOCMARK_ALLOW_LABELS (1u << 4)        /* labels, and how links are spelled */
-#define TOCMARK_ALLOW_FENCES (1u << 5)        /* whether code is fenced or indented */
+#define TOCMARK_ALLOW_FENCES (1u << 5)        /* how code is fenced or indented; a last line feed */
 #define TOCMARK_ALLOW_LEVELS (1u << 6)        /* levels of headings */
 #define TOCMARK_ALLOW_NUMBERS (1u << 7)       /* first numbers of lists */
 #define TOCMARK_ALLOW_CODE (1u << 8)          /* code and math */
@@ -258,7 +258,8 @@ ptrdiff_t tocmark_format_also(const uint8_t *text, size_t text_len, uint32_t fla
 #define TOCMARK_ALLOW_FRONT_MATTER (1u << 11) /* what front matter says */
 #define TOCMARK_ALLOW_DEFINITIONS (1u << 12)  /* link definitions */
 
-/* What no page shows: how links are spelled and defined, and whether code is fenced or indented. */
+/* What no page shows: how links are spelled and defined, whether code is fenced or indented, and whether code or HTML at the end
+ * lacks its last line feed. */
 #define TOCMARK_ALLOW_UNRENDERED (TOCMARK_ALLOW_LABELS | TOCMARK_ALLOW_FENCES | TOCMARK_ALLOW_DEFINITIONS)
 
 /* Another bit of `allowed`: web and mail addresses in texts are links, as GitHub shows them. With TOCMARK_GFM and

@@ -65,8 +65,8 @@ def compare(old: str, new: str, *, allow: Iterable[str] = (), exact: bool = Fals
     """Returns what two Markdown texts say differently. The list is empty exactly if both parse to the same events and define
     the same links, but for what may differ. Texts side by side count as one.
 
-    What no page shows may differ: how links are spelled and defined, and whether code is fenced or indented. A web or mail
-    address in a text is a link, as GitHub shows it, unless `syntax` is "commonmark". With `exact`, what no page shows may not
+    What no page shows may differ: how links are spelled and defined, whether code is fenced or indented, and whether code or
+    HTML lacks its last line feed. A web or mail address in a text is a link, as GitHub shows it, unless `syntax` is "commonmark". With `exact`, what no page shows may not
     differ, and such an address is text. `allow` names further kinds that may differ, of `KINDS`, such as "wrap", white space in
     texts and where lines break.
 

@@ -8,7 +8,8 @@ use pulldown_cmark::Options as ParserOptions;
 use std::fmt;
 
 /// What may differ between texts that count as the same. The default is what no page shows: how links are spelled and defined,
-/// whether code is fenced or indented, and whether an address is between angle brackets.
+/// whether code is fenced or indented, whether code or HTML lacks its last line feed, and whether an address is between angle
+/// brackets.
 /// `Allowed { text: true, ..Default::default() }` allows one more thing.
 #[derive(Clone, Copy, Debug, PartialEq, Eq, Hash)]
 pub struct Allowed {
@@ -22,7 +23,7 @@ pub struct Allowed {
     pub titles: bool,
     /// Labels, and how links are spelled.
     pub labels: bool,
-    /// Whether code is fenced or indented.
+    /// Whether code is fenced or indented, and whether code or HTML lacks its last line feed.
     pub fences: bool,
     /// Levels of headings.
     pub levels: bool,
