@@ -213,7 +213,7 @@ pub fn leaf_at(
     }
 }
 
-/// Metadata where some begins, and else what CommonMark has there.
+/// Metadata if some begins here, else what CommonMark finds here.
 #[tactic(auto, unfolding(crate::specs::Leaves::metadata_or))]
 pub fn metadata_or(found: Option<MetadataBlockKind>, other: LeafStart) -> LeafStart
     ensures { result ≡ metadata_or found other }
@@ -224,7 +224,7 @@ pub fn metadata_or(found: Option<MetadataBlockKind>, other: LeafStart) -> LeafSt
     }
 }
 
-/// The box of a task if one was found, and otherwise `other`.
+/// The box of a task if one was found, else `other`.
 #[tactic(auto, unfolding(crate::specs::Leaves::task_or))]
 pub fn task_or(found: Option<bool>, other: LeafStart) -> LeafStart
     ensures { result ≡ task_or found other }
@@ -235,7 +235,7 @@ pub fn task_or(found: Option<bool>, other: LeafStart) -> LeafStart
     }
 }
 
-/// The kind of a quote where one is named, and else what is there.
+/// The kind of a quote if one is named, else `other`.
 #[tactic(auto, unfolding(crate::specs::Leaves::quote_kind_or))]
 pub fn quote_kind_or(found: Option<BlockQuoteKind>, other: LeafStart) -> LeafStart
     ensures { result ≡ quote_kind_or found other }
@@ -246,7 +246,7 @@ pub fn quote_kind_or(found: Option<BlockQuoteKind>, other: LeafStart) -> LeafSta
     }
 }
 
-/// An HTML block where a tag alone after a quote's kind begins one, and else what is there.
+/// An HTML block if a lone tag follows a quote's kind, else `other`.
 #[tactic(auto, unfolding(crate::specs::Leaves::tag_or))]
 pub fn tag_or(found: bool, other: LeafStart) -> LeafStart
     ensures { result ≡ tag_or found other }

@@ -123,8 +123,8 @@ fn span_of(width: usize, closer: Run) -> Span
 }
 
 impl Openers {
-    /// Takes from the stack the runs above an opener, and from the opener so many delimiters. An opener of which
-    /// none is left goes, too.
+    /// Pops the runs above an opener, and uses `width` of its delimiters. If none of them is left, the opener is
+    /// popped, too.
     #[tactic(auto, using(crate::proofs::Stacks::cut_down, crate::proofs::Stacks::cut_behind, crate::proofs::Stacks::still_above))]
     fn shorten(&mut self, runs: &mut [Run], place: usize, opener: Run, width: usize)
         requires high { self.old.height ≤ length runs.old }

@@ -118,7 +118,7 @@ fn named(bytes: &[u8], place: usize) -> Option<Reference>
     }
 }
 
-/// The character reference at a place. Of the names those of XML are known, but not `&apos;`.
+/// The character reference at a place: a number, or one of the names `amp`, `lt`, `gt` and `quot`.
 #[tactic(auto, unfolding(crate::specs::Reference::reference_at))]
 pub fn reference_at(bytes: &[u8], place: usize) -> Option<Reference>
     ensures { result ≡ reference_at bytes.now place }

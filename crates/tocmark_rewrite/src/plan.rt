@@ -110,8 +110,8 @@ impl Documents<'_, '_> {
         }
     }
 
-    /// The plan of a later tree. It stands for the block that begins at the same byte, unless it has no bytes or the next
-    /// tree is that block.
+    /// The plan of a later tree. The tree replaces the block that begins at the same byte, unless the tree has no bytes or
+    /// the next tree is that block.
     fn later_plan(
         &self,
         alloc: Global,

@@ -371,9 +371,8 @@ fn marks_within(
     Ok(found)
 }
 
-/// For each start whether its body holds a node whose markers would be asterisks that could close the
-/// emphasis round them, so that a container there prefers the underscore; by neighbours alone where no
-/// unit is given.
+/// For each Start whether it prefers `_`: a node inside it would have asterisks that could close it. If
+/// `by_runs` is empty, this is decided by the neighbours of each node alone.
 pub fn preferences<R: Reader>(
     alloc: Global,
     reader: &R,

@@ -258,7 +258,7 @@ fn join_delimiter(
     Ok(())
 }
 
-/// Whether events end with a run. Where no delimiter is among them, that is known without a look.
+/// Whether events end with a run. Without delimiters this is false at once.
 fn ends_known_run(delimiters: &[Delimiter], events: &[BufferedEvent]) -> bool
     requires { AreNumbered (map buffered_view events.now) (numbers_of delimiters.now) }
     ensures { result ≡ ends_run (reverse (map buffered_view events.now)) }

@@ -14,7 +14,7 @@ use tocmark_event::event::{EventOf, OwnedEvent};
 use tocmark_spelling::kinds::is_break;
 use tocmark_spelling::trail::Last;
 
-/// Whether it is a leaf of those that lines are mostly made of.
+/// Whether it is a text, code, inline HTML or a soft break.
 fn is_in_line(event: &OwnedEvent) -> bool
     ensures { result ≡ is_in_line (event_view string_bytes event.now) }
 {

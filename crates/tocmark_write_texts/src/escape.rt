@@ -367,7 +367,7 @@ fn last_of(character: char, text: &str) -> char
     }
 }
 
-/// Writes the characters of a stretch, or a front of how they are written.
+/// Appends an escaped text. After an error, a front of it is appended.
 fn push_characters(
     to: &mut String,
     text: &str,

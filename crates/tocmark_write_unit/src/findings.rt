@@ -1,4 +1,4 @@
-//! What is found out of a unit's events once, for all the manners in which it may be written.
+//! Facts about a unit, computed once for all its spellings.
 
 ghost use Rattle.std.specs.Prelude.{◌≡◌, true, IfOk};
 ghost use Rattle.std.specs.List.{list_any};
@@ -22,8 +22,7 @@ use tocmark_write_inlines::named::named;
 use tocmark_write_pending::body_facts::{BodyFacts, body_facts};
 use tocmark_write_pending::pending::Pending;
 
-/// What is found out of a unit's events once, before they are written in one manner or another. A list that no
-/// event of the unit asks for is empty.
+/// Facts about a unit, computed once for all its spellings. A list is empty if no event of the unit needs it.
 #[derive(Drop)]
 pub struct Findings {
     /// What kinds of events the unit has.
