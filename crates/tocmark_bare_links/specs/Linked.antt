@@ -3,9 +3,10 @@ use Rattle.std.specs.Prelude.{ℕ, Bool, true, false, not, ◌-◌, ◌==◌, �
 use Rattle.std.specs.Char.{is_ascii_alphabetic}
 use Rattle.std.specs.List.{fold}
 use Rattle.tocmark_event.specs.Reading.{ReadingView}
-use Rattle.tocmark_event.specs.View.{EventView, Start, End, Leaf, Text, SoftBreak, HardBreak, Rule, TaskListMarker, TagView, Emphasis, Strong, Strikethrough, Superscript, Subscript, Link, Image, CodeBlock, HtmlBlock, MetadataBlock}
+use Rattle.tocmark_event.specs.View.{EventView, Start, End, Leaf, Text, SoftBreak, HardBreak, Rule, TaskListMarker, TagView, Link, Image, CodeBlock, HtmlBlock, MetadataBlock}
 use Rattle.tocmark_event.specs.declared.event.TagEnd.{TagEnd}
 use Rattle.tocmark_event.specs.declared.event.TagEnd.TheVariants as end
+use Rattle.tocmark_spelling.specs.Kinds.{is_inline_tag, is_inline_end}
 use Rattle.tocmark_read_scan.specs.Basic.{plus, byte_at, bytes_between, starts_at}
 use Rattle.tocmark_bare_links.specs.Addresses.{kept_length}
 use Rattle.tocmark_bare_links.specs.Lines.{ScanView, bracket, brackets_step, is_separator, line_added, part, scan_view, text_events, words_start}
@@ -17,27 +18,6 @@ use Rattle.tocmark_bare_links.specs.declared.sign.Sign.{Sign}
 use Rattle.tocmark_bare_links.specs.declared.words.Brackets.{Brackets}
 
 -- ---- what is between texts
-
--- emphasis, links and the like, which are within lines
-abbrev pub is_inline : TagView → Bool
-is_inline Emphasis = true
-is_inline Strong = true
-is_inline Strikethrough = true
-is_inline Superscript = true
-is_inline Subscript = true
-is_inline (Link k d t i) = true
-is_inline (Image k d t i) = true
-is_inline t = false
-
-abbrev pub is_inline_end : TagEnd → Bool
-is_inline_end end.Emphasis = true
-is_inline_end end.Strong = true
-is_inline_end end.Strikethrough = true
-is_inline_end end.Superscript = true
-is_inline_end end.Subscript = true
-is_inline_end end.Link = true
-is_inline_end end.Image = true
-is_inline_end k = false
 
 -- links, and what has no links in its text
 abbrev pub is_closed : TagView → Bool
@@ -61,7 +41,7 @@ block_unless is_inline = if is_inline then border.Inline else border.Block
 
 -- what an event is between texts
 abbrev pub border_of : EventView → Border
-border_of (Start t) = block_unless (is_inline t)
+border_of (Start t) = block_unless (is_inline_tag t)
 border_of (End k) = block_unless (is_inline_end k)
 border_of (Leaf SoftBreak) = border.Line
 border_of (Leaf HardBreak) = border.Line

@@ -3,9 +3,11 @@
 ghost use Rattle.std.specs.Prelude.{◌≡◌};
 ghost use Rattle.tocmark_event.specs.Text.{text_of};
 ghost use Rattle.tocmark_event.specs.View.{event_view, tag_view};
-ghost use Rattle.tocmark_bare_links.specs.Linked.{begins_line, block_unless, border_of, brackets_after, closed_after, is_cell_end, is_closed, is_closed_end, is_inline, is_inline_end};
+ghost use Rattle.tocmark_spelling.specs.Kinds.{is_inline_tag};
+ghost use Rattle.tocmark_bare_links.specs.Linked.{begins_line, block_unless, border_of, brackets_after, closed_after, is_cell_end, is_closed, is_closed_end};
 
 use tocmark_event::event::{Event, Tag, TagEnd};
+use tocmark_spelling::kinds::is_inline_end;
 
 /// What an event is between texts.
 #[derive(Clone, Copy)]
@@ -20,7 +22,7 @@ pub enum Border {
 
 /// Whether a container is within a line.
 fn is_inline(tag: &Tag<'_>) -> bool
-    ensures { result ≡ is_inline (tag_view text_of tag.now) }
+    ensures { result ≡ is_inline_tag (tag_view text_of tag.now) }
 {
     match tag {
         Tag::Emphasis
@@ -30,22 +32,6 @@ fn is_inline(tag: &Tag<'_>) -> bool
         | Tag::Subscript
         | Tag::Link { .. }
         | Tag::Image { .. } => true,
-        _ => false,
-    }
-}
-
-/// Whether a container that ends is within a line.
-fn is_inline_end(tag: TagEnd) -> bool
-    ensures { result ≡ is_inline_end tag }
-{
-    match tag {
-        TagEnd::Emphasis
-        | TagEnd::Strong
-        | TagEnd::Strikethrough
-        | TagEnd::Superscript
-        | TagEnd::Subscript
-        | TagEnd::Link
-        | TagEnd::Image => true,
         _ => false,
     }
 }

@@ -2,7 +2,8 @@
 
 use std::alloc::{AllocError, Global};
 use tocmark_compare::event::same_event;
-use tocmark_event::event::{Event, Tag, TagEnd};
+use tocmark_event::event::{Event, Tag};
+use tocmark_spelling::kinds::is_inline_end;
 
 /// What is in the text for a mark. No reader finds this character in a text.
 pub(crate) const MARK: char = '\0';
@@ -101,15 +102,6 @@ fn is_inline_tag(tag: &Tag<'_>) -> bool {
         Tag::Emphasis | Tag::Strong | Tag::Strikethrough => true,
         Tag::Superscript | Tag::Subscript => true,
         Tag::Link { .. } | Tag::Image { .. } => true,
-        _ => false,
-    }
-}
-
-fn is_inline_end(end: TagEnd) -> bool {
-    match end {
-        TagEnd::Emphasis | TagEnd::Strong | TagEnd::Strikethrough => true,
-        TagEnd::Superscript | TagEnd::Subscript => true,
-        TagEnd::Link | TagEnd::Image => true,
         _ => false,
     }
 }
