@@ -12,7 +12,7 @@ quick: # all checks that need no proof, in two minutes
 	tools/quick
 
 test: # all tests, with the proofs: 80 minutes on four cores
-	tools/test
+	tools/test/all
 
 release: # pack what was proved
 	tools/release

@@ -272,7 +272,7 @@ def marked_paragraphs():
 
 def standard_examples():
     """The examples of the CommonMark standard one after the other with an empty line between, two hundred times."""
-    with open(f"{TOP}/tools/texts/commonmark.txt", encoding="utf-8") as file:
+    with open(f"{TOP}/tools/test/data/commonmark.txt", encoding="utf-8") as file:
         examples = [json.loads(line) for line in file if line.startswith('"')]
     return "".join(f"{text}\n" for text in examples) * 200
 

@@ -21,7 +21,7 @@ from tocmark import _mdbook, _program
 from tocmark._calls import _dumped
 
 HERE = os.path.dirname(os.path.realpath(__file__))
-EXAMPLES = os.path.join(HERE, "../../../tools/texts/commonmark.txt")
+EXAMPLES = os.path.join(HERE, "../../../tools/test/data/commonmark.txt")
 PARAGRAPH = [{"Start": "Paragraph"}, {"Text": "a"}, {"End": "Paragraph"}]
 FRONT = "---\ntitle:   x\n---\n\n"
 # What no writer would write so.
