@@ -1,4 +1,4 @@
-"""Edits of the events of a text, by name; tools/test/texts and tools/measure/rewrites make them.
+"""Edits of the events of a text, by name; tools/test/texts and tools/measure/recipes make them.
 
 - These parse CommonMark. `https` gives each destination by `http:` the scheme `https:`. `mark` puts a word after each destination.
   `lower` moves each heading one level down. `title` gives each link and image the title `new`. `stress` emphasizes each text
