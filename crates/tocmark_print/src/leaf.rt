@@ -492,21 +492,21 @@ impl<'d> Printer<'d> {
         self.print_raw(text)
     }
 
-    /// Whether these signs of a rule are dashes directly below a definition. To cmark-gfm they are text, and it goes on below.
-    fn is_text_below(&self, signs: &str, is_apart: bool) -> bool {
-        let is_below = self.page.top().last == Some(Kind::Definitions) && !is_apart;
+    /// Whether a rule is dashes directly below a definition. To cmark-gfm they are text, and it goes on below.
+    pub(crate) fn is_text_below(&self, range: (usize, usize)) -> bool {
+        let signs = without_end_blanks(self.source.slice(range.0, range.1));
+        let is_below = self.page.top().last == Some(Kind::Definitions) && !self.is_apart(range.0);
         is_below && run(signs, b'-') == signs.len()
     }
 
     /// Prints a rule: not of `-` below a text without a blank line between, nor at the front of a document, where metadata
     /// would begin; and after a bullet not of its sign.
     pub(crate) fn print_rule(&mut self, range: (usize, usize)) -> Result<(), AllocError> {
-        let is_apart = self.is_apart(range.0);
         let own = without_end_blanks(self.source.slice(range.0, range.1));
-        if self.is_text_below(own, is_apart) {
-            self.goes_on = true;
+        if self.is_text_below(range) {
             return self.page.line(own);
         }
+        let is_apart = self.is_apart(range.0);
         let top = self.page.top();
         let own = match self.look.rule {
             Rule::Dashes if top.last != Some(Kind::Definitions) => "---",

@@ -298,6 +298,9 @@ impl<'d> Printer<'d> {
             return Ok(behind);
         } else {
             self.begin_events(kind, start, end)?;
+            if kind == Kind::Rule && self.is_text_below((start, end)) {
+                self.goes_on = true;
+            }
         }
         let tree = self.trees.saturating_sub(1);
         let is_top = self.page.depth() == 0;
