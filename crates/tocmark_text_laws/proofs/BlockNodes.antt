@@ -44,7 +44,7 @@ all_drop Q zero xs h = h
 all_drop Q (suc n) [] h = tt
 all_drop Q (suc n) (x ∷ xs) h = all_drop Q n xs (h.1)
 
-some_pieces : (t : List ℕ) (m : ℕ) (ps : List Piece) (first last : ℕ) → AllByRecursion (Held (At t) m) ps → AllByRecursion (Held (At t) m) (pieces_of ps first last)
+pub some_pieces : (t : List ℕ) (m : ℕ) (ps : List Piece) (first last : ℕ) → AllByRecursion (Held (At t) m) ps → AllByRecursion (Held (At t) m) (pieces_of ps first last)
 some_pieces t m ps first last h = by (nat_le first last && nat_le last (length ps))
   where
     by : (x : Bool) → AllByRecursion (Held (At t) m) (if x then slice_range ps first last else [])

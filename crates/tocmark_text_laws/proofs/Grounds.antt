@@ -354,10 +354,10 @@ held_code P cs line g c p = by (nat_lt 0 c) (nat_lt c (length cs)) (cell_place c
         first = let w : d ≡ c - 1 = omega arith in ap (λ n. cell_place cs n 0) w
 
     whole : Held P line.end (piece_of 0 at line.end line.next)
-    whole = record { begins = p; before = g.within c; stops = g.next; ordered = let a : at ≤ line.end = g.within c in let b : line.end ≤ line.next = g.onto in omega arith; spaces = λ h. absurd (omega arith) }
+    whole = record { begins = p; before = g.within c; stops = g.next; ordered = let a : at ≤ line.end = g.within c in let b : line.end ≤ line.next = g.onto in omega arith; ends = g.stops; forward = g.within c; onto = g.onto; spaces = λ h. absurd (omega arith) }
 
     after : (n : ℕ) → P (at + 1) × (at + 1 ≤ line.end) → Held P line.end (piece_of n (plus at 1) line.end line.next)
-    after n h = let l : line.end < 2 ^ 64 - 1 = g.low in let k : at + 1 ≤ line.end = h.1 in let e : at + 1 ≡ plus at 1 = omega arith in let b : line.end ≤ line.next = g.onto in let q : at ≡ plus at 1 - 1 = omega arith in record { begins = subst P e (h.0); before = omega arith; stops = g.next; ordered = omega arith; spaces = λ s. subst P q p }
+    after n h = let l : line.end < 2 ^ 64 - 1 = g.low in let k : at + 1 ≤ line.end = h.1 in let e : at + 1 ≡ plus at 1 = omega arith in let b : line.end ≤ line.next = g.onto in let q : at ≡ plus at 1 - 1 = omega arith in record { begins = subst P e (h.0); before = omega arith; stops = g.next; ordered = omega arith; ends = g.stops; forward = omega arith; onto = b; spaces = λ s. subst P q p }
 
     by : (x y z : Bool) → nat_lt 0 c ≡ x → nat_lt c (length cs) ≡ y → (cell_place cs (c - 1) 0 == cell_place cs c 0) ≡ z
         → Held P line.end (if x && y && z then piece_of (same_place cs c at) (plus at 1) line.end line.next else piece_of 0 at line.end line.next)
@@ -504,7 +504,7 @@ heading_may P cs line g c p = by (not (is_behind cs behind)) (level_of (behind -
     by : (x : Bool) (o : Option HeadingLevel) → MayHead P cs line (if x then None else option_map (heading_from cs (ink_from cs behind)) o)
     by true o = tt
     by false None = tt
-    by false (Some l) = record { begins = good; before = g.within from; stops = (heading_ends P cs line g from).0; ordered = (heading_ends P cs line g from).1; spaces = λ h. absurd (omega arith) }
+    by false (Some l) = record { begins = good; before = g.within from; stops = (heading_ends P cs line g from).0; ordered = (heading_ends P cs line g from).1; ends = (heading_ends P cs line g from).0; forward = (heading_ends P cs line g from).1; onto = omega arith; spaces = λ h. absurd (omega arith) }
 
 -- nothing, or an underline of an open paragraph
 abbrev MayUnder : Bool → Option HeadingLevel → Type 0

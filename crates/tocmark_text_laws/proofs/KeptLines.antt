@@ -33,7 +33,7 @@ lines_put : (text : List ℕ) (s : State) (ls : List ContentLine) → (fold (put
 lines_put text s [] = sym (append-nil s.bytes)
 lines_put text s (l ∷ ls) = lines_put text (put_line text s l) ls ∙ ap (λ xs. xs ++ flat_map (line_bytes text) ls) (line_put text s l) ∙ append_assoc s.bytes (line_bytes text l) (flat_map (line_bytes text) ls)
 
-abbrev AllWhite : List ℕ → Type 0
+abbrev pub AllWhite : List ℕ → Type 0
 AllWhite bs = AllByRecursion (λ b. is_in White b ≡ true) bs
 
 -- one more byte of the rest
@@ -42,7 +42,7 @@ one_white [] c l w h = absurd (omega arith)
 one_white (b ∷ bs) zero l w h = (w, h)
 one_white (b ∷ bs) (suc c) l w h = one_white bs c (omega arith) w h
 
-back_white : (bs : List ℕ) (n c : ℕ) → c ≤ length bs → AllWhite (drop c bs) → AllWhite (drop (iterated (before_white bs) n c) bs)
+pub back_white : (bs : List ℕ) (n c : ℕ) → c ≤ length bs → AllWhite (drop c bs) → AllWhite (drop (iterated (before_white bs) n c) bs)
 unfolding iterated before_white
 back_white bs zero c l h = h
 back_white bs (suc n) c l h = by (nat_lt 0 c) (is_in White (byte_at bs (c - 1))) refl refl (λ d m k. back_white bs n d m k)
@@ -56,7 +56,7 @@ back_white bs (suc n) c l h = by (nat_lt 0 c) (is_in White (byte_at bs (c - 1)))
         let m : suc (c - 1) ≡ c = omega arith in
         f (c - 1) (omega arith) (one_white bs (c - 1) (omega arith) q (subst (λ n. AllWhite (drop n bs)) (sym m) h))
 
-none_left : (bs : List ℕ) → AllWhite (drop (length bs) bs)
+pub none_left : (bs : List ℕ) → AllWhite (drop (length bs) bs)
 none_left [] = tt
 none_left (b ∷ bs) = none_left bs
 

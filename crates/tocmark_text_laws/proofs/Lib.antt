@@ -116,3 +116,5 @@ pub mod SequenceStates
 pub mod ShortTexts
 pub mod InlineOrder
 pub mod Rising
+pub mod LeafPlaces
+pub mod SourceOrder

@@ -44,6 +44,9 @@ pub record Held (P : ℕ → Type 0) (n : ℕ) (p : Piece) : Type 0 where
   pub before : p.start ≤ n
   pub stops : P p.next
   pub ordered : p.start ≤ p.next
+  pub ends : P p.end
+  pub forward : p.start ≤ p.end
+  pub onto : p.end ≤ p.next
   pub spaces : 0 < p.spaces → P (p.start - 1)
 
 -- a page in which no leaf is open
@@ -402,7 +405,7 @@ passed_going P n p line s front b k e g = by (nat_lt 0 p.spaces || nat_lt p.star
     by false = g
 
 later_held : (P : ℕ → Type 0) (n m : ℕ) → n ≤ m → (p : Piece) → Held P n p → Held P m p
-later_held P n m l p w = record { begins = w.begins; before = let q : p.start ≤ n = w.before in omega arith; stops = w.stops; ordered = w.ordered; spaces = w.spaces }
+later_held P n m l p w = record { begins = w.begins; before = let q : p.start ≤ n = w.before in omega arith; stops = w.stops; ordered = w.ordered; ends = w.ends; forward = w.forward; onto = w.onto; spaces = w.spaces }
 
 -- the same, as seen from a later place
 pub later_stands : (P : ℕ → Type 0) (n m : ℕ) (s : State) → n ≤ m → Stands P n s → Stands P m s

@@ -239,7 +239,7 @@ text_stands P t cs line place s a h = by (in_paragraph t cs line place s) (in_pa
     last : (u : State) (front : List Block) (r : (c : Block) × Ready P line.end (text_started at u) front c) → is_paragraph u.leaf ≡ true → Stands P line.end (piece_taken words line true (text_started at u))
     last u front (c, r) e = holding
         (ap is_worded (piece_taken_leaf words line true (text_started at u) ∙ text_started_leaf at u) ∙ words_worded u.leaf e) front c
-        (taken_going P words line (text_started at u) front c (record { begins = a.begins; before = a.within; stops = a.next; ordered = let h : at ≤ line.end = a.within in let k : line.end ≤ line.next = a.onto in omega arith; spaces = λ h. absurd (omega arith) }) a.stops r)
+        (taken_going P words line (text_started at u) front c (record { begins = a.begins; before = a.within; stops = a.next; ordered = let h : at ≤ line.end = a.within in let k : line.end ≤ line.next = a.onto in omega arith; ends = a.stops; forward = a.within; onto = a.onto; spaces = λ h. absurd (omega arith) }) a.stops r)
 
     by : (u : State) → InWords P line.end u → Stands P line.end (piece_taken words line true (text_started at u))
     by u (e, (front, b, g)) = last u front (text_started_ready P line.end at u front b a.begins a.within g.ready) e

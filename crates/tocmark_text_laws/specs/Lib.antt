@@ -19,3 +19,4 @@ pub mod NearMargin
 pub mod OneMoreItem
 pub mod InlineOrder
 pub mod LineOrder
+pub mod SourceOrder

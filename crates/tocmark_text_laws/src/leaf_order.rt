@@ -2,6 +2,7 @@
 
 ghost use Rattle.tocmark_text_laws.specs.InlineOrder.{InlinesAreInOrder, SomeInlines};
 ghost use Rattle.tocmark_text_laws.specs.LineOrder.{LinesOfLeavesAreInOrder};
+ghost use Rattle.tocmark_text_laws.specs.SourceOrder.{InlinesFollowTheSource};
 
 /// The lines of all CommonMark leaves of a text come one after the other, and don't overlap.
 pub fn lines_of_leaves_are_in_order()
@@ -18,4 +19,9 @@ pub fn inlines_are_in_order()
 /// The inlines of three lists of roles, computed.
 pub fn some_inlines_are_in_order()
     ensures { SomeInlines }
+{}
+
+/// In the source, too, no inline of a CommonMark leaf begins before one that comes before it, whatever roles the bytes have.
+pub fn inlines_follow_the_source()
+    ensures { InlinesFollowTheSource }
 {}
