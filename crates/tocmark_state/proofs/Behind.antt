@@ -13,7 +13,8 @@ use Rattle.tocmark_write_renderer.specs.WriterOf.{reference_view}
 use Rattle.tocmark_write_renderer.specs.declared.parts.Reference.{Reference}
 use Rattle.tocmark_write_labels.specs.Defined.{definition_for, is_defined, known_unless, leads_alike, undefined}
 use Rattle.tocmark_write_labels.specs.Definitions.{definitions_text}
-use Rattle.tocmark_write_labels.specs.Document.{DocumentView, folded}
+use Rattle.tocmark_write_labels.specs.Document.{DocumentView}
+use Rattle.tocmark_write_labels.specs.Matched.{label_key}
 use Rattle.tocmark_write_labels.proofs.DefinedLabels.{none-defined}
 use Rattle.tocmark_state.specs.Walk.{Kept}
 use Rattle.tocmark_state.specs.WorkView.{kept_behind, rendering, rendering_behind}
@@ -57,16 +58,16 @@ left-undefined defined (r ∷ rs) = by (is_defined defined r) refl (left-undefin
 same-bytes : (bs : List ℕ) → bytes_eq bs bs ≡ true
 same-bytes bs = (bytes_eq-Decides bs bs).1 refl
 
--- a definition defines itself, where none in front of it has its label
-pub defines-itself : (front ds : List page.Reference) (d : page.Reference) → list_any (λ e. bytes_eq (folded e.label) (folded d.label)) front ≡ false → is_defined (front ++ d ∷ ds) d ≡ true
+-- a definition defines itself, where no label in front of it matches its own
+pub defines-itself : (front ds : List page.Reference) (d : page.Reference) → list_any (λ e. bytes_eq (label_key e.label) (label_key d.label)) front ≡ false → is_defined (front ++ d ∷ ds) d ≡ true
 defines-itself [] ds d h =
-    ap (λ b. leads_alike (if b then Some d else definition_for ds (folded d.label)) d) (same-bytes (folded d.label))
+    ap (λ b. leads_alike (if b then Some d else definition_for ds (label_key d.label)) d) (same-bytes (label_key d.label))
     ∙ ap (λ b. b && bytes_eq d.title d.title) (same-bytes d.destination) ∙ same-bytes d.title
-defines-itself (e ∷ front) ds d h = by (bytes_eq (folded e.label) (folded d.label)) refl h (defines-itself front ds d)
+defines-itself (e ∷ front) ds d h = by (bytes_eq (label_key e.label) (label_key d.label)) refl h (defines-itself front ds d)
   where
     rest : Bool
-    rest = list_any (λ e. bytes_eq (folded e.label) (folded d.label)) front
+    rest = list_any (λ e. bytes_eq (label_key e.label) (label_key d.label)) front
 
-    by : (b : Bool) → bytes_eq (folded e.label) (folded d.label) ≡ b → (b || rest) ≡ false → (rest ≡ false → is_defined (front ++ d ∷ ds) d ≡ true) → leads_alike (if b then Some e else definition_for (front ++ d ∷ ds) (folded d.label)) d ≡ true
+    by : (b : Bool) → bytes_eq (label_key e.label) (label_key d.label) ≡ b → (b || rest) ≡ false → (rest ≡ false → is_defined (front ++ d ∷ ds) d ≡ true) → leads_alike (if b then Some e else definition_for (front ++ d ∷ ds) (label_key d.label)) d ≡ true
     by true same k ih = absurd (false≢true (sym k))
     by false same k ih = ih k

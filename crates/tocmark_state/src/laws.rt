@@ -10,7 +10,7 @@ ghost use Rattle.tocmark_event.specs.declared.event.flags.ParserOptions.{ParserO
 ghost use Rattle.tocmark_spelling.specs.Page.{Reference};
 ghost use Rattle.tocmark_write_labels.specs.Defined.{is_defined, undefined};
 ghost use Rattle.tocmark_write_labels.specs.Definitions.{definitions_text};
-ghost use Rattle.tocmark_write_labels.specs.Document.{folded};
+ghost use Rattle.tocmark_write_labels.specs.Matched.{label_key};
 ghost use Rattle.tocmark_state.specs.Ranges.{Pair};
 ghost use Rattle.tocmark_state.specs.Walk.{Kept, Standing, walk};
 ghost use Rattle.tocmark_state.specs.WorkView.{rendering, rendering_behind};
@@ -48,8 +48,8 @@ pub fn definitions_matter_first_and_last()
 
 /// What a document has already isn't written again. Of a state that is told of definitions, those left at
 /// the end are the ones of the document's references that these don't define (`left`): no reference among
-/// them is defined (`none`). A definition defines itself, if none in front of it in the list has its label
-/// (`own`).
+/// them is defined (`none`). A definition defines itself, if no label in front of it in the list matches its
+/// own (`own`).
 pub fn what_is_defined_is_not_written_again()
     ensures left { (defined : List Reference) (options : OptionsView)
         (reading : List ℕ → ParserOptions → ReadingView) (kept : Kept) →
@@ -58,6 +58,6 @@ pub fn what_is_defined_is_not_written_again()
     ensures none { (defined references : List Reference) →
         All (λ r. is_defined defined r ≡ false) (undefined defined references) }
     ensures own { (front rest : List Reference) (d : Reference) →
-        list_any (λ e. bytes_eq (folded e.label) (folded d.label)) front ≡ false →
+        list_any (λ e. bytes_eq (label_key e.label) (label_key d.label)) front ≡ false →
         is_defined (front ++ d ∷ rest) d ≡ true }
 {}

@@ -124,10 +124,11 @@ impl<R: Reader + Drop> State<R> {
     /// `new`, but that they aren't written again. The options and the definitions aren't checked.
     ///
     /// A link by a label is written as a state of `new` writes it. It needs no definition at the end if
-    /// one of these has its label, compared in Unicode's case folding, and its destination and title; of
-    /// two with one label the first counts. If the label is defined otherwise, a definition is written at
-    /// the end all the same. The labels are known from the start, so a unit that is read back may not leave
-    /// one open: the text `[a]` would, if `a` is defined.
+    /// one of these has a label that matches its own, and its destination and title; of two whose labels
+    /// match the first counts. Labels match as in CommonMark: in Unicode's case folding, with one space for
+    /// each run of spaces, tabs and line endings, and none at the ends. If the label is defined otherwise, a
+    /// definition is written at the end all the same. The labels are known from the start, so a unit that
+    /// is read back may not leave one open: the text `[a]` would, if `a` is defined.
     ///
     /// It fails if memory runs out for copies of the definitions or of the strong token; the reader is
     /// dropped then.

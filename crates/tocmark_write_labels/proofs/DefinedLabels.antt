@@ -10,7 +10,8 @@ use Rattle.tocmark_write_renderer.specs.declared.parts.Reference.{Reference}
 use Rattle.tocmark_write_labels.specs.Defined.{definition_for, is_defined, undefined}
 use Rattle.tocmark_write_labels.specs.Definitions.{definitions_text, distinct}
 use Rattle.tocmark_write_labels.specs.DefinitionsOf.{key_view, lines_behind, same_key}
-use Rattle.tocmark_write_labels.specs.Document.{folded, with_label, with_labels}
+use Rattle.tocmark_write_labels.specs.Document.{with_label, with_labels}
+use Rattle.tocmark_write_labels.specs.Matched.{label_key}
 use Rattle.tocmark_write_labels.specs.declared.definitions.Key.{Key}
 use Rattle.tocmark_write_labels.proofs.DefinitionTexts.{gathered, key-inserted}
 
@@ -43,15 +44,15 @@ mapped-cond true k o = refl
 mapped-cond false k o = refl
 
 -- one more definition, in front of those after it
-pub definition-before : (defined : List Reference) (p : ℕ) (r : Reference) (k : Key) (f q : List ℕ) (old new : Option Key) → p < length defined → r ≡ get_or defined p r → key_view k ≡ reference_view r → f ≡ folded k.label.now
+pub definition-before : (defined : List Reference) (p : ℕ) (r : Reference) (k : Key) (f q : List ℕ) (old new : Option Key) → p < length defined → r ≡ get_or defined p r → key_view k ≡ reference_view r → f ≡ label_key k.label.now
     → new ≡ cond (bytes_eq f q) (Some k) old → option_map key_view old ≡ definition_for (map reference_view (drop (p + 1) defined)) q
     → option_map key_view new ≡ definition_for (map reference_view (drop p defined)) q
-definition-before defined p r k f q old new lt is is_key is_folded is_new behind =
+definition-before defined p r k f q old new lt is is_key is_label is_new behind =
     ap (λ o. option_map key_view o) is_new
     ∙ mapped-cond (bytes_eq f q) k old
     ∙ ap (λ o. cond (bytes_eq f q) (Some (key_view k)) o) behind
-    ∙ ap (λ x. cond (bytes_eq x q) (Some (key_view k)) rest) is_folded
-    ∙ ap (λ (x : page.Reference). cond (bytes_eq (folded x.label) q) (Some x) rest) (is_key ∙ ap reference_view is)
+    ∙ ap (λ x. cond (bytes_eq x q) (Some (key_view k)) rest) is_label
+    ∙ ap (λ (x : page.Reference). cond (bytes_eq (label_key x.label) q) (Some x) rest) (is_key ∙ ap reference_view is)
     ∙ sym (ap (λ (x : List Reference). definition_for (map reference_view x) q) (drop_more defined p r lt))
   where
     rest : Option page.Reference

@@ -6,3 +6,4 @@ pub mod Unlabelled
 pub mod DefinitionTexts
 pub mod Feeds
 pub mod DefinedLabels
+pub mod CollapsedLabels

@@ -1,4 +1,5 @@
 pub mod Document
+pub mod Matched
 pub mod LabelsOf
 pub mod Reserved
 pub mod Definitions

@@ -7,12 +7,13 @@ ghost use Rattle.tocmark_write_renderer.specs.WriterOf.{reference_view};
 ghost use Rattle.tocmark_write_labels.specs.Defined.{defined_view, definition_for, leads_alike, undefined};
 ghost use Rattle.tocmark_write_labels.specs.Definitions.{definitions_text, distinct};
 ghost use Rattle.tocmark_write_labels.specs.DefinitionsOf.{key_view, lines_behind, same_key};
-ghost use Rattle.tocmark_write_labels.specs.Document.{folded, with_labels};
+ghost use Rattle.tocmark_write_labels.specs.Document.{with_labels};
 ghost use Rattle.tocmark_write_labels.specs.LabelsOf.{labels_of};
+ghost use Rattle.tocmark_write_labels.specs.Matched.{label_key};
 
 use crate::definitions::{Key, definitions_text, key_of, push_feeds, push_lines};
 use crate::labels::Labels;
-use caseless::default_case_fold_str;
+use crate::matched::{collapsed, label_key};
 use indexmap::IndexSet;
 use std::alloc::{AllocError, Global};
 use std::collections::HashMap;
@@ -21,7 +22,8 @@ use tocmark_write_renderer::parts::Reference;
 /// A definition of a link that is in a document already: `[label]: destination "title"`.
 #[derive(Clone, Copy, Debug)]
 pub struct DefinedLabel<'a> {
-    /// The label, without brackets. It is compared in Unicode's case folding, and else as it is.
+    /// The label, without brackets. Labels match as in CommonMark: if they are the same in Unicode's case folding, with
+    /// one space for each run of white space and none at the ends.
     pub label: &'a str,
     /// The destination, without escapes.
     pub destination: &'a str,
@@ -33,13 +35,13 @@ fn copied_label(alloc: Global, defined: &DefinedLabel<'_>) -> Result<Reference, 
     ensures { IfOk result (λ copy. reference_view copy ≡ defined_view defined.now) }
 {
     Ok(Reference {
-        label: String::from_str(alloc, defined.label)?,
+        label: collapsed(alloc, defined.label)?,
         destination: String::from_str(alloc, defined.destination)?,
         title: String::from_str(alloc, defined.title)?,
     })
 }
 
-/// A copy of the definitions that can be kept.
+/// A copy of the definitions that can be kept, whose labels have one space for each run of white space.
 pub fn copied_labels(
     alloc: Global,
     defined: &[DefinedLabel<'_>],
@@ -69,7 +71,7 @@ pub fn add_labels(
     Ok(())
 }
 
-/// For each folded label the first definition of it, which counts.
+/// For what labels that match have in common the first definition, which counts.
 fn first_definitions(
     alloc: Global,
     defined: &[Reference],
@@ -81,18 +83,18 @@ fn first_definitions(
     let mut firsts = HashMap::new(alloc);
     for place in (0..defined.len()).rev() {
         let key = key_of(&defined[place]);
-        let folded = default_case_fold_str(alloc, key.label)?;
-        firsts.insert(folded, key)?;
+        let label = label_key(alloc, key.label)?;
+        firsts.insert(label, key)?;
     }
     Ok(firsts)
 }
 
-/// Whether the first definition of a folded label leads where a reference does.
-fn is_defined(firsts: &HashMap<String, Key<'_>>, folded: &str, key: Key<'_>) -> bool
-    ensures { result ≡ leads_alike (option_map key_view (get_by_text firsts.now folded.now))
+/// Whether the first definition for a label leads where a reference does.
+fn is_defined(firsts: &HashMap<String, Key<'_>>, label: &str, key: Key<'_>) -> bool
+    ensures { result ≡ leads_alike (option_map key_view (get_by_text firsts.now label.now))
         (key_view key.entry) }
 {
-    match firsts.get(folded) {
+    match firsts.get(label) {
         Some(first) => first.destination == key.destination && first.title == key.title,
         None => false,
     }
@@ -107,11 +109,11 @@ fn insert_undefined<'r>(
 ) -> Result<(), AllocError>
     ensures { OnOk result (keys.new.keys
         ≡ (if leads_alike
-        (option_map key_view (get_by_text firsts.now (folded key.entry.label.now)))
+        (option_map key_view (get_by_text firsts.now (label_key key.entry.label.now)))
         (key_view key.entry) then keys.old.keys else insert_key same_key keys.old.keys key.entry)) }
 {
-    let folded = default_case_fold_str(alloc, key.label)?;
-    if is_defined(firsts, folded.as_str(), key) {
+    let label = label_key(alloc, key.label)?;
+    if is_defined(firsts, label.as_str(), key) {
         return Ok(());
     }
     keys.insert(key)?;
@@ -152,7 +154,7 @@ fn text_of(alloc: Global, keys: &[Key<'_>], feeds: usize) -> Result<String, Allo
 }
 
 /// The definitions of the references that a document hasn't defined already, as `definitions_text`
-/// writes them. Of two definitions with the same label, in case folding, the first counts. It takes
+/// writes them. Of two definitions whose labels match, the first counts. It takes
 /// time in proportion to the references, the definitions and their texts.
 pub fn undefined_text(
     alloc: Global,

@@ -11,5 +11,6 @@ pub mod ending;
 pub mod label_set_laws;
 pub mod labels;
 pub mod laws;
+mod matched;
 pub mod reserved_label;
 pub mod taken;
