@@ -38,4 +38,4 @@ calls-answered = (refl, refl, (refl, refl, (refl, refl, (refl, refl, (refl, refl
 
 pub behind-answered : AreAnsweredBehind calls_behind
 unfolding chars trim_start digits default_case_fold is_alphanumeric coded reference ends_line is_marker doubles_backslash opens_label is_read_as_marker needs_backslash with_backslash written escaped destination title padding span code_span by_id is_boundary prefers_underscore marker opening closing leaf_on is_misplaced spelling definitions_text candidates reads_back needs_placeholder reserved_label spelled first_that_reads_back document_after choice full_folding full_folding_rows value_in flags_fault lists_fault emphasis_fault tokens_fault scripts_fault size_fault validation lib.Utf8.encode trees_of chosen waits joins flushed flushed_before advance step ended AreAnsweredBehind
-behind-answered = (refl, (refl, (refl, (refl, (refl, tt)))))
+behind-answered = (refl, (refl, (refl, (refl, (refl, (refl, tt))))))

@@ -58,6 +58,21 @@ a_label_that_leads_elsewhere = record {
   };
 }
 
+-- a label with other white space than the one that is defined
+abbrev pub a_label_with_other_white_space : CallsBehind
+a_label_with_other_white_space = record {
+  defined = defined_as (codes "a  b ") (codes "/u") ∷ [];
+  calls = record {
+    setting = setting default_options 0 ([]);
+    source = [];
+    calls = link_by (codes "A b") (codes "/u") ∷ link_by (codes "ab") (codes "/u") ∷ [];
+    answers = record {
+      handed = ([]) ∷ ((codes "[t][A b]") ∷ []) ∷ ((codes "\n\n[t][ab]") ∷ (codes "\n\n[ab]: /u") ∷ []) ∷ [];
+      error = None;
+    };
+  };
+}
+
 -- of two definitions of a label the first counts
 abbrev pub the_first_definition_counts : CallsBehind
 the_first_definition_counts = record {
@@ -92,4 +107,4 @@ a_text_that_would_be_a_link = record {
 -- all of these
 abbrev pub calls_behind : List CallsBehind
 calls_behind = a_label_that_is_defined_and_one_that_is_not ∷ where_all_labels_are_defined ∷ a_label_that_leads_elsewhere
-    ∷ the_first_definition_counts ∷ a_text_that_would_be_a_link ∷ []
+    ∷ a_label_with_other_white_space ∷ the_first_definition_counts ∷ a_text_that_would_be_a_link ∷ []
