@@ -1,5 +1,7 @@
 pub mod Chosen
 pub mod PlainTexts
+pub mod Reaching
+pub mod InLines
 pub mod AlikeUnits
 pub mod AlikeEvents
 pub mod PlainUnits

@@ -10,11 +10,11 @@ use Rattle.std.proofs.lemmas.List.Folds.{list_all-append}
 use Rattle.std.proofs.lemmas.Str.{encode_ascii, encodes-chars}
 use Rattle.tocmark_write_texts.specs.Bare.{is_bare, is_mark}
 use Rattle.tocmark_write_texts.specs.Characters.{is_white_space}
-use Rattle.tocmark_write_texts.specs.Escape.{Surroundings, escape, escaped, is_encoded, is_first, is_last, is_literal, is_own_token, is_read_as_marker, needs_backslash, reference, spot_from, with_backslash, written}
+use Rattle.tocmark_write_texts.specs.Escape.{Surroundings, begins_block, escape, escaped, has, is_alone, is_encoded, is_first, is_last, is_literal, is_marker, is_own_token, is_read_as_marker, needs_backslash, reference, spot_from, with_backslash, written}
 use Rattle.tocmark_write_texts.specs.declared.escape.Spot.{Spot}
 use Rattle.tocmark_write_texts.proofs.Bare.{differs, is_none_of, itself}
 use Rattle.tocmark_write_texts.proofs.EscapeLemmas.{escape_on, escape_on-is}
-use Rattle.tocmark_choose.specs.Alike.{has_bare_front, is_front_mark, is_plain}
+use Rattle.tocmark_choose.specs.Alike.{has_bare_front, is_front_mark, is_line_mark, is_plain}
 
 -- ---- the first character
 
@@ -25,7 +25,21 @@ either : {A : Type 0} (b : Bool) (x y z : A) → x ≡ z → y ≡ z → (if b t
 either true x y z e f = e
 either false x y z e f = f
 
-module _ (p : Surroundings) (s : Spot) (h : is_mark s.character ≡ false) (n : is_front_mark s.character ≡ false) where
+-- no block begins inside a line
+no_block : (p : Surroundings) (s : Spot) → p.at_front ≡ false → is_marker p s ≡ false
+unfolding is_marker
+no_block p s e =
+    and_left (begins_block p s) (is_alone p s) (and_left (is_first s && p.at_front) (not p.in_table) (and_right (is_first s) p.at_front e))
+
+module _ (p : Surroundings) (s : Spot) (h : is_mark s.character ≡ false) (n : is_front_mark s.character ≡ false) (l : (is_line_mark s.character ≡ false) ⊎ (p.at_front ≡ false)) where
+  -- what begins a block at the front of a line alone
+  by_line : (b x y : Bool) → (is_line_mark s.character ≡ false → b ≡ false) → (p.at_front ≡ false → x ≡ false) → y ≡ false → (if b then x else y) ≡ false
+  by_line b x y low high rest = by l
+    where
+      by : ((is_line_mark s.character ≡ false) ⊎ (p.at_front ≡ false)) → (if b then x else y) ≡ false
+      by (inl e) = skip b x y false (low e) rest
+      by (inr e) = either b x y false (high e) rest
+
   no_marker : s.after_digits ≡ false → is_read_as_marker p s ≡ false
   unfolding is_read_as_marker
   no_marker d =
@@ -35,12 +49,12 @@ module _ (p : Surroundings) (s : Spot) (h : is_mark s.character ≡ false) (n : 
       (skip (c == 62) _ _ _ (differs is_front_mark c 62 n refl)
       (skip (c == 94) _ _ _ (differs is_mark c 94 h refl)
       (skip (c == 36) _ _ _ (differs is_mark c 36 h refl)
-      (skip (c == 58) _ _ _ (differs is_front_mark c 58 n refl)
+      (by_line (c == 58) _ _ (λ e. differs is_line_mark c 58 e refl) (λ e. and_left (is_marker p s) (has p 0x1000) (no_block p s e))
       (skip (c == 123) _ _ _ (differs is_mark c 123 h refl)
       (skip (c == 95) _ _ _ (differs is_mark c 95 h refl)
       (skip (c == 124) _ _ _ (differs is_mark c 124 h refl)
       (skip (c == 35) _ _ _ (differs is_mark c 35 h refl)
-      (skip (char_set_contains (codes "-+=") c) _ _ _ (is_none_of is_front_mark (codes "-+=") c n refl)
+      (by_line (char_set_contains (codes "-+=") c) _ _ (λ e. is_none_of is_line_mark (codes "-+=") c e refl) (λ e. no_block p s e)
       (either (char_set_contains (codes ".)") c) _ _ _ (and_right (not p.in_table) s.after_digits d)
       (skip (c == 33) _ _ _ (differs is_mark c 33 h refl) refl))))))))))))
 
@@ -51,6 +65,14 @@ module _ (p : Surroundings) (s : Spot) (h : is_mark s.character ≡ false) (n : 
       (or_from (is_read_as_marker p s) (is_own_token p s.character) (no_marker d)
       (and_left (s.character == p.token) (not (char_set_contains (codes "*_") s.character)) t)) refl
 
+  -- a blank that isn't at the front of a line
+  no_blank : (k : ℕ) → is_line_mark k ≡ true → (s.character == k && is_first s && p.at_front) ≡ false
+  no_blank k mark = by l
+    where
+      by : ((is_line_mark s.character ≡ false) ⊎ (p.at_front ≡ false)) → (s.character == k && is_first s && p.at_front) ≡ false
+      by (inl e) = and_left (s.character == k && is_first s) p.at_front (and_left (s.character == k) (is_first s) (differs is_line_mark s.character k e mark))
+      by (inr e) = and_right (s.character == k && is_first s) p.at_front e
+
   no_reference : reference p s ≡ None
   unfolding reference
   no_reference =
@@ -58,8 +80,8 @@ module _ (p : Surroundings) (s : Spot) (h : is_mark s.character ≡ false) (n : 
       skip (c == 10) _ _ _ (differs is_mark c 10 h refl)
       (skip (c == 13) _ _ _ (differs is_mark c 13 h refl)
       (skip (c == 38) _ _ _ (differs is_mark c 38 h refl)
-      (skip (c == 32 && is_first s && p.at_front) _ _ _ (and_left (c == 32 && is_first s) p.at_front (and_left (c == 32) (is_first s) (differs is_front_mark c 32 n refl)))
-      (skip (c == 9 && is_first s && p.at_front) _ _ _ (and_left (c == 9 && is_first s) p.at_front (and_left (c == 9) (is_first s) (differs is_front_mark c 9 n refl))) refl))))
+      (skip (c == 32 && is_first s && p.at_front) _ _ _ (no_blank 32 refl)
+      (skip (c == 9 && is_first s && p.at_front) _ _ _ (no_blank 9 refl) refl))))
 
   not_encoded : p.first_encoded ≡ false → p.last_encoded ≡ false → is_encoded p s ≡ false
   not_encoded f l =
@@ -99,13 +121,23 @@ bare_characters (c ∷ cs) h =
 no_digit : (c : ℕ) → 128 ≤ c → is_ascii_digit c ≡ false
 no_digit c high = grind (arith, high, nat_tests)
 
-front_character : (c : ℕ) (bs : List ℕ) → has_bare_front (encode_utf8 c ++ bs) ≡ true → ((c < 128) ⊎ (128 ≤ c)) → is_front_mark c ≡ false
-front_character c bs h (inl low) =
-    not-true (is_front_mark c) (ap (λ xs. has_bare_front (xs ++ bs)) (sym (encode_ascii c low)) ∙ h)
-front_character c bs h (inr high) =
-    or_from (is_ascii_digit c) (char_set_contains (9 ∷ codes " >-+=:") c) (no_digit c high) (is_none_of is_ascii (9 ∷ codes " >-+=:") c (le-ltb c 128 high) refl)
+abbrev IsFrontCharacter : Bool → ℕ → Type 0
+IsFrontCharacter within c = (is_front_mark c ≡ false) × ((within || not (is_line_mark c)) ≡ true)
 
-module _ (p : Surroundings) (f : p.first_encoded ≡ false) (l : p.last_encoded ≡ false) (t : is_mark p.token ≡ true) where
+front_character : (within : Bool) (c : ℕ) (bs : List ℕ) → has_bare_front within (encode_utf8 c ++ bs) ≡ true → ((c < 128) ⊎ (128 ≤ c)) → IsFrontCharacter within c
+front_character within c bs h (inl low) =
+    let parts = and_parts (not (is_front_mark c)) (within || not (is_line_mark c)) (ap (λ xs. has_bare_front within (xs ++ bs)) (sym (encode_ascii c low)) ∙ h) in
+    (not-true (is_front_mark c) parts.0, parts.1)
+front_character within c bs h (inr high) =
+    let past : is_ascii c ≡ false = le-ltb c 128 high in
+    let line : is_line_mark c ≡ false = is_none_of is_ascii (9 ∷ codes " -+=:") c past refl in
+    (or_from (is_ascii_digit c) (c == 62) (no_digit c high) (differs is_ascii c 62 past refl), or_true within (ap not line))
+  where
+    or_true : (b : Bool) {x : Bool} → x ≡ true → (b || x) ≡ true
+    or_true true e = refl
+    or_true false e = e
+
+module _ (p : Surroundings) (f : p.first_encoded ≡ false) (l : p.last_encoded ≡ false) (t : is_mark p.token ≡ true) (within : Bool) (inside : within ≡ true → p.at_front ≡ false) where
   bare_written : (b : ℕ) (cs : List ℕ) → list_all is_bare cs ≡ true → escape_on p (Some b) false cs ≡ cs
   bare_written b [] h = refl
   bare_written b (c ∷ cs) h =
@@ -114,29 +146,55 @@ module _ (p : Surroundings) (f : p.first_encoded ≡ false) (l : p.last_encoded 
       ∙ ap (λ x. c ∷ escape_on p (Some c) x cs) (and_right (is_ascii_digit c) false refl)
       ∙ ap (λ x. c ∷ x) (bare_written c cs parts.1)
 
-  plain_written : (cs : List ℕ) → has_bare_front (encode_utf8_all cs) ≡ true → list_all is_bare (encode_utf8_all cs) ≡ true → escape p cs ≡ cs
+  at_line : (b : Bool) → within ≡ b → (c : ℕ) → (within || not (is_line_mark c)) ≡ true → (is_line_mark c ≡ false) ⊎ (p.at_front ≡ false)
+  at_line true e c h = inr (inside e)
+  at_line false e c h = inl (not-true (is_line_mark c) (ap (λ b. b || not (is_line_mark c)) (sym e) ∙ h))
+
+  plain_written : (cs : List ℕ) → has_bare_front within (encode_utf8_all cs) ≡ true → list_all is_bare (encode_utf8_all cs) ≡ true → escape p cs ≡ cs
   plain_written [] front h = refl
   plain_written (c ∷ cs) front h =
       let all = and_parts (is_bare c) (list_all is_bare cs) (bare_characters (c ∷ cs) h) in
-      let n = front_character c (encode_utf8_all cs) front (cases_lt c 128) in
+      let n = front_character within c (encode_utf8_all cs) front (cases_lt c 128) in
       sym (escape_on-is p [] (c ∷ cs))
-      ∙ ap (λ x. x ++ escape_on p (Some c) (is_ascii_digit c && true) cs) (front_itself p (spot_from None true c cs) (not-true (is_mark c) all.0) n t refl f l)
-      ∙ ap (λ b. c ∷ escape_on p (Some c) (b && true) cs) (or_parts (is_ascii_digit c) (char_set_contains (9 ∷ codes " >-+=:") c) n).0
+      ∙ ap (λ x. x ++ escape_on p (Some c) (is_ascii_digit c && true) cs)
+      (front_itself p (spot_from None true c cs) (not-true (is_mark c) all.0) n.0 (at_line within refl c n.1) t refl f l)
+      ∙ ap (λ b. c ∷ escape_on p (Some c) (b && true) cs) (or_parts (is_ascii_digit c) (c == 62) n.0).0
       ∙ ap (λ x. c ∷ x) (bare_written c cs all.1)
 
   -- a plain text is escaped as it is
-  pub plain_escaped : (text : List ℕ) → IsUtf8 text → is_plain text ≡ true → escaped p text ≡ text
+  pub plain_escaped : (text : List ℕ) → IsUtf8 text → is_plain within text ≡ true → escaped p text ≡ text
   unfolding escaped
   plain_escaped text u h =
       let same : encode_utf8_all (chars text) ≡ text = encodes-chars text u in
-      let parts = and_parts (has_bare_front text) (list_all is_bare text) h in
-      ap encode_utf8_all (plain_written (chars text) (ap has_bare_front same ∙ parts.0) (ap (list_all is_bare) same ∙ parts.1)) ∙ same
+      let parts = and_parts (has_bare_front within text) (list_all is_bare text) h in
+      ap encode_utf8_all (plain_written (chars text) (ap (has_bare_front within) same ∙ parts.0) (ap (list_all is_bare) same ∙ parts.1)) ∙ same
 
--- two plain texts joined
-pub plain-joined : (t u : List ℕ) → is_plain t ≡ true → is_plain u ≡ true → is_plain (t ++ u) ≡ true
-plain-joined [] u h k = k
-plain-joined (b ∷ bs) u h k =
-    let one = and_parts (not (is_front_mark b)) (list_all is_bare (b ∷ bs)) h in
-    let two = and_parts (has_bare_front u) (list_all is_bare u) k in
-    and_from (not (is_front_mark b)) (list_all is_bare ((b ∷ bs) ++ u)) one.0
-    (list_all-append is_bare (b ∷ bs) u ∙ and_from (list_all is_bare (b ∷ bs)) (list_all is_bare u) one.1 two.1)
+-- ---- two plain texts joined
+
+or-left : (b c n : Bool) → (b || n) ≡ true → ((b || c) || n) ≡ true
+or-left true c n h = refl
+or-left false true n h = refl
+or-left false false n h = h
+
+or-right : (b c n : Bool) → (c || n) ≡ true → ((b || c) || n) ≡ true
+or-right true c n h = refl
+or-right false c n h = h
+
+-- inside a line of which either knows
+front-right : (b c : Bool) (text : List ℕ) → has_bare_front c text ≡ true → has_bare_front (b || c) text ≡ true
+front-right b c [] h = refl
+front-right b c (x ∷ xs) h =
+    let parts = and_parts (not (is_front_mark x)) (c || not (is_line_mark x)) h in
+    and_from (not (is_front_mark x)) ((b || c) || not (is_line_mark x)) parts.0 (or-right b c (not (is_line_mark x)) parts.1)
+
+pub plain-joined : (b c : Bool) (t u : List ℕ) → is_plain b t ≡ true → is_plain c u ≡ true → is_plain (b || c) (t ++ u) ≡ true
+plain-joined b c [] u h k =
+    let two = and_parts (has_bare_front c u) (list_all is_bare u) k in
+    and_from (has_bare_front (b || c) u) (list_all is_bare u) (front-right b c u two.0) two.1
+plain-joined b c (x ∷ xs) u h k =
+    let one = and_parts (has_bare_front b (x ∷ xs)) (list_all is_bare (x ∷ xs)) h in
+    let two = and_parts (has_bare_front c u) (list_all is_bare u) k in
+    let front = and_parts (not (is_front_mark x)) (b || not (is_line_mark x)) one.0 in
+    and_from (has_bare_front (b || c) ((x ∷ xs) ++ u)) (list_all is_bare ((x ∷ xs) ++ u))
+    (and_from (not (is_front_mark x)) ((b || c) || not (is_line_mark x)) front.0 (or-left b c (not (is_line_mark x)) front.1))
+    (list_all-append is_bare (x ∷ xs) u ∙ and_from (list_all is_bare (x ∷ xs)) (list_all is_bare u) one.1 two.1)

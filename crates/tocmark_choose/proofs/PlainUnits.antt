@@ -14,6 +14,7 @@ use Rattle.tocmark_spelling.specs.declared.plan.Layout.TheVariants.{Preferred}
 use Rattle.tocmark_spelling.specs.declared.plan.TextSpelling.TheVariants.{Escaped}
 use Rattle.tocmark_write_texts.specs.Bare.{is_mark}
 use Rattle.tocmark_choose.specs.Alike.{AreAlike}
+use Rattle.tocmark_choose.specs.declared.alike.Place.TheVariants.{Front}
 use Rattle.tocmark_choose.specs.Candidates.{candidates, has_event, has_source, in_manner, is_checked, is_delimiter_block, own_markers}
 use Rattle.tocmark_choose.specs.Choice.{accepted_if, choice, definitions_of, if_read_back, page_read_back, preferred, has_standard_markers, spelled}
 use Rattle.tocmark_choose.specs.ReadsBack.{reads_back}
@@ -71,7 +72,7 @@ module _ (s : Setting) (d : DocumentView) (f : Trees) (next : Option EventView) 
   abbrev manner : Bool → Manner
   manner source = in_manner Preferred Escaped (own_markers s.options) source
 
-  module _ (m : has_standard_markers s.options ≡ true) (off : is_checked s.options f ≡ false) (alike : AreAlike false (flat f)) where
+  module _ (m : has_standard_markers s.options ≡ true) (off : is_checked s.options f ≡ false) (alike : AreAlike false Front (flat f)) where
     same : spelled s d f next (manner true) ≡ spelled s d f next (manner false)
     same =
         let tokens = both_true ((s.options.emphasis_token == 42) || (s.options.emphasis_token == 95)) (bytes_eq s.options.strong_token (codes "**") || bytes_eq s.options.strong_token (codes "__")) m in

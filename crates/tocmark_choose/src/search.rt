@@ -5,6 +5,7 @@ ghost use Rattle.std.specs.List.{AllByRecursion};
 ghost use Rattle.tocmark_write_renderer.specs.JobOf.{manner_view};
 ghost use Rattle.tocmark_write_renderer.specs.WriterOf.{site_of};
 ghost use Rattle.tocmark_choose.specs.Alike.{AreAlike};
+ghost use Rattle.tocmark_choose.specs.declared.alike.Place.TheVariants.{Front};
 ghost use Rattle.tocmark_choose.specs.Candidates.{delimiter_manners, escaped_manners, fallback_manners, fallbacks};
 ghost use Rattle.tocmark_choose.specs.Choice.{has_standard_markers};
 ghost use Rattle.tocmark_choose.specs.Tries.{if_source, manners_for};
@@ -47,7 +48,7 @@ impl<'t, R: Reader> Search<'_, '_, 't, '_, R> {
     /// rests on what the reader finds.
     fn is_alike(&self) -> bool
         ensures { let t = self.now.trial.now in
-            result ≡ true → (is_checked_in t ≡ false) × AreAlike false (events_in t) }
+            result ≡ true → (is_checked_in t ≡ false) × AreAlike false Front (events_in t) }
     {
         if self.is_checked() {
             return false;

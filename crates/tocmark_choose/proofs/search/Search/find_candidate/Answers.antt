@@ -3,6 +3,7 @@ use Rattle.std.proofs.lemmas.Result.{err_from_is_err_and}
 use Rattle.tocmark_event.specs.Forest.{flat}
 use Rattle.tocmark_write_renderer.specs.WriterOf.{site_of}
 use Rattle.tocmark_choose.specs.Alike.{AreAlike}
+use Rattle.tocmark_choose.specs.declared.alike.Place.TheVariants.{Front}
 use Rattle.tocmark_choose.specs.TrialOf.{asked_of, is_checked_in, left_by}
 use Rattle.tocmark_choose.specs.Tries.{manners_for}
 use Rattle.tocmark_choose.specs.Validates.{validates}
@@ -35,7 +36,7 @@ returns-then-is_alike-clause-found g c other =
     let d = left_by other c.args.self.now.earlier (site_of c.args.renderer.now) in
     let both = c.is_alike.ensures c.if-is_alike.true in
     let unchecked = sym (trial-checked reading t c.requires.ready (is_checked_in t) refl) ∙ both.0 in
-    let alike = trial-written reading t c.requires.ready (λ f. AreAlike false (flat f)) (λ f is. subst (AreAlike false) (sym is) both.1) in
+    let alike = trial-written reading t c.requires.ready (λ f. AreAlike false Front (flat f)) (λ f is. subst (AreAlike false Front) (sym is) both.1) in
     record { plain = choice-alike q.setting d q.unit q.next (sym c.has_standard_markers.ensures ∙ c.if-not-has_standard_markers.false) unchecked alike; kept = refl }
 
 pub returns-in_err-known-clause-found : goal.returns-in_err-known-clause-found
