@@ -290,7 +290,7 @@ leaf_adds t find ps d s none few = (
     counted = roles_count (length leaf.bytes) leaf.bytes find start (copies (length leaf.bytes) Plain)
 
     safe : Safe 0 0 0 after_.roles
-    safe = scanned_safe leaf.bytes find start (omega arith) (λ x r e. copies_plain (length leaf.bytes) x r e) refl refl refl refl
+    safe = scanned_safe leaf.bytes find start (omega arith) (copies (length leaf.bytes) Plain) (λ x r e. copies_plain (length leaf.bytes) x r e) refl refl refl refl
 
 -- the nodes so far, after blocks of which these are the last at each depth
 record Good (t : List ℕ) (ks : List BlockKind) (s : State) : Type 0 where

@@ -1,5 +1,5 @@
 -- No inline of a leaf ends a container that none of them began.
-use Rattle.std.proofs.Common.{◌≡◌, ℕ, zero, suc, ◌+◌, ◌-◌, ◌^◌, ◌<◌, ◌≤◌, Bool, true, false, if◌then◌else◌, nat_le, List, [], ◌∷◌, ◌++◌, length, map, replicate, refl, ap, sym, subst, arith}
+use Rattle.std.proofs.Common.{◌≡◌, ℕ, zero, suc, ◌+◌, ◌-◌, ◌^◌, ◌<◌, ◌≤◌, Bool, true, false, if◌then◌else◌, nat_le, List, [], ◌∷◌, ◌++◌, length, map, replicate, refl, sym, subst, arith}
 use Rattle.std.specs.Prelude.{slice_get, Option, Some, None}
 use Rattle.std.specs.List.{AllByRecursion, fold}
 use Rattle.std.proofs.lemmas.Bool.Decides.{nat_tests}
@@ -17,7 +17,7 @@ use Rattle.tocmark_read_inlines.specs.declared.write.Node.{Node}
 use Rattle.tocmark_text_laws.specs.Inside.{InlinesStayInside}
 use Rattle.tocmark_text_laws.proofs.Alls.{all_both}
 use Rattle.tocmark_text_laws.proofs.RoleCounts.{copies, roles_count}
-use Rattle.tocmark_text_laws.proofs.Walks.{Safe, skips, opens, Ends, is_neutral}
+use Rattle.tocmark_text_laws.proofs.Walks.{Safe, skips, opens, Ends}
 use Rattle.tocmark_text_laws.proofs.Steps.{scanned_safe}
 
 abbrev pub Deep : ℕ → List Node → Type 0
@@ -149,9 +149,9 @@ unfolding moved
 moved_deep depth places [] h = tt
 moved_deep depth places (n ∷ ns) h = (h.0, moved_deep depth places ns (h.1))
 
-pub copies_plain : (n i : ℕ) (r : Role) → slice_get (replicate n role.Plain) i ≡ Some r → is_neutral r ≡ true
+pub copies_plain : (n i : ℕ) (r : Role) → slice_get (replicate n role.Plain) i ≡ Some r → role.Plain ≡ r
 copies_plain zero i r e = absurd cc
-copies_plain (suc n) zero r e = let q : role.Plain ≡ r = cc in sym (ap is_neutral q)
+copies_plain (suc n) zero r e = let q : role.Plain ≡ r = cc in q
 copies_plain (suc n) (suc i) r e = copies_plain n i r e
 
 pub inlines_inside : InlinesStayInside
@@ -168,4 +168,4 @@ inlines_inside leaf depth definitions s few = moved_deep depth leaf.places (writ
     counted = roles_count (length leaf.bytes) leaf.bytes definitions start (copies (length leaf.bytes) role.Plain)
 
     safe : Safe 0 0 0 after
-    safe = scanned_safe leaf.bytes definitions start (omega arith) (λ x r e. copies_plain (length leaf.bytes) x r e) refl refl refl refl
+    safe = scanned_safe leaf.bytes definitions start (omega arith) (copies (length leaf.bytes) role.Plain) (λ x r e. copies_plain (length leaf.bytes) x r e) refl refl refl refl

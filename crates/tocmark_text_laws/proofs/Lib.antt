@@ -118,3 +118,7 @@ pub mod InlineOrder
 pub mod Rising
 pub mod LeafPlaces
 pub mod SourceOrder
+pub mod Nests
+pub mod LinkEnds
+pub mod InlineNests
+pub mod SourceNest

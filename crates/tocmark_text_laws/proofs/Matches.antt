@@ -8,14 +8,17 @@ use Rattle.tocmark_read_scan.specs.Repeat.{going, repeated}
 use Rattle.tocmark_read_spans.specs.Emphasis.{State, width_of, span_of, class_of, found, with_count, shortened, matching, matched, once_on, once_at, once, stacked, run_step, emphasis_start, emphasized}
 use Rattle.tocmark_read_spans.specs.declared.role.Role.{Role}
 use Rattle.tocmark_read_spans.specs.declared.role.Role.TheVariants.{Hidden, Open, Close}
+use Rattle.tocmark_read_spans.specs.declared.role.Span.{Span}
 use Rattle.tocmark_read_spans.specs.declared.run.Run.{Run}
+use Rattle.tocmark_text_laws.proofs.Nests.{Nested, Level, is_flat, neutral_nested, neutral_level, before_level, pair_nested, pair_level}
+use Rattle.tocmark_text_laws.proofs.RoleCounts.{set_length}
 use Rattle.tocmark_text_laws.proofs.Walks.{Safe, Read, Neutral, is_neutral, neutral_safe, pair_safe, quiet_read}
 
 -- what is at a place of a list after one place changed
 abbrev Other : ℕ → ℕ → Type 0
 Other i j = (i < j) ⊎ (j < i)
 
-set_got : {A : Type 0} (xs : List A) (i : ℕ) (y : A) (j : ℕ) (z : A) → slice_get (slice_set xs i y) j ≡ Some z → ((i ≡ j) × (y ≡ z)) ⊎ (Other i j × (slice_get xs j ≡ Some z))
+pub set_got : {A : Type 0} (xs : List A) (i : ℕ) (y : A) (j : ℕ) (z : A) → slice_get (slice_set xs i y) j ≡ Some z → ((i ≡ j) × (y ≡ z)) ⊎ (Other i j × (slice_get xs j ≡ Some z))
 set_got [] i y j z e = absurd cc
 set_got (x ∷ xs) zero y zero z e = let q : y ≡ z = cc in inl (refl, q)
 set_got (x ∷ xs) zero y (suc j) z e = inr (inl (omega arith), e)
@@ -56,35 +59,81 @@ same_neutral xs i y j k n x e = by (set_got xs i y j x e)
     by (inl (p, q)) = subst (λ z. is_neutral z ≡ true) q k
     by (inr (l, q)) = n x q
 
+-- a byte at which no container begins or ends
+abbrev pub Flat : List Role → ℕ → Type 0
+Flat xs i = (x : Role) → slice_get xs i ≡ Some x → is_flat x ≡ true
+
+other_flat : (xs : List Role) (i : ℕ) (y : Role) (j : ℕ) → Other i j → Flat xs j → Flat (slice_set xs i y) j
+other_flat xs i y j l n x e = n x (sym (set_other xs i y j l) ∙ e)
+
+same_flat : (xs : List Role) (i : ℕ) (y : Role) (j : ℕ) → is_flat y ≡ true → Flat xs j → Flat (slice_set xs i y) j
+same_flat xs i y j k n x e = by (set_got xs i y j x e)
+  where
+    by : ((i ≡ j) × (y ≡ x)) ⊎ (Other i j × (slice_get xs j ≡ Some x)) → is_flat x ≡ true
+    by (inl (p, q)) = subst (λ z. is_flat z ≡ true) q k
+    by (inr (l, q)) = n x q
+
 -- the delimiters of a run: read at first, neutral, and none of those places that are to be kept
 abbrev pub Cell : (ℕ → Type 0) → List Role → List Role → ℕ → Type 0
-Cell P old new x = Read 0 0 old x × Neutral new x × (P x → ⊥)
+Cell P old new x = Read 0 0 old x × Neutral new x × (P x → ⊥) × Level 0 0 [] new x
 
 abbrev pub Cells : (ℕ → Type 0) → List Role → List Role → Run → Type 0
 Cells P old new r = (x : ℕ) → r.place ≤ x → x < r.place + r.count → Cell P old new x
 
--- the runs that may open: each has delimiters left, one after the other
-record Stack (P : ℕ → Type 0) (old : List Role) (c : ℕ) (s : State) : Type 0 where
+-- the runs that may open: each has delimiters left, one after the other, and none is before a place
+record Stack (P : ℕ → Type 0) (M : ℕ → Role → Type 0) (lo : ℕ) (old : List Role) (c : ℕ) (s : State) : Type 0 where
   cells : (k : ℕ) (o : Run) → slice_get s.stack k ≡ Some o → Cells P old s.roles o
   some : (k : ℕ) (o : Run) → slice_get s.stack k ≡ Some o → 0 < o.count
+  above : (k : ℕ) (o : Run) → slice_get s.stack k ≡ Some o → lo ≤ o.place
   before : (k : ℕ) (o : Run) → slice_get s.stack k ≡ Some o → o.place + o.count ≤ c
   order : (k l : ℕ) (o u : Run) → k < l → slice_get s.stack k ≡ Some o → slice_get s.stack l ≡ Some u → o.place + o.count ≤ u.place
 
--- all runs before a place are matched
-record Stands (P : ℕ → Type 0) (old : List Role) (c : ℕ) (s : State) : Type 0 where
+-- what is to hold of each byte and its role
+abbrev pub Marked : (ℕ → Role → Type 0) → List Role → Type 0
+Marked M xs = (i : ℕ) (x : Role) → slice_get xs i ≡ Some x → M i x
+
+pub marked_set : (M : ℕ → Role → Type 0) (xs : List Role) (i : ℕ) (y : Role) → M i y → Marked M xs → Marked M (slice_set xs i y)
+marked_set M xs i y m h j x e = by (set_got xs i y j x e)
+  where
+    by : ((i ≡ j) × (y ≡ x)) ⊎ (Other i j × (slice_get xs j ≡ Some x)) → M j x
+    by (inl (p, q)) = subst (λ k. M k x) p (subst (M i) q m)
+    by (inr (l, q)) = h j x q
+
+-- it holds of delimiters that are matched, which are none of the places that are to be kept
+pub record Rules (P : ℕ → Type 0) (M : ℕ → Role → Type 0) (count : ℕ) : Type 0 where
+  pub hidden : (i : ℕ) → (P i → ⊥) → M i Hidden
+  pub opens : (i j : ℕ) (s : Span) → (P i → ⊥) → (P j → ⊥) → i < j → j < count → M i (Open s (suc j))
+  pub closes : (j : ℕ) → (P j → ⊥) → j < count → M j (Close (suc j))
+
+-- all runs from one place to before another are matched
+record Stands (P : ℕ → Type 0) (M : ℕ → Role → Type 0) (lo : ℕ) (old : List Role) (c : ℕ) (s : State) : Type 0 where
   safe : Safe 0 0 0 s.roles
+  nested : Nested 0 0 [] s.roles
+  size : length s.roles ≡ length old
+  rules : Rules P M (length old)
+  marked : Marked M s.roles
+  low : (x : ℕ) → x < lo → Level 0 0 [] old x → Level 0 0 [] s.roles x
+  high : (x : ℕ) → c ≤ x → Level 0 0 [] old x → Level 0 0 [] s.roles x
   read : (x : ℕ) → Read 0 0 old x → Read 0 0 s.roles x
   kept : (x : ℕ) → P x → Neutral old x → Neutral s.roles x
+  flat : (x : ℕ) → P x → Flat old x → Flat s.roles x
   later : (x : ℕ) → c ≤ x → Neutral old x → Neutral s.roles x
-  stack : Stack P old c s
+  stack : Stack P M lo old c s
 
-stands_more : (P : ℕ → Type 0) (old : List Role) (c d : ℕ) (s : State) → c ≤ d → Stands P old c s → Stands P old d s
-stands_more P old c d s l h = record {
+stands_more : (P : ℕ → Type 0) (M : ℕ → Role → Type 0) (lo : ℕ) (old : List Role) (c d : ℕ) (s : State) → c ≤ d → Stands P M lo old c s → Stands P M lo old d s
+stands_more P M lo old c d s l h = record {
   safe = h.safe;
+  nested = h.nested;
+  size = h.size;
+  rules = h.rules;
+  marked = h.marked;
+  low = h.low;
+  high = λ x m n. h.high x (omega arith) n;
   read = h.read;
   kept = h.kept;
+  flat = h.flat;
   later = λ x m n. h.later x (omega arith) n;
-  stack = record { cells = h.stack.cells; some = h.stack.some; before = λ k o e. let q : o.place + o.count ≤ c = h.stack.before k o e in omega arith; order = h.stack.order };
+  stack = record { cells = h.stack.cells; some = h.stack.some; above = h.stack.above; before = λ k o e. let q : o.place + o.count ≤ c = h.stack.before k o e in omega arith; order = h.stack.order };
 }
 
 -- the roles after a match: its opening and closing delimiters
@@ -109,6 +158,45 @@ made_safe roles a i c j width closer end l m z na ri ni nc rj nj h =
     neutral : (x : ℕ) → Neutral roles x → Neutral both x
     neutral x n = same_neutral hidden c Hidden x refl (same_neutral roles a Hidden x refl n)
 
+made_nested : (roles : List Role) (a i c j : ℕ) (width : ℕ) (closer : Run) (end : ℕ) → i < c → c ≤ j → end ≡ suc j → j < length roles → Neutral roles a → Read 0 0 roles i → Neutral roles i → Level 0 0 [] roles i → Neutral roles c → Read 0 0 roles j → Neutral roles j → Level 0 0 [] roles j → Nested 0 0 [] roles
+    → Nested 0 0 [] (made roles a i c j (Open (span_of width closer) end) end) × ((x : ℕ) → j < x → Level 0 0 [] roles x → Level 0 0 [] (made roles a i c j (Open (span_of width closer) end) end) x)
+made_nested roles a i c j width closer end l m z w na ri ni vi nc rj nj vj h =
+    subst (λ xs. Nested 0 0 [] (slice_set xs j (Close end)) × ((x : ℕ) → j < x → Level 0 0 [] roles x → Level 0 0 [] (slice_set xs j (Close end)) x)) (sym (set_swaps hidden i (Open (span_of width closer) end) c Hidden l)) (
+      pair_nested 0 0 [] both i j (span_of width closer) end (omega arith) within (omega arith) (reads i ri) (levels i vi) (neutral i ni) (reads j rj) (levels j vj) (neutral j nj) (inl (omega arith)) nests,
+      λ x o v. pair_level 0 0 [] both i j (span_of width closer) end x (omega arith) within o (reads i ri) (levels i vi) (neutral i ni) (reads j rj) (levels j vj) (neutral j nj) (inl (omega arith)) nests (levels x v),
+    )
+  where
+    hidden : List Role
+    hidden = slice_set roles a Hidden
+
+    both : List Role
+    both = slice_set hidden c Hidden
+
+    within : j < length both
+    within = let q : length both ≡ length hidden = set_length hidden c Hidden in let r : length hidden ≡ length roles = set_length roles a Hidden in omega (arith, w)
+
+    reads : (x : ℕ) → Read 0 0 roles x → Read 0 0 both x
+    reads x r = quiet_read 0 0 hidden c Hidden x (same_neutral roles a Hidden c refl nc) refl (quiet_read 0 0 roles a Hidden x na refl r)
+
+    levels : (x : ℕ) → Level 0 0 [] roles x → Level 0 0 [] both x
+    levels x v = neutral_level 0 0 [] hidden c Hidden x (same_neutral roles a Hidden c refl nc) refl (neutral_level 0 0 [] roles a Hidden x na refl v)
+
+    neutral : (x : ℕ) → Neutral roles x → Neutral both x
+    neutral x n = same_neutral hidden c Hidden x refl (same_neutral roles a Hidden x refl n)
+
+    nests : Nested 0 0 [] both
+    nests = neutral_nested 0 0 [] hidden c Hidden (same_neutral roles a Hidden c refl nc) refl (neutral_nested 0 0 [] roles a Hidden na refl h)
+
+-- before a match nothing changes
+made_low : (roles : List Role) (a i c j : ℕ) (opens : Role) (end x : ℕ) → x ≤ a → x ≤ i → x ≤ c → x ≤ j → Level 0 0 [] roles x → Level 0 0 [] (made roles a i c j opens end) x
+made_low roles a i c j opens end x p q r t v =
+    before_level 0 0 [] (slice_set (slice_set (slice_set roles a Hidden) i opens) c Hidden) j (Close end) x t
+    (before_level 0 0 [] (slice_set (slice_set roles a Hidden) i opens) c Hidden x r
+    (before_level 0 0 [] (slice_set roles a Hidden) i opens x q (before_level 0 0 [] roles a Hidden x p v)))
+
+made_size : (roles : List Role) (a i c j : ℕ) (opens : Role) (end : ℕ) → length (made roles a i c j opens end) ≡ length roles
+made_size roles a i c j opens end = set_length _ j (Close end) ∙ (set_length _ c Hidden ∙ (set_length _ i opens ∙ set_length roles a Hidden))
+
 made_read : (roles : List Role) (a i c j : ℕ) (width : ℕ) (closer : Run) (end : ℕ) → i < c → c ≤ j → end ≤ suc j → Neutral roles a → Neutral roles i → Neutral roles c → Neutral roles j → (x : ℕ) → Read 0 0 roles x → Read 0 0 (made roles a i c j (Open (span_of width closer) end) end) x
 made_read roles a i c j width closer end l m z na ni nc nj x r =
     quiet_read 0 0 third j (Close end) x (same_neutral second c Hidden j refl (other_neutral first i opens j (inl (omega arith)) (same_neutral roles a Hidden j refl nj))) (omega arith)
@@ -126,6 +214,10 @@ made_read roles a i c j width closer end l m z na ni nc nj x r =
 
     third : List Role
     third = slice_set second c Hidden
+
+made_flat : (roles : List Role) (a i c j : ℕ) (opens : Role) (end x : ℕ) → Other i x → Other j x → Flat roles x → Flat (made roles a i c j opens end) x
+made_flat roles a i c j opens end x p q n =
+    other_flat (slice_set (slice_set (slice_set roles a Hidden) i opens) c Hidden) j (Close end) x q (same_flat (slice_set (slice_set roles a Hidden) i opens) c Hidden x refl (other_flat (slice_set roles a Hidden) i opens x p (same_flat roles a Hidden x refl n)))
 
 made_other : (roles : List Role) (a i c j : ℕ) (opens : Role) (end x : ℕ) → Other i x → Other j x → Neutral roles x → Neutral (made roles a i c j opens end) x
 made_other roles a i c j opens end x p q n =
@@ -165,9 +257,9 @@ got_shortened k j o width rs u l e = by (o.count - width == 0) refl e
     by false z g = set (let w : 0 < left = grind (arith, nat_tests) in w) (set_got (take (plus k 1) rs) k (with_count left o) j u g)
 
 -- the stack after a match
-matching_stands : (P : ℕ → Type 0) (old : List Role) (width k : ℕ) (o r : Run) (s : State) → 1 ≤ width → width ≤ o.count → width ≤ r.count → r.place + r.count ≤ 2 ^ 64 - 1 → slice_get s.stack k ≡ Some o → Cells P old s.roles r → Stands P old r.place s
-    → Stands P old (r.place + width) ((matching width k o r s).0)
-matching_stands P old width k o r s few lo lr room e cs h = subst (λ x. Stands P old (r.place + width) (after x (plus r.place width))) first (subst (λ y. Stands P old (r.place + width) (after from y)) second whole)
+matching_stands : (P : ℕ → Type 0) (M : ℕ → Role → Type 0) (lo : ℕ) (old : List Role) (width k : ℕ) (o r : Run) (s : State) → 1 ≤ width → width ≤ o.count → width ≤ r.count → r.place + r.count ≤ 2 ^ 64 - 1 → r.place + r.count ≤ length old → slice_get s.stack k ≡ Some o → Cells P old s.roles r → Stands P M lo old r.place s
+    → Stands P M lo old (r.place + width) ((matching width k o r s).0)
+matching_stands P M lo old width k o r s few most lr room whole_text e cs h = subst (λ x. Stands P M lo old (r.place + width) (after x (plus r.place width))) first (subst (λ y. Stands P M lo old (r.place + width) (after from y)) second whole)
   where
     -- the state, where sums don't stop
     after : ℕ → ℕ → State
@@ -217,15 +309,36 @@ matching_stands P old width k o r s few lo lr room e cs h = subst (λ x. Stands 
             below true q w = grind (arith, nat_tests)
             below false q w = let z : x ≤ y = grind (arith, nat_tests) in absurd (n (omega (arith, ends)))
 
+    early : (x : ℕ) → x < from - width → Level 0 0 [] s.roles x → Level 0 0 [] (after from end).roles x
+    early x p v = made_low s.roles (from - 1) (from - width) r.place (end - 1) (Open (span_of width r) end) end x (omega (arith, ends)) (omega arith) (omega (arith, ends)) (omega (arith, ends)) v
+
+    nests : Nested 0 0 [] (after from end).roles × ((x : ℕ) → end - 1 < x → Level 0 0 [] s.roles x → Level 0 0 [] (after from end).roles x)
+    nests = made_nested s.roles (from - 1) (from - width) r.place (end - 1) width r end (omega (arith, ends)) (omega (arith, ends)) (omega (arith, ends)) (let q : length s.roles ≡ length old = h.size in omega (arith, ends, whole_text)) (a.1) (h.read (from - width) (i.0)) (i.1) (i.3) (c.1) (h.read (end - 1) (j.0)) (j.1) (j.3) h.nested
+
+    marks : Marked M (after from end).roles
+    marks =
+        let q : suc (end - 1) ≡ end = omega (arith, ends) in
+        let last : end - 1 < length old = omega (arith, ends, whole_text) in
+        marked_set M _ (end - 1) (Close end) (subst (λ n. M (end - 1) (Close n)) q (h.rules.closes (end - 1) (j.2) last))
+        (marked_set M _ r.place Hidden (h.rules.hidden r.place (c.2))
+        (marked_set M _ (from - width) (Open (span_of width r) end) (subst (λ n. M (from - width) (Open (span_of width r) n)) q (h.rules.opens (from - width) (end - 1) (span_of width r) (i.2) (j.2) (omega (arith, ends)) last))
+        (marked_set M s.roles (from - 1) Hidden (h.rules.hidden (from - 1) (a.2)) h.marked)))
+
+    bottom : lo ≤ from - width
+    bottom = let q : lo ≤ o.place = h.stack.above k o e in omega (arith, ends)
+
     protected : (x : ℕ) → P x → Neutral s.roles x → Neutral (after from end).roles x
     protected x p n = keeps x (apart (from - width) x (λ q. (i.2) (subst P (sym q) p))) (apart (end - 1) x (λ q. (j.2) (subst P (sym q) p))) n
+
+    flat : (x : ℕ) → P x → Flat s.roles x → Flat (after from end).roles x
+    flat x p n = made_flat s.roles (from - 1) (from - width) r.place (end - 1) (Open (span_of width r) end) end x (apart (from - width) x (λ q. (i.2) (subst P (sym q) p))) (apart (end - 1) x (λ q. (j.2) (subst P (sym q) p))) n
 
     -- a run of the new stack is one before, with fewer delimiters or as many
     Part : ℕ → Run → Type 0
     Part l u = (v : Run) × (slice_get s.stack l ≡ Some v) × (u.place ≡ v.place) × (u.count ≤ v.count) × (0 < u.count) × (u.place + u.count ≤ from - width)
 
     part : (l : ℕ) (u : Run) → slice_get (shortened k o width s.stack) l ≡ Some u → Part l u
-    part l u g = by (got_shortened k l o width s.stack u lo g)
+    part l u g = by (got_shortened k l o width s.stack u most g)
       where
         same : (v : Run) → with_count (o.count - width) o ≡ v → 0 < o.count - width → k ≡ l → Part l v
         same v q z w = subst (Part l) q (o, ap (slice_get s.stack) (sym w) ∙ e, refl, (omega (arith, ends)), z, omega (arith, ends))
@@ -238,7 +351,7 @@ matching_stands P old width k o r s few lo lr room e cs h = subst (λ x. Stands 
     cells l u g x m n = by (part l u g)
       where
         by : Part l u → Cell P old (after from end).roles x
-        by (v, q, p, b, z, t) = let y : Cell P old s.roles x = h.stack.cells l v q x (omega (arith, ends)) (omega (arith, ends)) in (y.0, keeps x (inr (omega (arith, ends))) (inr (omega (arith, ends))) (y.1), y.2)
+        by (v, q, p, b, z, t) = let y : Cell P old s.roles x = h.stack.cells l v q x (omega (arith, ends)) (omega (arith, ends)) in (y.0, keeps x (inr (omega (arith, ends))) (inr (omega (arith, ends))) (y.1), y.2, early x (omega (arith, ends)) (y.3))
 
     order : (l m : ℕ) (u w : Run) → l < m → slice_get (shortened k o width s.stack) l ≡ Some u → slice_get (shortened k o width s.stack) m ≡ Some w → u.place + u.count ≤ w.place
     order l m u w b g q = by (part l u g) (part m w q)
@@ -252,37 +365,52 @@ matching_stands P old width k o r s few lo lr room e cs h = subst (λ x. Stands 
         by : Part l u → u.place + u.count ≤ end
         by (v, q, p, b, z, t) = omega (arith, ends)
 
+    above : (l : ℕ) (u : Run) → slice_get (shortened k o width s.stack) l ≡ Some u → lo ≤ u.place
+    above l u g = by (part l u g)
+      where
+        by : Part l u → lo ≤ u.place
+        by (v, q, p, b, z, t) = let w : lo ≤ v.place = h.stack.above l v q in omega arith
+
     some : (l : ℕ) (u : Run) → slice_get (shortened k o width s.stack) l ≡ Some u → 0 < u.count
     some l u g = by (part l u g)
       where
         by : Part l u → 0 < u.count
         by (v, q, p, b, z, t) = z
 
-    whole : Stands P old end (after from end)
+    whole : Stands P M lo old end (after from end)
     whole = record {
       safe = made_safe s.roles (from - 1) (from - width) r.place (end - 1) width r end (omega (arith, ends)) (omega (arith, ends)) (omega (arith, ends)) (a.1) (h.read (from - width) (i.0)) (i.1) (c.1) (h.read (end - 1) (j.0)) (j.1) h.safe;
       read = λ x q. made_read s.roles (from - 1) (from - width) r.place (end - 1) width r end (omega (arith, ends)) (omega (arith, ends)) (omega (arith, ends)) (a.1) (i.1) (c.1) (j.1) x (h.read x q);
       kept = λ x p n. protected x p (h.kept x p n);
+      flat = λ x p n. flat x p (h.flat x p n);
       later = λ x l n. keeps x (inl (omega (arith, ends))) (inl (omega (arith, ends))) (h.later x (omega (arith, ends)) n);
-      stack = record { cells = cells; some = some; before = before; order = order };
+      nested = nests.0;
+      rules = h.rules;
+      marked = marks;
+      size = made_size s.roles (from - 1) (from - width) r.place (end - 1) (Open (span_of width r) end) end ∙ h.size;
+      low = λ x l v. early x (omega (arith, bottom)) (h.low x l v);
+      high = λ x l v. (nests.1) x (omega (arith, ends)) (h.high x (omega (arith, ends)) v);
+      stack = record { cells = cells; some = some; above = above; before = before; order = order };
     }
 
 -- a run that is matched: its delimiters are as they were, and where it ends
-record Left (P : ℕ → Type 0) (old : List Role) (end : ℕ) (r : Run) : Type 0 where
-  cells : (x : ℕ) → r.place ≤ x → x < end → Read 0 0 old x × Neutral old x × (P x → ⊥)
+record Left (P : ℕ → Type 0) (M : ℕ → Role → Type 0) (lo : ℕ) (old : List Role) (end : ℕ) (r : Run) : Type 0 where
+  cells : (x : ℕ) → r.place ≤ x → x < end → Read 0 0 old x × Neutral old x × (P x → ⊥) × Level 0 0 [] old x
   ends : r.place + r.count ≡ end
   room : end ≤ 2 ^ 64 - 1
+  whole_text : end ≤ length old
+  above : lo ≤ r.place
 
-left_cells : (P : ℕ → Type 0) (old : List Role) (end : ℕ) (r : Run) (s : State) → Left P old end r → Stands P old r.place s → Cells P old s.roles r
-left_cells P old end r s w h x l m = by (w.cells x l (let q : r.place + r.count ≡ end = w.ends in omega arith))
+left_cells : (P : ℕ → Type 0) (M : ℕ → Role → Type 0) (lo : ℕ) (old : List Role) (end : ℕ) (r : Run) (s : State) → Left P M lo old end r → Stands P M lo old r.place s → Cells P old s.roles r
+left_cells P M lo old end r s w h x l m = by (w.cells x l (let q : r.place + r.count ≡ end = w.ends in omega arith))
   where
-    by : Read 0 0 old x × Neutral old x × (P x → ⊥) → Cell P old s.roles x
-    by (a, b, c) = (a, h.later x l b, c)
+    by : Read 0 0 old x × Neutral old x × (P x → ⊥) × Level 0 0 [] old x → Cell P old s.roles x
+    by (a, b, c, d) = (a, h.later x l b, c, h.high x l d)
 
 -- a closer and what is left of it after a match
-abbrev Once : (ℕ → Type 0) → List Role → ℕ → Run → State × Option Run → Type 0
-Once P old end r (s, None) = Stands P old r.place s
-Once P old end r (s, Some u) = Left P old end u × Stands P old u.place s
+abbrev Once : (ℕ → Type 0) → (ℕ → Role → Type 0) → ℕ → List Role → ℕ → Run → State × Option Run → Type 0
+Once P M lo old end r (s, None) = Stands P M lo old r.place s
+Once P M lo old end r (s, Some u) = Left P M lo old end u × Stands P M lo old u.place s
 
 width_few : (o r : Run) → 0 < o.count → 0 < r.count → (1 ≤ width_of o r) × (width_of o r ≤ o.count) × (width_of o r ≤ r.count)
 unfolding width_of
@@ -293,44 +421,46 @@ width_few o r a b = by (nat_le 2 o.count) (nat_le 2 r.count) refl refl
     by true false p q = (omega arith, omega arith, omega arith)
     by false y p q = (omega arith, omega arith, omega arith)
 
-once_stands : (P : ℕ → Type 0) (old : List Role) (end : ℕ) (r : Run) (s : State) → Left P old end r → Stands P old r.place s → Once P old end r (once r s)
+once_stands : (P : ℕ → Type 0) (M : ℕ → Role → Type 0) (lo : ℕ) (old : List Role) (end : ℕ) (r : Run) (s : State) → Left P M lo old end r → Stands P M lo old r.place s → Once P M lo old end r (once r s)
 unfolding once matched
-once_stands P old end r s w h = by (r.count == 0) refl
+once_stands P M lo old end r s w h = by (r.count == 0) refl
   where
-    on : (k : ℕ) (o : Option Run) → slice_get s.stack k ≡ o → 0 < r.count → Once P old end r (once_on o k r s)
+    on : (k : ℕ) (o : Option Run) → slice_get s.stack k ≡ o → 0 < r.count → Once P M lo old end r (once_on o k r s)
     on k None e z = h
     on k (Some o) e z = few (width_few o r (h.stack.some k o e) z)
       where
-        few : (1 ≤ width_of o r) × (width_of o r ≤ o.count) × (width_of o r ≤ r.count) → Once P old end r (once_on (Some o) k r s)
+        few : (1 ≤ width_of o r) × (width_of o r ≤ o.count) × (width_of o r ≤ r.count) → Once P M lo old end r (once_on (Some o) k r s)
         few (a, b, c) =
             let q : r.place + r.count ≡ end = w.ends in
             let m : end ≤ 2 ^ 64 - 1 = w.room in
+            let x : end ≤ length old = w.whole_text in
+            let y : lo ≤ r.place = w.above in
             let n : r.place + width_of o r ≡ plus r.place (width_of o r) = omega arith in (
-              record { cells = λ x l y. w.cells x (omega arith) y; ends = omega arith; room = m },
-              subst (λ p. Stands P old p ((matching (width_of o r) k o r s).0)) n (matching_stands P old (width_of o r) k o r s a b c (omega arith) e (left_cells P old end r s w h) h),
+              record { cells = λ x l y. w.cells x (omega arith) y; ends = omega arith; room = m; whole_text = x; above = omega arith },
+              subst (λ p. Stands P M lo old p ((matching (width_of o r) k o r s).0)) n (matching_stands P M lo old (width_of o r) k o r s a b c (omega arith) (omega arith) e (left_cells P M lo old end r s w h) h),
             )
 
-    at : (x : Option ℕ) → 0 < r.count → Once P old end r (once_at x r s)
-    at None z = record { safe = h.safe; read = h.read; kept = h.kept; later = h.later; stack = record { cells = h.stack.cells; some = h.stack.some; before = h.stack.before; order = h.stack.order } }
+    at : (x : Option ℕ) → 0 < r.count → Once P M lo old end r (once_at x r s)
+    at None z = record { safe = h.safe; nested = h.nested; size = h.size; rules = h.rules; marked = h.marked; low = h.low; high = h.high; read = h.read; kept = h.kept; flat = h.flat; later = h.later; stack = record { cells = h.stack.cells; some = h.stack.some; above = h.stack.above; before = h.stack.before; order = h.stack.order } }
     at (Some k) z = on k (slice_get s.stack k) refl z
 
     stop : State × Option Run
     stop = (s, None)
 
-    by : (b : Bool) → (r.count == 0) ≡ b → Once P old end r (if b then stop else once_at (found s.stack r (unwrap_or (slice_get s.bottoms (class_of r)) 0) (length s.stack)) r s)
+    by : (b : Bool) → (r.count == 0) ≡ b → Once P M lo old end r (if b then stop else once_at (found s.stack r (unwrap_or (slice_get s.bottoms (class_of r)) 0) (length s.stack)) r s)
     by true e = h
     by false e = at (found s.stack r (unwrap_or (slice_get s.bottoms (class_of r)) 0) (length s.stack)) (let z : 0 < r.count = grind (arith, nat_tests) in z)
 
 -- a run, and what is left of it after all matches
-abbrev Tried : (ℕ → Type 0) → List Role → ℕ → State × Run → Type 0
-Tried P old end (s, u) = Left P old end u × Stands P old u.place s
+abbrev Tried : (ℕ → Type 0) → (ℕ → Role → Type 0) → ℕ → List Role → ℕ → State × Run → Type 0
+Tried P M lo old end (s, u) = Left P M lo old end u × Stands P M lo old u.place s
 
-repeated_stands : (P : ℕ → Type 0) (old : List Role) (end n : ℕ) (r : Run) (s : State) → Left P old end r → Stands P old r.place s → Tried P old end (repeated once n r s)
+repeated_stands : (P : ℕ → Type 0) (M : ℕ → Role → Type 0) (lo : ℕ) (old : List Role) (end n : ℕ) (r : Run) (s : State) → Left P M lo old end r → Stands P M lo old r.place s → Tried P M lo old end (repeated once n r s)
 unfolding repeated
-repeated_stands P old end zero r s w h = (w, h)
-repeated_stands P old end (suc n) r s w h = by (once r s) (once_stands P old end r s w h) (λ u t a b. repeated_stands P old end n u t a b)
+repeated_stands P M lo old end zero r s w h = (w, h)
+repeated_stands P M lo old end (suc n) r s w h = by (once r s) (once_stands P M lo old end r s w h) (λ u t a b. repeated_stands P M lo old end n u t a b)
   where
-    by : (x : State × Option Run) → Once P old end r x → ((u : Run) (t : State) → Left P old end u → Stands P old u.place t → Tried P old end (repeated once n u t)) → Tried P old end (going (λ d t. repeated once n d t) r x)
+    by : (x : State × Option Run) → Once P M lo old end r x → ((u : Run) (t : State) → Left P M lo old end u → Stands P M lo old u.place t → Tried P M lo old end (repeated once n u t)) → Tried P M lo old end (going (λ d t. repeated once n d t) r x)
     by (t, None) a f = (w, a)
     by (t, Some u) (a, b) f = f u t a b
 
@@ -345,8 +475,8 @@ got_more (x ∷ xs) r (suc k) u e = by (got_more xs r k u e)
     by (inl q) = inl q
     by (inr (q, p)) = inr (q, ap suc p)
 
-stacked_stands : (P : ℕ → Type 0) (old : List Role) (end : ℕ) (p : State × Run) → Tried P old end p → Stands P old end (stacked p)
-stacked_stands P old end (s, r) (w, h) = by (r.opens) (nat_lt 0 r.count) refl
+stacked_stands : (P : ℕ → Type 0) (M : ℕ → Role → Type 0) (lo : ℕ) (old : List Role) (end : ℕ) (p : State × Run) → Tried P M lo old end p → Stands P M lo old end (stacked p)
+stacked_stands P M lo old end (s, r) (w, h) = by (r.opens) (nat_lt 0 r.count) refl
   where
     ends : r.place + r.count ≡ end
     ends = w.ends
@@ -354,15 +484,23 @@ stacked_stands P old end (s, r) (w, h) = by (r.opens) (nat_lt 0 r.count) refl
     more : State
     more = record s { stack = s.stack ++ r ∷ [] }
 
-    pushed : 0 < r.count → Stands P old end more
+    pushed : 0 < r.count → Stands P M lo old end more
     pushed z = record {
       safe = h.safe;
+      nested = h.nested;
+      size = h.size;
+      rules = h.rules;
+      marked = h.marked;
+      low = h.low;
+      high = λ x l v. h.high x (omega (arith, ends)) v;
       read = h.read;
       kept = h.kept;
+      flat = h.flat;
       later = λ x l n. h.later x (omega (arith, ends)) n;
       stack = record {
         cells = λ k u g. cells u (got_more s.stack r k u g);
         some = λ k u g. some u (got_more s.stack r k u g);
+        above = λ k u g. above u (got_more s.stack r k u g);
         before = λ k u g. before u (got_more s.stack r k u g);
         order = λ k l u v m g q. order u v m (got_more s.stack r k u g) (got_more s.stack r l v q) (l_in l v q);
       };
@@ -379,11 +517,15 @@ stacked_stands P old end (s, r) (w, h) = by (r.opens) (nat_lt 0 r.count) refl
 
         cells : {k : ℕ} (u : Run) → (slice_get s.stack k ≡ Some u) ⊎ ((r ≡ u) × (length s.stack ≡ k)) → Cells P old s.roles u
         cells {k} u (inl q) = h.stack.cells k u q
-        cells u (inr (q, p)) = subst (Cells P old s.roles) q (left_cells P old end r s w h)
+        cells u (inr (q, p)) = subst (Cells P old s.roles) q (left_cells P M lo old end r s w h)
 
         some : {k : ℕ} (u : Run) → (slice_get s.stack k ≡ Some u) ⊎ ((r ≡ u) × (length s.stack ≡ k)) → 0 < u.count
         some {k} u (inl q) = h.stack.some k u q
         some u (inr (q, p)) = subst (λ (x : Run). 0 < x.count) q z
+
+        above : {k : ℕ} (u : Run) → (slice_get s.stack k ≡ Some u) ⊎ ((r ≡ u) × (length s.stack ≡ k)) → lo ≤ u.place
+        above {k} u (inl q) = h.stack.above k u q
+        above u (inr (q, p)) = subst (λ (x : Run). lo ≤ x.place) q w.above
 
         before : {k : ℕ} (u : Run) → (slice_get s.stack k ≡ Some u) ⊎ ((r ≡ u) × (length s.stack ≡ k)) → u.place + u.count ≤ end
         before {k} u (inl q) = let a : u.place + u.count ≤ r.place = h.stack.before k u q in omega (arith, ends)
@@ -394,40 +536,53 @@ stacked_stands P old end (s, r) (w, h) = by (r.opens) (nat_lt 0 r.count) refl
         order {k} {l} u v m (inl q) (inr (p, a)) b = subst (λ (x : Run). u.place + u.count ≤ x.place) p (h.stack.before k u q)
         order {k} {l} u v m (inr (q, a)) p b = absurd (omega arith)
 
-    by : (x y : Bool) → nat_lt 0 r.count ≡ y → Stands P old end (if x && y then more else s)
+    by : (x y : Bool) → nat_lt 0 r.count ≡ y → Stands P M lo old end (if x && y then more else s)
     by true true e = pushed (let z : 0 < r.count = grind (arith, nat_tests) in z)
-    by true false e = stands_more P old r.place end s (omega (arith, ends)) h
-    by false y e = stands_more P old r.place end s (omega (arith, ends)) h
+    by true false e = stands_more P M lo old r.place end s (omega (arith, ends)) h
+    by false y e = stands_more P M lo old r.place end s (omega (arith, ends)) h
 
--- runs one after the other, from a place on
-abbrev pub Row : (ℕ → Type 0) → List Role → ℕ → List Run → Type 0
-Row P old c [] = Unit
-Row P old c (r ∷ rs) = (c ≤ r.place) × ((x : ℕ) → r.place ≤ x → x < r.place + r.count → Read 0 0 old x × Neutral old x × (P x → ⊥)) × (r.place + r.count ≤ 2 ^ 64 - 1) × Row P old (r.place + r.count) rs
+-- runs one after the other, from one place to another
+abbrev pub Row : (ℕ → Type 0) → List Role → ℕ → ℕ → List Run → Type 0
+Row P old to c [] = Unit
+Row P old to c (r ∷ rs) = (c ≤ r.place) × ((x : ℕ) → r.place ≤ x → x < r.place + r.count → Read 0 0 old x × Neutral old x × (P x → ⊥) × Level 0 0 [] old x) × (r.place + r.count ≤ to) × Row P old to (r.place + r.count) rs
 
-run_stands : (P : ℕ → Type 0) (old : List Role) (r : Run) (s : State) → Left P old (r.place + r.count) r → Stands P old r.place s → Stands P old (r.place + r.count) (run_step s r)
+run_stands : (P : ℕ → Type 0) (M : ℕ → Role → Type 0) (lo : ℕ) (old : List Role) (r : Run) (s : State) → Left P M lo old (r.place + r.count) r → Stands P M lo old r.place s → Stands P M lo old (r.place + r.count) (run_step s r)
 unfolding run_step
-run_stands P old r s w h = by r.closes
+run_stands P M lo old r s w h = by r.closes
   where
-    by : (b : Bool) → Stands P old (r.place + r.count) (stacked (if b then repeated once r.count r s else (s, r)))
-    by true = stacked_stands P old (r.place + r.count) (repeated once r.count r s) (repeated_stands P old (r.place + r.count) r.count r s w h)
-    by false = stacked_stands P old (r.place + r.count) (s, r) (w, h)
+    by : (b : Bool) → Stands P M lo old (r.place + r.count) (stacked (if b then repeated once r.count r s else (s, r)))
+    by true = stacked_stands P M lo old (r.place + r.count) (repeated once r.count r s) (repeated_stands P M lo old (r.place + r.count) r.count r s w h)
+    by false = stacked_stands P M lo old (r.place + r.count) (s, r) (w, h)
 
--- what all matches leave: no container ends that didn't begin, all bytes that were read are, and those that are to be kept are neutral
-pub record Matches (P : ℕ → Type 0) (old new : List Role) : Type 0 where
+-- what all matches of runs between two places leave: containers nest, none ends that didn't begin, all bytes that were read are, and those that are to be kept are neutral
+pub record Matches (P : ℕ → Type 0) (M : ℕ → Role → Type 0) (lo to : ℕ) (old new : List Role) : Type 0 where
   pub safe : Safe 0 0 0 new
+  pub nested : Nested 0 0 [] new
+  pub size : length new ≡ length old
+  pub marked : Marked M new
+  pub low : (x : ℕ) → x < lo → Level 0 0 [] old x → Level 0 0 [] new x
+  pub high : (x : ℕ) → to ≤ x → Level 0 0 [] old x → Level 0 0 [] new x
   pub read : (x : ℕ) → Read 0 0 old x → Read 0 0 new x
   pub kept : (x : ℕ) → P x → Neutral old x → Neutral new x
+  pub flat : (x : ℕ) → P x → Flat old x → Flat new x
 
-runs_stand : (P : ℕ → Type 0) (old : List Role) (c : ℕ) (rs : List Run) (s : State) → Row P old c rs → Stands P old c s → Matches P old (fold run_step s rs).roles
-runs_stand P old c [] s w h = record { safe = h.safe; read = h.read; kept = h.kept }
-runs_stand P old c (r ∷ rs) s (l, cells, room, w) h = runs_stand P old (r.place + r.count) rs (run_step s r) w (run_stands P old r s (record { cells = cells; ends = refl; room = room }) (stands_more P old c r.place s l h))
+runs_stand : (P : ℕ → Type 0) (M : ℕ → Role → Type 0) (lo to : ℕ) (old : List Role) (c : ℕ) (rs : List Run) (s : State) → to ≤ 2 ^ 64 - 1 → to ≤ length old → lo ≤ c → c ≤ to → Row P old to c rs → Stands P M lo old c s → Matches P M lo to old (fold run_step s rs).roles
+runs_stand P M lo to old c [] s m n a b w h = record { safe = h.safe; nested = h.nested; size = h.size; marked = h.marked; low = h.low; high = λ x l v. h.high x (omega arith) v; read = h.read; kept = h.kept; flat = h.flat }
+runs_stand P M lo to old c (r ∷ rs) s m n a b (l, cells, room, w) h = runs_stand P M lo to old (r.place + r.count) rs (run_step s r) m n (omega arith) room w (run_stands P M lo old r s (record { cells = cells; ends = refl; room = omega arith; whole_text = omega arith; above = omega arith }) (stands_more P M lo old c r.place s l h))
 
-pub emphasis_matches : (P : ℕ → Type 0) (old : List Role) (c : ℕ) (rs : List Run) → Row P old c rs → Safe 0 0 0 old → Matches P old (emphasized old rs)
+pub emphasis_matches : (P : ℕ → Type 0) (M : ℕ → Role → Type 0) (lo to : ℕ) (old : List Role) (rs : List Run) → to ≤ 2 ^ 64 - 1 → to ≤ length old → lo ≤ to → Row P old to lo rs → Rules P M (length old) → Marked M old → Safe 0 0 0 old → Nested 0 0 [] old → Matches P M lo to old (emphasized old rs)
 unfolding emphasized
-emphasis_matches P old c rs w h = runs_stand P old c rs (emphasis_start old) w (record {
+emphasis_matches P M lo to old rs m n b w rules marks h k = runs_stand P M lo to old lo rs (emphasis_start old) m n (omega arith) b w (record {
   safe = h;
+  nested = k;
+  size = refl;
+  rules = rules;
+  marked = marks;
+  low = λ x l v. v;
+  high = λ x l v. v;
   read = λ x r. r;
   kept = λ x p n. n;
+  flat = λ x p n. n;
   later = λ x l n. n;
-  stack = record { cells = λ k o e. absurd cc; some = λ k o e. absurd cc; before = λ k o e. absurd cc; order = λ k l o u m e q. absurd cc };
+  stack = record { cells = λ k o e. absurd cc; some = λ k o e. absurd cc; above = λ k o e. absurd cc; before = λ k o e. absurd cc; order = λ k l o u m e q. absurd cc };
 })

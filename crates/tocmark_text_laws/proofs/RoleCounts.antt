@@ -33,7 +33,7 @@ use Rattle.tocmark_read_spans.specs.declared.run.Run.{Run}
 use Rattle.tocmark_read_inlines.specs.Scan.{State, Known, ahead_in, before_space, kept, kept_code, kept_resolved_in, targeted, put_leaf, escaped, referred_to, referred, code_put, coded_to, coded, run_kept, run_taken, marked_last, marked, opened, imaged, addressed, html_put, tagged_to, tagged, mailed_to, mailed, angled_to, angled, line_ended, spanned, settled, linked, closed_inline_in, missing, looked_up_as, looked_up, closed_asked, closed_by_label, closed_found_in, closed_active_in, popped, closed_popped_in, closed_last_in, closed_in, looked_mark, looked, is_mark_in, is_tilde_in, is_caret_in, is_dollar_in, is_note_end_in, looked_in, scan_step_in, scanned_in}
 use Rattle.tocmark_text_laws.proofs.Core.{repeated_keeps}
 
-set_length : {A : Type 0} (xs : List A) (i : ℕ) (x : A) → length (slice_set xs i x) ≡ length xs
+pub set_length : {A : Type 0} (xs : List A) (i : ℕ) (x : A) → length (slice_set xs i x) ≡ length xs
 set_length [] i x = refl
 set_length (y ∷ ys) zero x = refl
 set_length (y ∷ ys) (suc i) x = ap suc (set_length ys i x)

@@ -67,7 +67,7 @@ got_place (p ∷ ps) zero l = (p, refl)
 got_place (p ∷ ps) (suc i) l = got_place ps i (omega arith)
 
 -- an inline that doesn't begin before another one doesn't do so in the source
-begins_after : (t bytes : List ℕ) (places : List (ℕ × ℕ)) (n m : Node) → IsMapped t bytes places → n.start ≤ m.start → m.start < length places → (moved places n).start ≤ (moved places m).start
+pub begins_after : (t bytes : List ℕ) (places : List (ℕ × ℕ)) (n m : Node) → IsMapped t bytes places → n.start ≤ m.start → m.start < length places → (moved places n).start ≤ (moved places m).start
 unfolding moved
 begins_after t bytes places n m h l k = by (got_place places n.start (omega arith)) (got_place places m.start k)
   where

@@ -169,3 +169,7 @@ two_first (x ∷ y ∷ xs) a b e = by (nat_eq a x) (nat_eq b y) refl e
 pub image_bracket : (t : List ℕ) (p : ℕ) → starts_at t p (codes "![") ≡ true → byte_at t (p + 1) ≡ 91
 unfolding starts_at
 image_bracket t p e = ap (λ o. unwrap_or o 10) (sym (got_dropped p t 1)) ∙ two_first (drop p t) 33 91 e
+
+pub empty_brackets : (t : List ℕ) (p : ℕ) → starts_at t p (codes "[]") ≡ true → byte_at t (p + 1) ≡ 93
+unfolding starts_at
+empty_brackets t p e = ap (λ o. unwrap_or o 10) (sym (got_dropped p t 1)) ∙ two_first (drop p t) 91 93 e

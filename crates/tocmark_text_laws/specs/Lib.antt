@@ -20,3 +20,4 @@ pub mod OneMoreItem
 pub mod InlineOrder
 pub mod LineOrder
 pub mod SourceOrder
+pub mod InlineNest

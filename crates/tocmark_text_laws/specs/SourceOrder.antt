@@ -1,14 +1,17 @@
 -- The order of the inlines of a leaf in the source.
-use Rattle.std.specs.Prelude.{◌≡◌, ℕ, ◌+◌, ◌*◌, ◌^◌, ◌<◌, ◌≤◌, List, [], ◌∷◌, length, map}
+use Rattle.std.specs.Prelude.{◌≡◌, ℕ, ◌+◌, ◌-◌, ◌*◌, ◌^◌, ◌<◌, ◌≤◌, List, [], ◌∷◌, length, map, Option}
 use Rattle.std.specs.List.{AllByRecursion}
 use Rattle.std.specs.Str.{IsUtf8}
 use Rattle.tocmark_read_scan.specs.Content as content
 use Rattle.tocmark_read_scan.specs.declared.syntax.TheConstants.{CORE}
 use Rattle.tocmark_read_spans.specs.declared.role.Role.{Role}
+use Rattle.tocmark_read_spans.specs.declared.definitions.Entry.{Entry}
+use Rattle.tocmark_read_inlines.specs.Inlines.{State, read_inlines}
 use Rattle.tocmark_read_inlines.specs.Write.{written, moved}
 use Rattle.tocmark_read_inlines.specs.declared.write.Node.{Node}
 use Rattle.tocmark_read_blocks.specs.Blocks.{blocks_in}
 use Rattle.tocmark_reader.specs.Pages.{content_line, pieces_of}
+use Rattle.tocmark_text_laws.specs.InlineOrder.{AreInOrder}
 
 -- the text of these lines of the CommonMark leaves of a text, with the range of the source for each of its bytes
 abbrev pub leaf_of : List ℕ → ℕ → ℕ → content.State
@@ -23,3 +26,8 @@ BeginInOrder (n ∷ ns) = AllByRecursion (λ (m : Node). n.start ≤ m.start) ns
 abbrev pub InlinesFollowTheSource : Type 0
 InlinesFollowTheSource = (text : List ℕ) (first last depth : ℕ) (roles : List Role) → IsUtf8 text → 4 * length text + 1 < 2 ^ 64 → length roles ≡ length (leaf_of text first last).bytes → length roles + 1 < 2 ^ 64
     → BeginInOrder (map (moved (leaf_of text first last).places) (written roles depth))
+
+-- in CommonMark, moreover, a text among them ends where a later one begins, or before
+abbrev pub InlinesAreInOrderInTheSource : Type 0
+InlinesAreInOrderInTheSource = (text : List ℕ) (first last depth : ℕ) (definitions : List ℕ → Option Entry) (s : State) → IsUtf8 text → 4 * length text + 1 < 2 ^ 64 → length (leaf_of text first last).bytes < 2 ^ 64 - 1
+    → AreInOrder (read_inlines (leaf_of text first last) depth definitions (record s { nodes = [] })).nodes
