@@ -19,6 +19,10 @@ def position(end, text, offset):
     return {f"{end}_line": line, f"{end}_column": column}
 
 
+def without_destinations(pairs):
+    return [[event, {key: it for key, it in place.items() if not key.startswith("dest_")}] for event, place in pairs]
+
+
 def main(name, texts):
     with open(texts, encoding="utf-8") as file:
         lines = [json.loads(line) for line in file if line.startswith('"')]
@@ -30,7 +34,7 @@ def main(name, texts):
         wrong += json.loads(found) != pairs
         located = [[event, {"start": place.start, "end": place.stop, **position("start", text, place.start), **position("end", text, place.stop)}]
                    for event, place in tocmark.read(text, syntax=syntax)]
-        wrong += json.loads(program(name, ["read", "--positions", "--syntax", syntax], text)) != located
+        wrong += without_destinations(json.loads(program(name, ["read", "--positions", "--syntax", syntax], text))) != located
         with tempfile.NamedTemporaryFile("w", encoding="utf-8") as source:
             source.write(text)
             source.flush()

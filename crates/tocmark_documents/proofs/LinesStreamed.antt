@@ -10,7 +10,7 @@ use Rattle.tocmark_event.specs.View.{EventView}
 use Rattle.tocmark_json.specs.Json.{located_json, pair_json}
 use Rattle.tocmark_json.specs.Printed.{lines_text, located_lines}
 use Rattle.tocmark_json.specs.declared.positions.Positions.{Positions}
-use Rattle.tocmark_json.specs.declared.positions.Span.{Span}
+use Rattle.tocmark_json.specs.declared.positions.Details.{Details}
 use Rattle.serde_json.specs.Written.{compact_text}
 use Rattle.tocmark_reader.specs.Left.{IsPart}
 use Rattle.tocmark_state.specs.Ranges.{Pair, Range}
@@ -23,7 +23,7 @@ lines_append None xs ys =
     let paired : EventView × Range → Pair = λ (e : EventView × Range). (e.0, Some e.1) in
     ap lines_text (map-append paired xs ys) ∙ flat_map-append (λ p. compact_text (pair_json p) ++ 10 ∷ []) (map paired xs) (map paired ys)
 lines_append (Some p) xs ys =
-    let located : EventView × Range → Pair × Option Span = located_in p.bytes.now in
+    let located : EventView × Range → Pair × Option Details = located_in p.bytes.now in
     ap located_lines (map-append located xs ys) ∙ flat_map-append (λ l. compact_text (located_json l) ++ 10 ∷ []) (map located xs) (map located ys)
 
 no_lines : (ps : Option Positions) → lines_with ps [] ≡ []

@@ -17,10 +17,10 @@ use Rattle.tocmark_event.specs.declared.event.flags.ParserOptions.{ParserOptions
 use Rattle.tocmark_event.specs.declared.options.Error.{Error}
 use Rattle.tocmark_event.specs.declared.options.Error.TheVariants as error
 use Rattle.tocmark_json.specs.Elements.{IsNoList}
+use Rattle.tocmark_json.specs.Destinations.{details_of}
 use Rattle.tocmark_json.specs.Json.{IsPairsJson, events_json, listed, located_json, pair_view, pairs_json}
-use Rattle.tocmark_json.specs.Positions.{span_of}
 use Rattle.tocmark_documents.specs.Options.{IsOptionFault, IsOptionsJson, fault_line, is_options_object}
-use Rattle.tocmark_json.specs.declared.positions.Span.{Span}
+use Rattle.tocmark_json.specs.declared.positions.Details.{Details}
 use Rattle.tocmark_marked.specs.Marked.{marked_reading}
 use Rattle.tocmark_rewrite.specs.declared.fault.Place.{Place}
 use Rattle.tocmark_documents.specs.Places.{IsPlaceIn}
@@ -56,11 +56,11 @@ source_text None = []
 abbrev pub reading_json : ParserOptions → List ℕ → Data
 reading_json flags text = pairs_json (map (λ e. (e.0, Some e.1)) (marked_reading flags text).events)
 
--- an event with its range in a text, and the lines and columns of that
-abbrev pub located_in : List ℕ → EventView × Range → Pair × Option Span
-located_in text e = ((e.0, Some e.1), Some (span_of text e.1))
+-- an event with its range in a text, and the details of that: lines and columns, and the place of a destination
+abbrev pub located_in : List ℕ → EventView × Range → Pair × Option Details
+located_in text e = ((e.0, Some e.1), Some (details_of text e.0 e.1))
 
--- the JSON of what is read in a text under these flags, with lines and columns
+-- the JSON of what is read in a text under these flags, with the details of ranges
 abbrev pub reading_located : ParserOptions → List ℕ → Data
 reading_located flags text = listed located_json (map (located_in text) (marked_reading flags text).events)
 

@@ -42,11 +42,11 @@ json_of false input = input
 abbrev pub reading_lines : ParserOptions → List ℕ → List ℕ
 reading_lines flags text = lines_text (map (λ e. (e.0, Some e.1)) (marked_reading flags text).events)
 
--- the same with lines and columns
+-- the same with the details of ranges
 abbrev pub reading_located_lines : ParserOptions → List ℕ → List ℕ
 reading_located_lines flags text = located_lines (map (located_in text) (marked_reading flags text).events)
 
--- the lines of some events, with lines and columns if the text's places are known
+-- the lines of some events, with the details of ranges if the text's places are known
 abbrev pub lines_with : Option Positions → List (EventView × Range) → List ℕ
 lines_with None events = lines_text (map (λ e. (e.0, Some e.1)) events)
 lines_with (Some positions) events = located_lines (map (located_in positions.bytes.now) events)

@@ -168,7 +168,7 @@ pub fn stream_lines<O: Write>(
     streamed
 }
 
-/// Writes the lines of events as `stream_lines` does, and adds the lines and columns of each range's ends.
+/// Writes the lines of events as `stream_lines` does, and adds to ranges what `read_located` adds.
 ///
 /// It fails as `stream_lines` does.
 pub fn stream_located_lines<O: Write>(

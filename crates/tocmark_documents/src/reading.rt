@@ -24,7 +24,8 @@ pub fn read_json(alloc: Global, text: &str, flags: ParserOptions) -> Result<Stri
     Ok(output)
 }
 
-/// Parses Markdown as `read_json` does, and adds the lines and columns of each range's ends.
+/// Parses Markdown as `read_json` does, and adds the lines and columns of each range's ends, and to that of a link the bytes of
+/// its destination, if they are in it.
 ///
 /// It fails if memory runs out.
 pub fn read_located(alloc: Global, text: &str, flags: ParserOptions) -> Result<String, AllocError>

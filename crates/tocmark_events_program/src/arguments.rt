@@ -145,7 +145,7 @@ static READ_OPTIONS: [CommandOption<'static>; 2] = [
         name: "positions",
         letter: None,
         takes: Takes::Nothing,
-        help: "Give each range the lines and columns of its ends",
+        help: "Give each range the lines and columns of its ends,\nand that of a link the bytes of its destination",
     },
 ];
 

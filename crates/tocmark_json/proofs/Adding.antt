@@ -89,6 +89,18 @@ six_sound k l m n i j x y z u s t ordered first second third fourth fifth sixth 
       numbers = (first.numbers, (second.numbers, (third.numbers, (fourth.numbers, (fifth.numbers, (sixth.numbers, tt))))));
     }
 
+-- eight members, whose keys are in their order
+pub eight_sound : (k l m n i j g h : List ℕ) (x y z u s t p q : Data) → ((o1 o2 o3 o4 o5 o6 o7 o8 : Data) → put h o8 (put g o7 (put j o6 (put i o5 (put n o4 (put m o3 (put l o2 (member k o1 no_members))))))) ≡ member k o1 (member l o2 (member m o3 (member n o4 (member i o5 (member j o6 (member g o7 (member h o8 no_members)))))))) → IsSound x → IsSound y → IsSound z → IsSound u → IsSound s → IsSound t → IsSound p → IsSound q
+    → IsSound (object (member k x (member l y (member m z (member n u (member i s (member j t (member g p (member h q no_members)))))))))
+eight_sound k l m n i j g h x y z u s t p q ordered first second third fourth fifth sixth seventh eighth =
+    record {
+      whole = λ here. json.object (json.member k (first.whole here) (json.member l (second.whole here) (json.member m (third.whole here) (json.member n (fourth.whole here) (json.member i (fifth.whole here) (json.member j (sixth.whole here) (json.member g (seventh.whole here) (json.member h (eighth.whole here) json.no_members))))))));
+      reads =
+          (λ here. option_map object (option_and_then (λ o1. option_and_then (λ o2. option_and_then (λ o3. option_and_then (λ o4. option_and_then (λ o5. option_and_then (λ o6. option_and_then (λ o7. option_and_then (λ o8. Some (put h o8 (put g o7 (put j o6 (put i o5 (put n o4 (put m o3 (put l o2 (member k o1 no_members))))))))) (eighth.reads here)) (seventh.reads here)) (sixth.reads here)) (fifth.reads here)) (fourth.reads here)) (third.reads here)) (second.reads here)) (first.reads here)))
+          ∙ ap (λ ms. Some (object ms)) (ordered x y z u s t p q);
+      numbers = (first.numbers, (second.numbers, (third.numbers, (fourth.numbers, (fifth.numbers, (sixth.numbers, (seventh.numbers, (eighth.numbers, tt))))))));
+    }
+
 -- ---- one after the other
 
 pub behind : (a b c p q : List ℕ) → Grows p a b → Grows q b c → Grows (p ++ q) a c

@@ -17,7 +17,8 @@ use Rattle.tocmark_event.specs.declared.event.LinkType.{LinkType}
 use Rattle.tocmark_event.specs.declared.event.LinkType.TheVariants as link
 use Rattle.tocmark_event.specs.declared.event.TagEnd.{TagEnd}
 use Rattle.tocmark_event.specs.declared.event.TagEnd.TheVariants as end
-use Rattle.tocmark_json.specs.Json.{optional, size_json, level_json, quote_json, alignment_json, metadata_json, link_type_json, code_json, attribute_json, heading_json, tag_json, end_json, event_json, range_json, location_json, located_json, pair_json, events_json, pairs_json, IsPairsJson}
+use Rattle.tocmark_json.specs.Json.{optional, size_json, level_json, quote_json, alignment_json, metadata_json, link_type_json, code_json, attribute_json, heading_json, tag_json, end_json, event_json, range_json, spanned_or_targeted, location_json, located_json, pair_json, events_json, pairs_json, IsPairsJson}
+use Rattle.tocmark_json.specs.declared.positions.Details.{Details}
 use Rattle.tocmark_json.specs.declared.positions.Span.{Span}
 
 -- ---- parts of a value
@@ -284,21 +285,31 @@ key_at n no_members = []
 key_at zero (member k d ms) = k
 key_at (suc n) (member k d ms) = key_at n ms
 
--- lines and columns are between the two numbers of a range
+-- the place of a destination is before the two numbers of a range, and lines and columns are between them
+abbrev has_target : Members → Bool
+has_target ms = bytes_eq (key_at 0 ms) (codes "dest_end")
+
 abbrev start_of : Members → Data
-start_of ms = cond (bytes_eq (key_at 1 ms) (codes "start")) (member_at 1 ms) (member_at 3 ms)
+start_of ms = cond (has_target ms) (member_at 5 ms) (cond (bytes_eq (key_at 1 ms) (codes "start")) (member_at 1 ms) (member_at 3 ms))
+
+abbrev past_of : Members → Data
+past_of ms = cond (has_target ms) (member_at 2 ms) (member_at 0 ms)
 
 abbrev range_of : Data → ℕ × ℕ
-range_of d = (size_of (start_of (members_in d)), size_of (content 0 d))
+range_of d = (size_of (start_of (members_in d)), size_of (past_of (members_in d)))
 
 option_range-back : (o : Option (ℕ × ℕ)) → option_of range_of (optional range_json o) ≡ o
 option_range-back None = refl
 option_range-back (Some r) = refl
 
-location-back : (o : Option (ℕ × ℕ)) (s : Option Span) → option_of range_of (location_json o s) ≡ o
+detailed-back : (r : ℕ × ℕ) (s : Span) (o : Option (ℕ × ℕ)) → option_of range_of (spanned_or_targeted r s o) ≡ Some r
+detailed-back r s None = refl
+detailed-back r s (Some place) = refl
+
+location-back : (o : Option (ℕ × ℕ)) (s : Option Details) → option_of range_of (location_json o s) ≡ o
 location-back None s = refl
 location-back (Some r) None = refl
-location-back (Some r) (Some s) = refl
+location-back (Some r) (Some d) = detailed-back r d.span d.destination
 
 abbrev pair_of : Data → EventView × Option (ℕ × ℕ)
 pair_of d = (event_of (item_at 0 (items_in d)), option_of range_of (item_at 1 (items_in d)))
@@ -315,7 +326,7 @@ events-told-apart es fs same = sym (all-back event_json event_of event-back es) 
 pub pairs-told-apart : (ps qs : List (EventView × Option (ℕ × ℕ))) → pairs_json ps ≡ pairs_json qs → ps ≡ qs
 pairs-told-apart ps qs same = sym (all-back pair_json pair_of pair-back ps) ∙ ap (list_of pair_of) same ∙ all-back pair_json pair_of pair-back qs
 
-located-back : (l : (EventView × Option (ℕ × ℕ)) × Option Span) → pair_of (located_json l) ≡ l.0
+located-back : (l : (EventView × Option (ℕ × ℕ)) × Option Details) → pair_of (located_json l) ≡ l.0
 located-back l =
     ap (λ (e : EventView). (e, option_of range_of (location_json l.0.1 l.1))) (event-back l.0.0)
     ∙ ap (λ (r : Option (ℕ × ℕ)). (l.0.0, r)) (location-back l.0.1 l.1)
@@ -326,7 +337,7 @@ all-seen json f seen back (x ∷ xs) = ap (λ y. y ∷ all_of f (items_of (map j
 
 located-pairs : (value : Data) (ps : List (EventView × Option (ℕ × ℕ))) → IsPairsJson value ps → list_of pair_of value ≡ ps
 located-pairs value ps (ls, is, seen) =
-    ap (list_of pair_of) is ∙ all-seen located_json pair_of (λ (l : (EventView × Option (ℕ × ℕ)) × Option Span). l.0) located-back ls ∙ seen
+    ap (list_of pair_of) is ∙ all-seen located_json pair_of (λ (l : (EventView × Option (ℕ × ℕ)) × Option Details). l.0) located-back ls ∙ seen
 
 pub located-told-apart : (value : Data) (ps qs : List (EventView × Option (ℕ × ℕ))) → IsPairsJson value ps → IsPairsJson value qs → ps ≡ qs
 located-told-apart value ps qs h k = sym (located-pairs value ps h) ∙ located-pairs value qs k

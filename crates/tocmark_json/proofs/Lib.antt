@@ -16,4 +16,5 @@ pub mod Adding
 pub mod Plain
 pub mod Shallow
 pub mod Refusals
+pub mod Searching
 pub mod Forms

@@ -7,7 +7,7 @@ use Rattle.tocmark_json.specs.declared.node.Node.{Node}
 use Rattle.tocmark_event.specs.View.{TagView}
 use Rattle.tocmark_event.specs.declared.event.HeadingLevel.{HeadingLevel}
 use Rattle.tocmark_event.specs.declared.event.LinkType.TheVariants as link
-use Rattle.tocmark_json.specs.Json.{full_place_json, heading_json, link_type_json, listed, optional, place_json, quote_json, size_json, tag_json, tagged, target_json}
+use Rattle.tocmark_json.specs.Json.{full_place_json, heading_json, link_type_json, listed, optional, place_json, quote_json, size_json, spanned_or_targeted, tag_json, tagged, target_json, target_place_json}
 use Rattle.tocmark_json.specs.Place.{IsNoneOf, Refuses}
 use Rattle.tocmark_json.specs.declared.fault.Fault.{Fault}
 use Rattle.tocmark_json.specs.declared.fault.Fault.TheVariants as fault
@@ -62,11 +62,15 @@ no_list_in json v vs is i there lt at lacks xs h = no_list json vs i there lt at
 
 -- ---- cases
 
--- a place is null, or an object with two or six members
-pub no_place : (v : Data) → (v ≡ null → ⊥) → ((a b : Data) → v ≡ object (member (codes "end") a (member (codes "start") b no_members)) → ⊥) → IsNoneOf full_place_json v → IsNoneOf place_json v
-no_place v not_null two six (None, s) h = not_null h
-no_place v not_null two six (Some r, None) h = two (size_json r.1) (size_json r.0) h
-no_place v not_null two six (Some r, Some s) h = six (r, s) h
+-- a place is null, or an object with two, six or eight members
+pub no_place : (v : Data) → (v ≡ null → ⊥) → ((a b : Data) → v ≡ object (member (codes "end") a (member (codes "start") b no_members)) → ⊥) → IsNoneOf target_place_json v → IsNoneOf full_place_json v → IsNoneOf place_json v
+no_place v not_null two eight six (None, d) h = not_null h
+no_place v not_null two eight six (Some r, None) h = two (size_json r.1) (size_json r.0) h
+no_place v not_null two eight six (Some r, Some d) h = by d.destination h
+  where
+    by : (o : Option (ℕ × ℕ)) → v ≡ spanned_or_targeted r d.span o → ⊥
+    by None is = six (r, d.span) is
+    by (Some place) is = eight (r, (d.span, place)) is
 
 -- a type of link is a string, or that of a wiki link
 pub no_link_type : (v : Data) → IsNoneOf string v → IsNoneOf (λ (b : Bool). link_type_json (link.WikiLink b)) v → IsNoneOf link_type_json v

@@ -17,8 +17,9 @@ use Rattle.tocmark_event.specs.declared.event.LinkType.{LinkType}
 use Rattle.tocmark_event.specs.declared.event.LinkType.TheVariants as link
 use Rattle.tocmark_event.specs.declared.event.TagEnd.{TagEnd}
 use Rattle.tocmark_event.specs.declared.event.TagEnd.TheVariants as end
+use Rattle.tocmark_json.specs.declared.positions.Details.{Details}
 use Rattle.tocmark_json.specs.declared.positions.Span.{Span}
-use Rattle.tocmark_json.specs.Json.{alignment_json, attribute_json, code_json, end_json, event_json, events_json, leaf_json, level_json, link_type_json, listed, located_json, location_json, metadata_json, optional, pair_json, pairs_json, quote_json, range_json, size_json, tag_json}
+use Rattle.tocmark_json.specs.Json.{alignment_json, attribute_json, code_json, end_json, event_json, events_json, leaf_json, level_json, link_type_json, listed, located_json, location_json, metadata_json, optional, pair_json, pairs_json, quote_json, range_json, size_json, spanned_or_targeted, tag_json}
 
 -- a list nests one deeper than its elements do
 all_shallow : {A : Type 0} (f : A → Data) (n : ℕ) → ((a : A) → depth (f a) ≤ n) → (xs : List A) → items_depth (items_of (map f xs)) ≤ n
@@ -154,12 +155,16 @@ range_shallow r = omega arith
 pair_shallow : (p : EventView × Option (ℕ × ℕ)) → depth (pair_json p) ≤ 6
 pair_shallow p = omega (arith, event_shallow p.0, optional_shallow range_json 1 range_shallow p.1)
 
-location_shallow : (r : Option (ℕ × ℕ)) (s : Option Span) → depth (location_json r s) ≤ 1
-location_shallow None s = omega arith
-location_shallow (Some r) None = omega arith
-location_shallow (Some r) (Some s) = omega arith
+detailed_shallow : (r : ℕ × ℕ) (s : Span) (o : Option (ℕ × ℕ)) → depth (spanned_or_targeted r s o) ≤ 1
+detailed_shallow r s None = omega arith
+detailed_shallow r s (Some place) = omega arith
 
-located_shallow : (l : (EventView × Option (ℕ × ℕ)) × Option Span) → depth (located_json l) ≤ 6
+location_shallow : (r : Option (ℕ × ℕ)) (d : Option Details) → depth (location_json r d) ≤ 1
+location_shallow None d = omega arith
+location_shallow (Some r) None = omega arith
+location_shallow (Some r) (Some d) = detailed_shallow r d.span d.destination
+
+located_shallow : (l : (EventView × Option (ℕ × ℕ)) × Option Details) → depth (located_json l) ≤ 6
 located_shallow l = omega (arith, event_shallow l.0.0, location_shallow l.0.1 l.1)
 
 pub events_shallow : (es : List EventView) → depth (events_json es) ≤ max_depth
@@ -168,5 +173,5 @@ events_shallow es = omega (arith, all_shallow event_json 5 event_shallow es)
 pub pairs_shallow : (ps : List (EventView × Option (ℕ × ℕ))) → depth (pairs_json ps) ≤ max_depth
 pairs_shallow ps = omega (arith, all_shallow pair_json 6 pair_shallow ps)
 
-pub all_located_shallow : (ls : List ((EventView × Option (ℕ × ℕ)) × Option Span)) → depth (listed located_json ls) ≤ max_depth
+pub all_located_shallow : (ls : List ((EventView × Option (ℕ × ℕ)) × Option Details)) → depth (listed located_json ls) ≤ max_depth
 all_located_shallow ls = omega (arith, all_shallow located_json 6 located_shallow ls)

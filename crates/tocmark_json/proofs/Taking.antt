@@ -13,10 +13,10 @@ use Rattle.tocmark_json.specs.Place.{StandsIn}
 use Rattle.tocmark_json.specs.declared.fault.Fault.TheVariants as fault
 use Rattle.tocmark_json.specs.declared.fault.JsonError.{JsonError}
 use Rattle.tocmark_json.specs.declared.fault.JsonError.TheVariants as error
-use Rattle.tocmark_json.specs.declared.positions.Span.{Span}
+use Rattle.tocmark_json.specs.declared.positions.Details.{Details}
 
 abbrev Located : Type 0
-Located = Pair × Option Span
+Located = Pair × Option Details
 
 abbrev is_in : Located → Pair
 is_in l = l.0

@@ -11,7 +11,7 @@ use Rattle.tocmark_json.specs.declared.fault.Fault.{Fault}
 use Rattle.tocmark_json.specs.declared.fault.JsonError.{JsonError}
 use Rattle.tocmark_json.specs.declared.fault.ReadError.{ReadError}
 use Rattle.tocmark_json.specs.declared.fault.ReadError.TheVariants as read_error
-use Rattle.tocmark_json.specs.declared.positions.Span.{Span}
+use Rattle.tocmark_json.specs.declared.positions.Details.{Details}
 
 abbrev pub Pair : Type 0
 Pair = EventView × Option (ℕ × ℕ)
@@ -54,7 +54,7 @@ IsReadFault text read_error.OutOfMemory = Unit {0}
 
 -- an element is an event and its range, or an event alone
 abbrev pub IsElement : Bool → Data → Pair → Type 0
-IsElement true d p = (span : Option Span) × (d ≡ located_json (p, span))
+IsElement true d p = (details : Option Details) × (d ≡ located_json (p, details))
 IsElement false d p = (d ≡ event_json p.0) × (p.1 ≡ None)
 
 abbrev pub RefusesElement : Bool → Data → Fault → Type 0
@@ -63,7 +63,7 @@ RefusesElement false d f = Refuses event_json d f
 
 -- all are
 abbrev pub AreElements : Bool → List Data → List Pair → Type 0
-AreElements true ds pairs = (ls : List (Pair × Option Span)) × (map located_json ls ≡ ds) × (map (λ l. l.0) ls ≡ pairs)
+AreElements true ds pairs = (ls : List (Pair × Option Details)) × (map located_json ls ≡ ds) × (map (λ l. l.0) ls ≡ pairs)
 AreElements false ds pairs = (es : List EventView) × (map event_json es ≡ ds) × (map alone es ≡ pairs)
 
 -- all elements so far are, or an error says why no list begins with them

@@ -17,7 +17,8 @@ use Rattle.tocmark_event.specs.declared.event.LinkType.TheVariants as link
 use Rattle.tocmark_event.specs.declared.event.EventOf.{EventOf}
 use Rattle.tocmark_event.specs.declared.event.TagEnd.{TagEnd}
 use Rattle.tocmark_event.specs.declared.event.TagEnd.TheVariants as end
-use Rattle.tocmark_json.specs.Positions.{span_of}
+use Rattle.tocmark_json.specs.Destinations.{details_of}
+use Rattle.tocmark_json.specs.declared.positions.Details.{Details}
 use Rattle.tocmark_json.specs.declared.positions.Span.{Span}
 
 -- a variant that holds something: an object whose one key is the variant's name
@@ -193,18 +194,41 @@ spanned_json r s =
     (member (codes "start_column") (size_json s.start.column)
     (member (codes "start_line") (size_json s.start.line) no_members))))))
 
--- a range, if there is one, with its lines and columns or without
-abbrev pub location_json : Option (ℕ × ℕ) → Option Span → Data
-location_json None s = null
-location_json (Some r) None = range_json r
-location_json (Some r) (Some s) = spanned_json r s
+-- the same of a link, with the bytes of its destination
+abbrev pub targeted_json : ℕ × ℕ → Span → ℕ × ℕ → Data
+targeted_json r s d =
+    object (member (codes "dest_end") (size_json d.1)
+    (member (codes "dest_start") (size_json d.0)
+    (member (codes "end") (size_json r.1)
+    (member (codes "end_column") (size_json s.end.column)
+    (member (codes "end_line") (size_json s.end.line)
+    (member (codes "start") (size_json r.0)
+    (member (codes "start_column") (size_json s.start.column)
+    (member (codes "start_line") (size_json s.start.line) no_members))))))))
 
--- a range with its lines and columns as one value
-abbrev pub place_json : Option (ℕ × ℕ) × Option Span → Data
+-- a range with its lines and columns, and the bytes of a destination, if there is one
+abbrev pub spanned_or_targeted : ℕ × ℕ → Span → Option (ℕ × ℕ) → Data
+spanned_or_targeted r s None = spanned_json r s
+spanned_or_targeted r s (Some d) = targeted_json r s d
+
+abbrev pub detailed_json : ℕ × ℕ → Details → Data
+detailed_json r d = spanned_or_targeted r d.span d.destination
+
+-- a range, if there is one, with its details or without
+abbrev pub location_json : Option (ℕ × ℕ) → Option Details → Data
+location_json None d = null
+location_json (Some r) None = range_json r
+location_json (Some r) (Some d) = detailed_json r d
+
+-- a range with its details as one value
+abbrev pub place_json : Option (ℕ × ℕ) × Option Details → Data
 place_json p = location_json p.0 p.1
 
 abbrev pub full_place_json : (ℕ × ℕ) × Span → Data
 full_place_json p = spanned_json p.0 p.1
+
+abbrev pub target_place_json : (ℕ × ℕ) × (Span × (ℕ × ℕ)) → Data
+target_place_json p = targeted_json p.0 p.1.0 p.1.1
 
 -- an event whose texts have these bytes, with its range, if it has one
 abbrev pub pair_view : {T : Type 0} → (T → List ℕ) → EventOf T × Option (ℕ × ℕ) → EventView × Option (ℕ × ℕ)
@@ -218,13 +242,13 @@ ranged_view bytes p = (view.event_view bytes p.0, Some p.1)
 abbrev pub pair_json : EventView × Option (ℕ × ℕ) → Data
 pair_json p = both (event_json p.0) (optional range_json p.1)
 
--- an event, its range, and the lines and columns of that
-abbrev pub located_json : (EventView × Option (ℕ × ℕ)) × Option Span → Data
+-- an event, its range, and the details of that
+abbrev pub located_json : (EventView × Option (ℕ × ℕ)) × Option Details → Data
 located_json l = both (event_json l.0.0) (location_json l.0.1 l.1)
 
--- an event of a text that has a range there, with the lines and columns of that
-abbrev pub located_view : {T : Type 0} → (T → List ℕ) → List ℕ → EventOf T × (ℕ × ℕ) → (EventView × Option (ℕ × ℕ)) × Option Span
-located_view bytes text p = (ranged_view bytes p, Some (span_of text p.1))
+-- an event of a text that has a range there, with the details of that
+abbrev pub located_view : {T : Type 0} → (T → List ℕ) → List ℕ → EventOf T × (ℕ × ℕ) → (EventView × Option (ℕ × ℕ)) × Option Details
+located_view bytes text p = (ranged_view bytes p, Some (details_of text (view.event_view bytes p.0) p.1))
 
 -- a list of events, and one of events with their ranges
 abbrev pub events_json : List EventView → Data
@@ -233,7 +257,7 @@ events_json = listed event_json
 abbrev pub pairs_json : List (EventView × Option (ℕ × ℕ)) → Data
 pairs_json = listed pair_json
 
--- a value is that of events with their ranges, each with its lines and columns or without
+-- a value is that of events with their ranges, each with its details or without
 abbrev pub IsPairsJson : Data → List (EventView × Option (ℕ × ℕ)) → Type 0
 IsPairsJson value pairs =
-    (ls : List ((EventView × Option (ℕ × ℕ)) × Option Span)) × (value ≡ listed located_json ls) × (map (λ l. l.0) ls ≡ pairs)
+    (ls : List ((EventView × Option (ℕ × ℕ)) × Option Details)) × (value ≡ listed located_json ls) × (map (λ l. l.0) ls ≡ pairs)

@@ -1,3 +1,4 @@
+pub mod Destinations
 pub mod Elements
 pub mod Json
 pub mod Marshal

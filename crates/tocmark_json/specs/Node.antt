@@ -1,16 +1,17 @@
 -- The data that a node stands for.
-use Rattle.std.specs.Prelude.{◌≡◌, ℕ, List, [], ◌∷◌, map}
+use Rattle.std.specs.Prelude.{◌≡◌, ℕ, List, [], ◌∷◌, codes, map}
 use Rattle.std.specs.Cmp.Lexicographic.{slice_cmp}
 use Rattle.std.specs.Ordering.{nat_cmp}
 use Rattle.std.specs.declared.cmp.Ordering.TheVariants.{Less}
 use Rattle.std.specs.Borrow.{Bor}
-use Rattle.serde_json.specs.Data.{Num, unsigned, negative, float, Data, null, boolean, number, string, array, object, Items, Members, no_members, put}
+use Rattle.serde_json.specs.Data.{Num, unsigned, negative, float, Data, null, boolean, number, string, array, object, Items, Members, member, no_members, put}
 use Rattle.serde_json.specs.View.{items_of}
 use Rattle.tocmark_json.specs.declared.number.Number.{Number}
 use Rattle.tocmark_json.specs.declared.number.Number.TheVariants.{Unsigned, Negative, Float}
 use Rattle.tocmark_json.specs.declared.node.Node.{Node, fold-Node}
 use Rattle.tocmark_json.specs.declared.node.Node.TheOpen.{Node-F}
 use Rattle.tocmark_json.specs.declared.parts.Keys.{Keys}
+use Rattle.tocmark_json.specs.declared.ranges.Targeted.{Targeted}
 
 abbrev pub number_view : Number → Num
 number_view (Unsigned n) = unsigned n
@@ -40,10 +41,22 @@ items_view vs = items_of (map view vs)
 abbrev pub members_view : List (Bor (List ℕ) × Node) → Members
 members_view ms = put_all (map (λ m. (m.0, view m.1)) ms) no_members
 
+-- the range of a link, with the place of its destination
+abbrev pub targeted_view : Targeted → Data
+targeted_view t =
+    object (member (codes "dest_end") (view t.dest_end.now)
+    (member (codes "dest_start") (view t.dest_start.now)
+    (member (codes "end") (view t.end.now)
+    (member (codes "end_column") (view t.end_column.now)
+    (member (codes "end_line") (view t.end_line.now)
+    (member (codes "start") (view t.start.now)
+    (member (codes "start_column") (view t.start_column.now)
+    (member (codes "start_line") (view t.start_line.now) no_members))))))))
+
 -- a name is none of these
 abbrev pub IsOther : Keys → List ℕ → Type 0
 IsOther keys name =
-    (name ≡ keys.first.now → ⊥) × (name ≡ keys.second.now → ⊥) × (name ≡ keys.third.now → ⊥) × (name ≡ keys.fourth.now → ⊥) × (name ≡ keys.fifth.now → ⊥) × (name ≡ keys.sixth.now → ⊥)
+    (name ≡ keys.first.now → ⊥) × (name ≡ keys.second.now → ⊥) × (name ≡ keys.third.now → ⊥) × (name ≡ keys.fourth.now → ⊥) × (name ≡ keys.fifth.now → ⊥) × (name ≡ keys.sixth.now → ⊥) × (name ≡ keys.seventh.now → ⊥) × (name ≡ keys.eighth.now → ⊥)
 
 -- a text is below all of these
 abbrev pub IsBelow : List ℕ → List (List ℕ) → Type 0

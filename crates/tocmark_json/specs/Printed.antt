@@ -7,7 +7,7 @@ use Rattle.serde_json.specs.Read.{of_json}
 use Rattle.serde_json.specs.Written.{outline, blank, compact_text}
 use Rattle.tocmark_event.specs.View.{EventView}
 use Rattle.tocmark_json.specs.Json.{located_json, pair_json}
-use Rattle.tocmark_json.specs.declared.positions.Span.{Span}
+use Rattle.tocmark_json.specs.declared.positions.Details.{Details}
 
 -- these bytes are after what was there
 abbrev pub Grows : List ℕ → List ℕ → List ℕ → Type 0
@@ -40,6 +40,6 @@ Follows d = Brings (44 ∷ (compact_text d ++ 93 ∷ [])) d
 abbrev pub lines_text : List (EventView × Option (ℕ × ℕ)) → List ℕ
 lines_text = flat_map (λ p. compact_text (pair_json p) ++ 10 ∷ [])
 
--- the JSON texts of events with their ranges and the lines and columns of these, each with a line feed after it
-abbrev pub located_lines : List ((EventView × Option (ℕ × ℕ)) × Option Span) → List ℕ
+-- the JSON texts of events with their ranges and the details of these, each with a line feed after it
+abbrev pub located_lines : List ((EventView × Option (ℕ × ℕ)) × Option Details) → List ℕ
 located_lines = flat_map (λ l. compact_text (located_json l) ++ 10 ∷ [])

@@ -4,12 +4,14 @@
 //! `marshalling` writes them as bytes for Python, with names by the numbers of `name_numbers`, and `unmarshalling` reads
 //! Python's bytes. `elements` reads the events of a JSON text one by one. `node` has the value of one element, and
 //! `reading` makes an event from it. `parts` takes a value apart, `ranges` reads ranges, and `names` has the names of
-//! variants. `positions` finds the lines and columns of a text. `fault` says what is wrong with a text or a value, and
+//! variants. `positions` finds the lines and columns of a text, and `destinations` where the destination of a link is. `fault` says what is wrong with a text or a value, and
 //! where. `laws` says that different events have different JSON.
 //!
-//! The crate is on `tocmark_event` and the kit's `fast_float`, `itoa`, `json` and `serde_json`.
+//! The crate is on `tocmark_event`, on the scanners of the reader (`tocmark_read_scan`, `tocmark_read_tokens` and
+//! `tocmark_read_spans`), and on the kit's `fast_float`, `itoa`, `json` and `serde_json`.
 #![tactic(auto)]
 
+mod destinations;
 pub mod elements;
 mod escaping;
 pub mod fault;

@@ -1,14 +1,14 @@
-//! The JSON text of events with the lines and columns of their ranges.
+//! The JSON text of events with the lines and columns of their ranges, and with the destinations of links.
 
 ghost use Rattle.std.specs.Prelude.{◌≡◌, IfOk, OnOk, Some, map, string_bytes};
 ghost use Rattle.serde_json.specs.Read.{read};
 ghost use Rattle.serde_json.specs.Written.{IsInOrder, compact_text};
 ghost use Rattle.tocmark_event.specs.View.{event_view};
-ghost use Rattle.tocmark_json.specs.Json.{listed, located_json, located_view, spanned_json};
+ghost use Rattle.tocmark_json.specs.Json.{detailed_json, listed, located_json, located_view, spanned_json, targeted_json};
 ghost use Rattle.tocmark_json.specs.Positions.{IsIndex};
 ghost use Rattle.tocmark_json.specs.Printed.{Adds, Follows, located_lines};
 
-use crate::positions::{Positions, Span};
+use crate::positions::{Details, Positions, Span};
 use crate::printing::{print_event, print_size, push, push_comma, text_of};
 use std::alloc::{AllocError, Global};
 use tocmark_event::event::{EventOf, Words};
@@ -32,7 +32,52 @@ fn print_spanned(out: &mut Vec<u8>, range: (usize, usize), span: Span) -> Result
     push(out, b"}]")
 }
 
+/// Prints a link's range with lines and columns, and with the place of its destination, as the second of two values in an array,
+/// and closes that.
+fn print_targeted(
+    out: &mut Vec<u8>,
+    range: (usize, usize),
+    span: Span,
+    destination: (usize, usize),
+) -> Result<(), AllocError>
+    ensures { OnOk result
+        (Follows (targeted_json range span destination) out.old.items out.new.items) }
+{
+    push(out, b",{\"dest_end\":")?;
+    print_size(out, destination.1 as u64)?;
+    push(out, b",\"dest_start\":")?;
+    print_size(out, destination.0 as u64)?;
+    push(out, b",\"end\":")?;
+    print_size(out, range.1 as u64)?;
+    push(out, b",\"end_column\":")?;
+    print_size(out, span.end.column as u64)?;
+    push(out, b",\"end_line\":")?;
+    print_size(out, span.end.line as u64)?;
+    push(out, b",\"start\":")?;
+    print_size(out, range.0 as u64)?;
+    push(out, b",\"start_column\":")?;
+    print_size(out, span.start.column as u64)?;
+    push(out, b",\"start_line\":")?;
+    print_size(out, span.start.line as u64)?;
+    push(out, b"}]")
+}
+
+/// Prints a range with its details as the second of two values in an array, and closes that.
+fn print_detailed(
+    out: &mut Vec<u8>,
+    range: (usize, usize),
+    details: Details,
+) -> Result<(), AllocError>
+    ensures { OnOk result (Follows (detailed_json range details) out.old.items out.new.items) }
+{
+    match details.destination {
+        None => print_spanned(out, range, details.span),
+        Some(place) => print_targeted(out, range, details.span, place),
+    }
+}
+
 fn print_located<T: Words>(
+    alloc: Global,
     out: &mut Vec<u8>,
     pair: &(EventOf<T>, (usize, usize)),
     positions: &Positions<'_>,
@@ -43,10 +88,12 @@ fn print_located<T: Words>(
 {
     push(out, b"[")?;
     print_event(out, &pair.0)?;
-    print_spanned(out, pair.1, positions.span(pair.1))
+    let details = positions.details(alloc, &pair.0, pair.1)?;
+    print_detailed(out, pair.1, details)
 }
 
 fn print_all_located<T: Words>(
+    alloc: Global,
     out: &mut Vec<u8>,
     pairs: &[(EventOf<T>, (usize, usize))],
     positions: &Positions<'_>,
@@ -59,7 +106,7 @@ fn print_all_located<T: Words>(
     let mut later = false;
     for pair in pairs {
         push_comma(out, later)?;
-        print_located(out, pair, positions)?;
+        print_located(alloc, out, pair, positions)?;
         later = true;
     }
     push(out, b"]")
@@ -79,12 +126,13 @@ fn indexed_to_text<T: Words>(
         (map (located_view T.bytes positions.now.bytes.now) pairs.now))) }
 {
     let mut out = Vec::new(alloc);
-    print_all_located(&mut out, pairs, positions)?;
+    print_all_located(alloc, &mut out, pairs, positions)?;
     text_of(out)
 }
 
 /// The JSON text of a list of events with their ranges in a source, as a reader gives them: an array of `[event,
-/// range]`, without spaces. Each range has the lines and columns of its ends, too.
+/// range]`, without spaces. Each range has the lines and columns of its ends, too, and that of a link the bytes of its
+/// destination, if they are in it.
 ///
 /// It fails if memory runs out.
 pub fn located_to_text<T: Words>(
@@ -117,14 +165,15 @@ pub fn indexed_to_lines<T: Words>(
 {
     let mut out = Vec::new(alloc);
     for pair in pairs {
-        print_located(&mut out, pair, positions)?;
+        print_located(alloc, &mut out, pair, positions)?;
         push(&mut out, b"\n")?;
     }
     text_of(out)
 }
 
 /// The JSON texts of events with their ranges in a source, as a reader gives them: `[event, range]` on a line for each
-/// event. Each range has the lines and columns of its ends, too.
+/// event. Each range has the lines and columns of its ends, too, and that of a link the bytes of its destination, if they are
+/// in it.
 ///
 /// It fails if memory runs out.
 pub fn located_to_lines<T: Words>(

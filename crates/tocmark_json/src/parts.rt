@@ -74,8 +74,12 @@ pub(crate) struct Keys<'k> {
     pub(crate) fourth: &'k str,
     /// The fifth one.
     pub(crate) fifth: &'k str,
-    /// The last one.
+    /// The sixth one.
     pub(crate) sixth: &'k str,
+    /// The seventh one.
+    pub(crate) seventh: &'k str,
+    /// The last one.
+    pub(crate) eighth: &'k str,
 }
 
 fn has_key(keys: Keys<'_>, name: &str) -> bool
@@ -88,6 +92,8 @@ fn has_key(keys: Keys<'_>, name: &str) -> bool
         || name == keys.fourth
         || name == keys.fifth
         || name == keys.sixth
+        || name == keys.seventh
+        || name == keys.eighth
 }
 
 /// Whether each member has one of these names.
@@ -120,6 +126,8 @@ pub(crate) fn only_member<'n, 'a>(value: &'n Node<'a>) -> Option<(&'a str, &'n N
         fourth: name,
         fifth: name,
         sixth: name,
+        seventh: name,
+        eighth: name,
     };
     if !has_only(members, keys) {
         return None;
@@ -171,6 +179,8 @@ pub(crate) fn two_named<'n, 'a>(
         fourth: second,
         fifth: second,
         sixth: second,
+        seventh: second,
+        eighth: second,
     };
     if !has_only(members, keys) {
         return None;
@@ -219,6 +229,8 @@ pub(crate) fn four_named<'n, 'a>(
         fourth,
         fifth: fourth,
         sixth: fourth,
+        seventh: fourth,
+        eighth: fourth,
     };
     if !has_only(members, keys) {
         return None;

@@ -1,10 +1,14 @@
-//! The lines and columns of a text.
+//! The lines and columns of a text, and what is known of the ranges of its events.
 
 ghost use Rattle.std.specs.List.{All};
 ghost use Rattle.std.specs.Prelude.{◌≡◌, ◌-◌, ◌≤◌, ℕ, IfOk, List, OnOk, drop, length};
+ghost use Rattle.tocmark_event.specs.View.{event_view};
+ghost use Rattle.tocmark_json.specs.Destinations.{details_of};
 ghost use Rattle.tocmark_json.specs.Positions.{behind, ends_line, begins_none, passed, position_of, span_of, IsIndex, IsMark};
 
+use crate::destinations::destination_in;
 use std::alloc::{AllocError, Global};
+use tocmark_event::event::{EventOf, Words};
 
 /// A place in a text.
 #[derive(Clone, Copy, Debug, PartialEq, Eq)]
@@ -22,6 +26,15 @@ pub struct Span {
     pub start: Position,
     /// The place after its last byte.
     pub end: Position,
+}
+
+/// What is known of an event's range beside its bytes.
+#[derive(Clone, Copy, Debug, PartialEq, Eq)]
+pub struct Details {
+    /// Its lines and columns.
+    pub span: Span,
+    /// The bytes of the destination of a link or an image, if it is in that range.
+    pub destination: Option<(usize, usize)>,
 }
 
 /// How many bytes are between two marks.
@@ -183,5 +196,21 @@ impl<'t> Positions<'t> {
             start: self.position(range.0),
             end: self.position(range.1),
         }
+    }
+
+    /// What is known of the range of an event of the text. It fails if memory runs out.
+    pub(crate) fn details<T: Words>(
+        &self,
+        alloc: Global,
+        event: &EventOf<T>,
+        range: (usize, usize),
+    ) -> Result<Details, AllocError>
+        requires { IsIndex self.now }
+        ensures { IfOk result (λ details. details
+            ≡ details_of self.now.bytes.now (event_view T.bytes event.now) range) }
+    {
+        let destination = destination_in(alloc, self.bytes, event, range)?;
+        let span = self.span(range);
+        Ok(Details { span, destination })
     }
 }

@@ -548,7 +548,7 @@ pub fn pair_from_json<U: OwnedWords + Drop>(
     value: &Node<'_>,
 ) -> Result<(EventOf<U>, Location), Fault>
     ensures read { IfOk result (λ pair. view value.now
-        ≡ located_json ((event_view U.Words.bytes pair.0, pair.1.range), pair.1.span)) }
+        ≡ located_json ((event_view U.Words.bytes pair.0, pair.1.range), pair.1.details)) }
     ensures refused { IfErr result (Refuses located_json (view value.now)) }
 {
     let Some((event, range)) = two_items(value) else {

@@ -31,4 +31,4 @@ pub returns-clause-found : goal.returns-clause-found
 returns-clause-found c =
     let es = c.in_ok-members.members.now in
     let form = member c.args.first.now (view c.in_ok-first.first.now) (member c.args.second.now (view c.in_ok-second.second.now) (member c.args.third.now (view c.in_ok-third.third.now) (member c.args.fourth.now (view c.in_ok-fourth.fourth.now) no_members))) in
-    c.in_ok-members.ensures.found ∙ ap object (matched form (members_view es) c.requires (sorted_view es) (c.in_ok-first.ensures.found, (c.in_ok-second.ensures.found, (c.in_ok-third.ensures.found, (c.in_ok-fourth.ensures.found, tt)))) (λ q h. c.if-not-has_only.ensures.yes refl q (h.0, h.1.0, h.1.1.0, h.1.1.1.0, h.1.1.1.0, h.1.1.1.0)))
+    c.in_ok-members.ensures.found ∙ ap object (matched form (members_view es) c.requires (sorted_view es) (c.in_ok-first.ensures.found, (c.in_ok-second.ensures.found, (c.in_ok-third.ensures.found, (c.in_ok-fourth.ensures.found, tt)))) (λ q h. c.if-not-has_only.ensures.yes refl q (h.0, h.1.0, h.1.1.0, h.1.1.1.0, h.1.1.1.0, h.1.1.1.0, h.1.1.1.0, h.1.1.1.0)))

@@ -23,4 +23,4 @@ returns-clause-found c =
     let es = c.in_ok-members.members.now in
     let name = c.in_ok-name.field-0.now.0.now in
     let content = view c.in_ok-content.content.now in
-    c.in_ok-members.ensures.found ∙ ap object (matched (member name content no_members) (members_view es) (tt, tt) (sorted_view es) (c.in_ok-content.ensures.found, tt) (λ q h. c.if-not-has_only.ensures.yes refl q (h.0, h.0, h.0, h.0, h.0, h.0)))
+    c.in_ok-members.ensures.found ∙ ap object (matched (member name content no_members) (members_view es) (tt, tt) (sorted_view es) (c.in_ok-content.ensures.found, tt) (λ q h. c.if-not-has_only.ensures.yes refl q (h.0, h.0, h.0, h.0, h.0, h.0, h.0, h.0)))

@@ -48,4 +48,4 @@ pub returns-clause-found : goal.returns-clause-found
 returns-clause-found c =
     let es = c.in_ok-members.members.now in
     let form = form_of (view c.in_ok-end.end.now) (view c.in_ok-end_column.end_column.now) (view c.in_ok-end_line.end_line.now) (view c.in_ok-start.start.now) (view c.in_ok-start_column.start_column.now) (view c.in_ok-start_line.start_line.now) in
-    c.in_ok-members.ensures.found ∙ ap object (matched form (members_view es) (ascending (view c.in_ok-end.end.now) (view c.in_ok-end_column.end_column.now) (view c.in_ok-end_line.end_line.now) (view c.in_ok-start.start.now) (view c.in_ok-start_column.start_column.now) (view c.in_ok-start_line.start_line.now)) (sorted_view es) (c.in_ok-end.ensures.found, (c.in_ok-end_column.ensures.found, (c.in_ok-end_line.ensures.found, (c.in_ok-start.ensures.found, (c.in_ok-start_column.ensures.found, (c.in_ok-start_line.ensures.found, tt)))))) (λ q h. c.if-not-has_only.ensures.yes refl q (h.0, h.1.0, h.1.1.0, h.1.1.1.0, h.1.1.1.1.0, h.1.1.1.1.1.0)))
+    c.in_ok-members.ensures.found ∙ ap object (matched form (members_view es) (ascending (view c.in_ok-end.end.now) (view c.in_ok-end_column.end_column.now) (view c.in_ok-end_line.end_line.now) (view c.in_ok-start.start.now) (view c.in_ok-start_column.start_column.now) (view c.in_ok-start_line.start_line.now)) (sorted_view es) (c.in_ok-end.ensures.found, (c.in_ok-end_column.ensures.found, (c.in_ok-end_line.ensures.found, (c.in_ok-start.ensures.found, (c.in_ok-start_column.ensures.found, (c.in_ok-start_line.ensures.found, tt)))))) (λ q h. c.if-not-has_only.ensures.yes refl q (h.0, h.1.0, h.1.1.0, h.1.1.1.0, h.1.1.1.1.0, h.1.1.1.1.1.0, h.1.1.1.1.1.0, h.1.1.1.1.1.0)))
