@@ -140,6 +140,7 @@ fn place_in(
 }
 
 /// The place of the destination in a link that has this range in a text.
+#[tactic(auto, unfolding(crate::specs::Destinations::destination_by))]
 fn moved_place(
     alloc: Global,
     text: &[u8],
