@@ -144,7 +144,7 @@ pub(crate) fn definition_line(
 }
 
 /// A definition that leads elsewhere.
-pub(crate) fn redirection(
+pub fn redirection(
     alloc: Global,
     source: &str,
     place: DefinitionPlace,

@@ -49,7 +49,7 @@ fn give_text(tag: &mut Tag<'static>)
 }
 
 /// Gives a link's or an image's tag another destination.
-fn lead_to(tag: &mut Tag<'static>, destination: CowStr<'static>)
+pub fn lead_to(tag: &mut Tag<'static>, destination: CowStr<'static>)
     ensures { tag_view text_of tag.new
         ≡ leading_to (text_of destination.entry) (tag_view text_of tag.old) }
 {

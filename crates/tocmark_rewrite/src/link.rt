@@ -11,11 +11,11 @@ use tocmark_read_tokens::word::destination;
 
 /// What a link or an image says but for its label.
 #[derive(Clone, Copy)]
-pub(crate) struct LinkParts<'t> {
-    pub(crate) link_type: LinkType,
-    pub(crate) destination: &'t str,
-    pub(crate) title: &'t str,
-    pub(crate) id: &'t str,
+pub struct LinkParts<'t> {
+    pub link_type: LinkType,
+    pub destination: &'t str,
+    pub title: &'t str,
+    pub id: &'t str,
 }
 
 pub(crate) fn link_parts<'t>(event: &'t Event<'_>) -> Option<LinkParts<'t>> {

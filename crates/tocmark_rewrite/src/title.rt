@@ -13,11 +13,7 @@ pub(crate) fn spelled_title(alloc: Global, text: &str) -> Result<String, AllocEr
 }
 
 /// A definition with another title, or without one.
-pub(crate) fn retitling(
-    alloc: Global,
-    place: DefinitionPlace,
-    new: &str,
-) -> Result<Patch, AllocError> {
+pub fn retitling(alloc: Global, place: DefinitionPlace, new: &str) -> Result<Patch, AllocError> {
     let (from, to) = place.title;
     let text = spelled_title(alloc, new)?;
     if from == to || new.is_empty() {

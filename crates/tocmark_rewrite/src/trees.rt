@@ -143,7 +143,7 @@ impl LineCounter {
     }
 
     /// The number of the line on which a byte is, counted from 1; bytes are asked for in their order.
-    fn line_of(&mut self, bytes: &[u8], at: usize) -> usize {
+    pub fn line_of(&mut self, bytes: &[u8], at: usize) -> usize {
         for k in self.at..at.min(bytes.len()) {
             let next = bytes.get(k.saturating_add(1));
             match bytes.get(k) {
