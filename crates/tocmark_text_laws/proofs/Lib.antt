@@ -122,3 +122,7 @@ pub mod Nests
 pub mod LinkEnds
 pub mod InlineNests
 pub mod SourceNest
+pub mod TokenEnds
+pub mod TickEnds
+pub mod InlinePlaces
+pub mod EventPlaces

@@ -18,17 +18,17 @@ use Rattle.tocmark_read_tokens.specs.declared.word.Word.{Word}
 use Rattle.tocmark_text_laws.proofs.Tokens.{byte_within, run_climbs, run_few, empty_brackets}
 
 -- a place that isn't before another one
-record Climbs (q r : ℕ) : Type 0 where
-  up : q ≤ r
-  low : r < 2 ^ 64
+pub record Climbs (q r : ℕ) : Type 0 where
+  pub up : q ≤ r
+  pub low : r < 2 ^ 64
 
-climbed : (q r s : ℕ) → Climbs q r → Climbs r s → Climbs q s
+pub climbed : (q r s : ℕ) → Climbs q r → Climbs r s → Climbs q s
 climbed q r s a b = record { up = (let x : q ≤ r = a.up in let y : r ≤ s = b.up in omega arith); low = b.low }
 
-to_run : (t : List ℕ) (q : ℕ) (c : Class) → q < 2 ^ 64 → Climbs q (run_end t q c)
+pub to_run : (t : List ℕ) (q : ℕ) (c : Class) → q < 2 ^ 64 → Climbs q (run_end t q c)
 to_run t q c h = record { up = run_climbs t q c (omega arith); low = let w : run_end t q c ≤ 2 ^ 64 - 1 = run_few t q c in omega arith }
 
-to_next : (q : ℕ) → q < 2 ^ 64 → Climbs q (plus q 1)
+pub to_next : (q : ℕ) → q < 2 ^ 64 → Climbs q (plus q 1)
 to_next q h = record { up = omega arith; low = omega arith }
 
 -- a word that is there, if one is, doesn't end before a place
@@ -101,7 +101,7 @@ pub record Ended (t : List ℕ) (p end : ℕ) : Type 0 where
   pub within : end ≤ length t
   pub closes : byte_at t (end - 1) < 128
 
-ended_at : (t : List ℕ) (p at b : ℕ) → length t < 2 ^ 64 - 1 → byte_at t at ≡ b → (b == 10) ≡ false → b < 128 → p ≤ at → Ended t p (plus at 1)
+pub ended_at : (t : List ℕ) (p at b : ℕ) → length t < 2 ^ 64 - 1 → byte_at t at ≡ b → (b == 10) ≡ false → b < 128 → p ≤ at → Ended t p (plus at 1)
 ended_at t p at b short e n l m = let w : at < length t = byte_within t at b e n in let q : plus at 1 - 1 ≡ at = omega arith in record { after = omega arith; within = omega arith; closes = subst (λ x. byte_at t x < 128) (sym q) (omega arith) }
 
 abbrev pub MayEnd : List ℕ → ℕ → Option InlineTarget → Type 0

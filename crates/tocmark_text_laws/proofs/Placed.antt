@@ -30,6 +30,7 @@ pub record Fit (P : ℕ → Type 0) (b : Block) : Type 0 where
   pub begins : P b.start
   pub stops : P b.end
   pub ordered : b.start ≤ b.end
+  pub plain : b.task ≡ None
 
 -- an open container, among blocks that begin at these places
 pub record Holds (P : ℕ → Type 0) (u : List ℕ) (o : Opened) : Type 0 where
@@ -61,6 +62,7 @@ pub record Ready (P : ℕ → Type 0) (n : ℕ) (s : State) (front : List Block)
   pub pieces : AllByRecursion (Held P n) s.pieces
   pub begins : P b.start
   pub within : b.start ≤ n
+  pub plain : b.task ≡ None
 
 -- the same, where the leaf's end is known
 pub record Going (P : ℕ → Type 0) (n : ℕ) (s : State) (front : List Block) (b : Block) : Type 0 where
@@ -126,7 +128,7 @@ more_holds P front b os h =
 pub finish : (P : ℕ → Type 0) (n : ℕ) (s : State) (front : List Block) (b : Block) → Going P n s front b → Shut P n (leaf_finished s)
 unfolding leaf_finished finished
 finish P n s front b g = (
-  subst (AllByRecursion (Fit P)) (sym same) (all_both (Fit P) front (new ∷ []) g.ready.fits (record { begins = g.ready.begins; stops = g.stops; ordered = g.ordered }, tt)),
+  subst (AllByRecursion (Fit P)) (sym same) (all_both (Fit P) front (new ∷ []) g.ready.fits (record { begins = g.ready.begins; stops = g.stops; ordered = g.ordered; plain = g.ready.plain }, tt)),
   all_raised P (starts blocks) s.opened (length s.opened - 1) s.end s.line g.stops (subst (λ bs. AllByRecursion (Holds P (starts bs)) s.opened) (sym same) (more_holds P front new s.opened g.ready.holds)),
   all_take (Held P n) s.kept s.pieces g.ready.pieces,
 )
@@ -156,6 +158,7 @@ ended_fits P bs o k h = all_changed (Fit P) bs o.block (λ (b : Block). record b
       begins = f.begins;
       stops = k.stops;
       ordered = let v : k.begins ≤ o.end = k.ordered in let w : b.start ≡ k.begins = begins_at bs o.block k.begins b k.got e in omega arith;
+      plain = f.plain;
     }) h
 
 ended_starts : (bs : List Block) (i e : ℕ) → starts (ended bs i e) ≡ starts bs
@@ -204,6 +207,10 @@ shortened_start P e b ps count h k l = by (slice_get ps (plus b.first count)) re
     by None q = (k, l)
     by (Some p) q = let w : Held P e p = all_got (Held P e) ps (plus b.first count) p h q in (w.begins, w.before)
 
+shortened_plain : (b : Block) (ps : List Piece) (count : ℕ) → b.task ≡ None → (shortened b ps count).task ≡ None
+unfolding shortened
+shortened_plain b ps count h = h
+
 -- the definitions of an open paragraph are taken from it
 pub settled_going : (P : ℕ → Type 0) (n : ℕ) (t : List ℕ) (s : State) (front : List Block) (b : Block) → Going P n s front b → is_paragraph s.leaf ≡ true → (c : Block) × Going P n (settled t s) front c
 unfolding settled
@@ -224,6 +231,7 @@ settled_going P n t s front b g p = by (slice_get s.blocks (length s.blocks - 1)
         pieces = g.ready.pieces;
         begins = (shortened_start P n b s.pieces count g.ready.pieces g.ready.begins g.ready.within).0;
         within = (shortened_start P n b s.pieces count g.ready.pieces g.ready.begins g.ready.within).1;
+        plain = shortened_plain b s.pieces count g.ready.plain;
       };
       stops = g.stops;
       ordered = (shortened_start P s.end b s.pieces count (g.words p) g.ready.begins g.ordered).1;
@@ -283,7 +291,7 @@ loosened_fits : (P : ℕ → Type 0) (list : Option ℕ) (apart : Bool) (bs : Li
 unfolding loosened
 loosened_fits P list false bs h = h
 loosened_fits P None true bs h = h
-loosened_fits P (Some i) true bs h = all_changed (Fit P) bs i (λ (b : Block). record b { loose = true }) (λ b e f. record { begins = f.begins; stops = f.stops; ordered = f.ordered }) h
+loosened_fits P (Some i) true bs h = all_changed (Fit P) bs i (λ (b : Block). record b { loose = true }) (λ b e f. record { begins = f.begins; stops = f.stops; ordered = f.ordered; plain = f.plain }) h
 
 loosened_starts : (list : Option ℕ) (apart : Bool) (bs : List Block) → starts (loosened list apart bs) ≡ starts bs
 unfolding loosened
@@ -317,7 +325,7 @@ pub opened_with_shut : (P : ℕ → Type 0) (n : ℕ) (c : Container) (k : Block
 unfolding opened_with begun
 opened_with_shut P n c k start line s h p l q =
     quote_entered_shut P n c (record s { blocks = all; opened = had_marked s.opened ++ new ∷ [] }) (
-      all_both (Fit P) front (b ∷ []) (loosened_fits P (list_of s.opened) (is_apart s.opened line.number) s.blocks (h.0)) (record { begins = p; stops = p; ordered = omega arith }, tt),
+      all_both (Fit P) front (b ∷ []) (loosened_fits P (list_of s.opened) (is_apart s.opened line.number) s.blocks (h.0)) (record { begins = p; stops = p; ordered = omega arith; plain = refl }, tt),
       all_both (Holds P (starts all)) (had_marked s.opened) (new ∷ []) (more_holds P front b (had_marked s.opened) (before_holds P n line.number s h)) (
         record {
           stops = q;
@@ -357,6 +365,7 @@ leaf_going P f k start line s h p l q = (
       pieces = g.2;
       begins = p;
       within = l;
+      plain = refl;
     };
     stops = q;
     ordered = l;
@@ -374,14 +383,14 @@ pushed_ready : (P : ℕ → Type 0) (n : ℕ) (p : Piece) (s : State) (front : L
 pushed_ready P n p s front b k r = by (nat_lt 0 p.spaces || nat_lt p.start p.next)
   where
     by : (x : Bool) → Ready P n (if x then record s { pieces = s.pieces ++ p ∷ [] } else s) front b
-    by true = record { split = r.split; fits = r.fits; holds = r.holds; pieces = all_both (Held P n) s.pieces (p ∷ []) r.pieces (k, tt); begins = r.begins; within = r.within }
+    by true = record { split = r.split; fits = r.fits; holds = r.holds; pieces = all_both (Held P n) s.pieces (p ∷ []) r.pieces (k, tt); begins = r.begins; within = r.within; plain = r.plain }
     by false = r
 
 -- a line comes into the open leaf, and the leaf reaches to its end
 pub taken_going : (P : ℕ → Type 0) (p : Piece) (line : Line) (s : State) (front : List Block) (b : Block) → Held P line.end p → P line.end → Ready P line.end s front b → Going P line.end (piece_taken p line true s) front b
 unfolding piece_taken
 taken_going P p line s front b k q r = record {
-  ready = record { split = w.split; fits = w.fits; holds = w.holds; pieces = w.pieces; begins = w.begins; within = w.within };
+  ready = record { split = w.split; fits = w.fits; holds = w.holds; pieces = w.pieces; begins = w.begins; within = w.within; plain = w.plain };
   stops = q;
   ordered = w.within;
   words = λ e. w.pieces;
@@ -397,7 +406,7 @@ passed_going P n p line s front b k e g = by (nat_lt 0 p.spaces || nat_lt p.star
   where
     by : (x : Bool) → Going P n (if x then record s { pieces = s.pieces ++ p ∷ [] } else s) front b
     by true = record {
-      ready = record { split = g.ready.split; fits = g.ready.fits; holds = g.ready.holds; pieces = all_both (Held P n) s.pieces (p ∷ []) g.ready.pieces (k, tt); begins = g.ready.begins; within = g.ready.within };
+      ready = record { split = g.ready.split; fits = g.ready.fits; holds = g.ready.holds; pieces = all_both (Held P n) s.pieces (p ∷ []) g.ready.pieces (k, tt); begins = g.ready.begins; within = g.ready.within; plain = g.ready.plain };
       stops = g.stops;
       ordered = g.ordered;
       words = λ w. absurd (true≢false (sym w ∙ e));
@@ -418,6 +427,7 @@ later_stands P n m s l (holding w front b g) = holding w front b (record {
     pieces = all_weaker (Held P n) (Held P m) s.pieces (later_held P n m l) g.ready.pieces;
     begins = g.ready.begins;
     within = let q : b.start ≤ n = g.ready.within in omega arith;
+    plain = g.ready.plain;
   };
   stops = g.stops;
   ordered = g.ordered;

@@ -85,14 +85,14 @@ pub record Brackets (t : List ℕ) (R : List Role) (f : ℕ) (bs : List Bracket)
   pub good : (k : ℕ) (b : Bracket) → slice_get bs k ≡ Some b → Opening t R f b
   pub order : (k l : ℕ) (b d : Bracket) → k < l → slice_get bs k ≡ Some b → slice_get bs l ≡ Some d → b.inner ≤ d.start
 
--- a mark begins with a byte of ASCII, and ends after one; a container ends within the text
+-- a mark begins with a byte of ASCII, and ends after one
 abbrev pub Mark : List ℕ → ℕ → Role → Type 0
 Mark t i Plain = Unit
 Mark t i Fresh = byte_at t i < 128
 Mark t i Hidden = byte_at t i < 128
 Mark t i (Open s e) = (byte_at t i < 128) × Ended t i e
 Mark t i (Close e) = (byte_at t i < 128) × Ended t i e
-Mark t i (Single l e) = byte_at t i < 128
+Mark t i (Single l e) = (byte_at t i < 128) × Ended t i e
 
 -- the runs that are after a bracket begin after it, and the others end before it
 abbrev pub Parted : List Run → Bracket → Type 0
@@ -194,7 +194,7 @@ neutral_put t f R rs bs i y n e a h = changed t f f R (slice_set R i y) rs bs (o
     reads x r = quiet_read 0 0 R i y x n (neutral_skips y (suc (0 + i)) e) r
 
 -- a byte that is no white space begins a mark without children
-pub single_put : (t : List ℕ) (R : List Role) (rs : List Run) (bs : List Bracket) (i : ℕ) (leaf : Leaf) (e : ℕ) → (byte_at t i ≡ 32 → ⊥) → byte_at t i < 128 → Fine t i R rs bs → Fine t (max (suc i) e) (slice_set R i (Single leaf e)) rs bs
+pub single_put : (t : List ℕ) (R : List Role) (rs : List Run) (bs : List Bracket) (i : ℕ) (leaf : Leaf) (e : ℕ) → (byte_at t i ≡ 32 → ⊥) → Mark t i (Single leaf e) → Fine t i R rs bs → Fine t (max (suc i) e) (slice_set R i (Single leaf e)) rs bs
 single_put t R rs bs i leaf e b a h = changed t i (max (suc i) e) R (slice_set R i (Single leaf e)) rs bs (omega arith)
     (single_safe 0 0 0 R i leaf e after h.safe)
     (single_nested 0 0 [] R i leaf e after (h.level i (omega arith)) h.nested)
@@ -237,14 +237,14 @@ pair_put t R rs bs i j s e a b l within q low high h = changed t i (max (suc i) 
     before x m (r, n, v) = unread i first j (Close e) (omega arith) x m r n v
 
 -- a hard break, from the first of spaces before a line feed on
-pub break_put : (t : List ℕ) (R : List Role) (rs : List Run) (bs : List Bracket) (first i : ℕ) (leaf : Leaf) → suc first < i → ((x : ℕ) → first ≤ x → x < i → byte_at t x ≡ 32) → Fine t i R rs bs → Fine t (suc i) (slice_set R first (Single leaf (suc i))) rs bs
-break_put t R rs bs first i leaf l b h = changed t i (suc i) R (slice_set R first (Single leaf (suc i))) rs bs (omega arith)
+pub break_put : (t : List ℕ) (R : List Role) (rs : List Run) (bs : List Bracket) (first i : ℕ) (leaf : Leaf) → suc first < i → ((x : ℕ) → first ≤ x → x < i → byte_at t x ≡ 32) → Ended t first (suc i) → Fine t i R rs bs → Fine t (suc i) (slice_set R first (Single leaf (suc i))) rs bs
+break_put t R rs bs first i leaf l b ended h = changed t i (suc i) R (slice_set R first (Single leaf (suc i))) rs bs (omega arith)
     (single_safe 0 0 0 R first leaf (suc i) after h.safe)
     (single_nested 0 0 [] R first leaf (suc i) after here h.nested)
     (set_length R first (Single leaf (suc i)) ∙ h.size)
     (λ x m. single_level 0 0 [] R first leaf (suc i) x after here (h.level x (omega arith)))
     (flat_set t R first (Single leaf (suc i)) h.flat (λ q. refl))
-    (marked_set (Mark t) R first (Single leaf (suc i)) (let q : byte_at t first ≡ 32 = b first (omega arith) (omega arith) in omega arith) h.marked)
+    (marked_set (Mark t) R first (Single leaf (suc i)) (let q : byte_at t first ≡ 32 = b first (omega arith) (omega arith) in omega arith, ended) h.marked)
     (λ x m. other_neutral R first (Single leaf (suc i)) x (inl (omega arith)) (h.calm x (omega arith)))
     (λ x m. mark_read 0 0 R first (Single leaf (suc i)) x after (omega arith) (h.open_ x (omega arith)))
     (λ x p q. other_neutral R first (Single leaf (suc i)) x (other_of first x (λ w. no_feed (ap (λ y. byte_at t (suc y)) w ∙ q))) (h.white x p q))

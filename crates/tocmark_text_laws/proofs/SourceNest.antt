@@ -34,13 +34,13 @@ use Rattle.tocmark_text_laws.proofs.SourceOrder.{some_mapped, got_place, begins_
 use Rattle.tocmark_text_laws.proofs.Steps.{scanned_nested, scanned_marked}
 
 -- the roles of a CommonMark content
-abbrev core_start : List ℕ → Inlines → scan.State
+abbrev pub core_start : List ℕ → Inlines → scan.State
 core_start bytes s = scan_start (length bytes) s.targets s.texts s.missed
 
-abbrev core_roles : List ℕ → (List ℕ → Option Entry) → Inlines → List Role
+abbrev pub core_roles : List ℕ → (List ℕ → Option Entry) → Inlines → List Role
 core_roles bytes definitions s = (scanned_in CORE bytes definitions (core_start bytes s)).roles
 
-core_count : (bytes : List ℕ) (definitions : List ℕ → Option Entry) (s : Inlines) → length (core_roles bytes definitions s) ≡ length bytes
+pub core_count : (bytes : List ℕ) (definitions : List ℕ → Option Entry) (s : Inlines) → length (core_roles bytes definitions s) ≡ length bytes
 unfolding scan_start
 core_count bytes definitions s = roles_count (length bytes) bytes definitions (core_start bytes s) (copies (length bytes) role.Plain)
 
@@ -48,7 +48,7 @@ core_nested : (bytes : List ℕ) (definitions : List ℕ → Option Entry) (s : 
 unfolding scan_start
 core_nested bytes definitions s short = scanned_nested bytes definitions (core_start bytes s) short (copies (length bytes) role.Plain) (copies_plain (length bytes)) refl refl refl refl
 
-core_marked : (bytes : List ℕ) (definitions : List ℕ → Option Entry) (s : Inlines) → length bytes < 2 ^ 64 - 1 → Marked (Mark bytes) (core_roles bytes definitions s)
+pub core_marked : (bytes : List ℕ) (definitions : List ℕ → Option Entry) (s : Inlines) → length bytes < 2 ^ 64 - 1 → Marked (Mark bytes) (core_roles bytes definitions s)
 unfolding scan_start
 core_marked bytes definitions s short = scanned_marked bytes definitions (core_start bytes s) short (copies (length bytes) role.Plain) (copies_plain (length bytes)) refl refl refl refl
 
@@ -119,7 +119,7 @@ shown_stops bytes role.Fresh s m h = flushed_stops bytes s m h
 shown_stops bytes role.Hidden s m h = flushed_stops bytes s m h
 shown_stops bytes (role.Open span end) s m h = one_stops bytes (flushed s).nodes (record { depth = (flushed s).depth; item = item.Span span; start = (flushed s).place; end = end }) (λ e. absurd cc) (flushed_stops bytes s (m.0) h)
 shown_stops bytes (role.Close end) s m h = flushed_stops bytes s (m.0) h
-shown_stops bytes (role.Single leaf end) s m h = one_stops bytes (flushed s).nodes (record { depth = (flushed s).depth; item = item.Leaf leaf; start = (flushed s).place; end = end }) (λ e. absurd cc) (flushed_stops bytes s m h)
+shown_stops bytes (role.Single leaf end) s m h = one_stops bytes (flushed s).nodes (record { depth = (flushed s).depth; item = item.Leaf leaf; start = (flushed s).place; end = end }) (λ e. absurd cc) (flushed_stops bytes s (m.0) h)
 
 flushed_place : (s : State) → (flushed s).place ≡ s.place
 unfolding flushed pushed
@@ -167,7 +167,7 @@ core_stops bytes depth definitions s short = run_stops bytes 0 roles (write_star
 
 -- in the source, a text ends before a later inline begins
 
-got_byte : (bytes : List ℕ) (i : ℕ) → i < length bytes → slice_get bytes i ≡ Some (byte_at bytes i)
+pub got_byte : (bytes : List ℕ) (i : ℕ) → i < length bytes → slice_get bytes i ≡ Some (byte_at bytes i)
 got_byte [] i l = absurd (omega arith)
 got_byte (b ∷ bs) zero l = refl
 got_byte (b ∷ bs) (suc i) l = got_byte bs i (omega arith)
@@ -198,7 +198,7 @@ order_moved t bytes places [] h same stops a k = tt
 order_moved t bytes places (n ∷ ns) h same stops a k = (after_moved t bytes places n ns h same (stops.0) (k.0) (a.0) (k.1), order_moved t bytes places ns h same (stops.1) (a.1) (k.1))
 
 -- a leaf of a text
-leaf_count : (t : List ℕ) (first last : ℕ) → length (leaf_of t first last).bytes ≡ length (leaf_of t first last).places
+pub leaf_count : (t : List ℕ) (first last : ℕ) → length (leaf_of t first last).bytes ≡ length (leaf_of t first last).places
 leaf_count t first last = places_count t (map content_line (pieces_of (blocks_in CORE t).pieces first last))
 
 pub source_order : InlinesAreInOrderInTheSource

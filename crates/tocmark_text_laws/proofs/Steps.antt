@@ -5,6 +5,7 @@ use Rattle.std.specs.Char.{is_ascii_punctuation}
 use Rattle.std.specs.Int.{is_in_range}
 use Rattle.std.specs.List.{fold}
 use Rattle.std.proofs.lemmas.Bool.Decides.{nat_tests}
+use Rattle.std.proofs.lemmas.Option.{slice_get_within}
 use Rattle.tocmark_read_scan.specs.Basic.{plus, byte_at, bytes_between, starts_at}
 use Rattle.tocmark_read_scan.specs.Class.{is_in, run_end}
 use Rattle.tocmark_read_scan.specs.Repeat.{iterated}
@@ -12,7 +13,7 @@ use Rattle.tocmark_read_scan.specs.declared.class.Class.TheVariants.{Only}
 use Rattle.tocmark_read_scan.specs.declared.syntax.Names.TheVariants.{Four}
 use Rattle.tocmark_read_scan.specs.declared.syntax.TheConstants.{CORE}
 use Rattle.tocmark_read_tokens.specs.Autolink.{uri_end, mail_end}
-use Rattle.tocmark_read_tokens.specs.Html.{raw_html}
+use Rattle.tocmark_read_tokens.specs.Html.{last_ends, raw_html}
 use Rattle.tocmark_read_tokens.specs.Label.{key_of}
 use Rattle.tocmark_read_tokens.specs.Reference.{is_escape, reference_at}
 use Rattle.tocmark_read_tokens.specs.declared.html.LastEnds.{LastEnds}
@@ -22,7 +23,7 @@ use Rattle.tocmark_event.specs.declared.event.LinkType.TheVariants.{Autolink, Em
 use Rattle.tocmark_read_spans.specs.Emphasis.{emphasized}
 use Rattle.tocmark_read_spans.specs.Link.{inline_target, label_asked}
 use Rattle.tocmark_read_spans.specs.Run.{run_between, run_at}
-use Rattle.tocmark_read_spans.specs.Tick.{tick_end}
+use Rattle.tocmark_read_spans.specs.Tick.{last_ticks, tick_end}
 use Rattle.tocmark_read_spans.specs.declared.definitions.Entry.{Entry}
 use Rattle.tocmark_read_spans.specs.declared.link.Asked.{Asked}
 use Rattle.tocmark_read_spans.specs.declared.link.Bracket.{Bracket}
@@ -35,10 +36,12 @@ use Rattle.tocmark_read_spans.specs.declared.role.Span.{Span}
 use Rattle.tocmark_read_spans.specs.declared.role.Span.TheVariants.{Link, Image}
 use Rattle.tocmark_read_spans.specs.declared.role.Target.{Target}
 use Rattle.tocmark_read_spans.specs.declared.run.Run.{Run}
-use Rattle.tocmark_read_inlines.specs.Scan.{State, Known, ahead_in, before_space, kept, kept_code, kept_resolved_in, targeted, put_leaf, escaped, referred_to, referred, code_put, coded_to, coded, run_kept, run_taken, marked_last, marked, opened, imaged, addressed, html_put, tagged_to, tagged, mailed_to, mailed, angled_to, angled, line_ended, spanned, settled, linked, closed_inline_in, missing, looked_up_as, looked_up, closed_asked, closed_by_label, closed_found_in, closed_active_in, popped, closed_last_in, closed_in, looked_mark, looked, is_mark_in, is_tilde_in, is_caret_in, is_dollar_in, is_note_end_in, looked_in, scan_step_in, ran_in, scanned_in}
-use Rattle.tocmark_text_laws.proofs.LinkEnds.{Ended, MayEnd, inline_ends, AskedEnds, asked_ends}
+use Rattle.tocmark_read_inlines.specs.Scan.{State, Known, ends_of, ticks_of, ahead_in, before_space, kept, kept_code, kept_resolved_in, targeted, put_leaf, escaped, referred_to, referred, code_put, coded_to, coded, run_kept, run_taken, marked_last, marked, opened, imaged, addressed, html_put, tagged_to, tagged, mailed_to, mailed, angled_to, angled, line_ended, spanned, settled, linked, closed_inline_in, missing, looked_up_as, looked_up, closed_asked, closed_by_label, closed_found_in, closed_active_in, popped, closed_last_in, closed_in, looked_mark, looked, is_mark_in, is_tilde_in, is_caret_in, is_dollar_in, is_note_end_in, looked_in, scan_step_in, ran_in, scanned_in}
+use Rattle.tocmark_text_laws.proofs.LinkEnds.{Ended, MayEnd as MayEndInline, inline_ends, AskedEnds, asked_ends}
 use Rattle.tocmark_text_laws.proofs.Matches.{Marked}
 use Rattle.tocmark_text_laws.proofs.Nests.{Nested, neutral_flat, calm_nested, calm_level}
+use Rattle.tocmark_text_laws.proofs.TickEnds.{CodeEnds, code_ends, ticks_known}
+use Rattle.tocmark_text_laws.proofs.TokenEnds.{MayEnd, html_ends, ends_known, MayRefer, reference_ends, word_got, word_byte}
 use Rattle.tocmark_text_laws.proofs.Walks.{Safe, Neutral, is_neutral, calm_safe, calm_read}
 use Rattle.tocmark_text_laws.proofs.Tokens.{byte_within, run_within, run_climbs, run_has, Closed, uri_closed, mail_closed, Spaces, spaces_before, image_bracket}
 use Rattle.tocmark_text_laws.proofs.Scans.{is_run, is_bracket, Good, Opening, Brackets, Fine, fine_more, neutral_put, single_put, pair_put, break_put, runs_more, brackets_more, brackets_fewer, brackets_below, Mark, Parted, AllParted, Counted, parted_run, parted_bracket, parted_fewer, counted_below, span_put, settled_safe, settled_nested, settled_marked}
@@ -56,7 +59,7 @@ stays t s h = (refl, fine_more t s.place (max (suc s.place) s.resume) s.roles s.
 not_white : (t : List ℕ) (p b : ℕ) → byte_at t p ≡ b → (b == 32) ≡ false → byte_at t p ≡ 32 → ⊥
 not_white t p b e n q = true≢false (ap (λ c. c == 32) (sym q ∙ e) ∙ n)
 
-leaf_goes : (t : List ℕ) (l : Leaf) (e : ℕ) (s : State) → (byte_at t s.place ≡ 32 → ⊥) → byte_at t s.place < 128 → Stands t s.place s → Goes t s.place (put_leaf l e s)
+leaf_goes : (t : List ℕ) (l : Leaf) (e : ℕ) (s : State) → (byte_at t s.place ≡ 32 → ⊥) → Mark t s.place (Single l e) → Stands t s.place s → Goes t s.place (put_leaf l e s)
 unfolding put_leaf
 leaf_goes t l e s b a h = (refl, single_put t s.roles s.runs s.brackets s.place l e b a h)
 
@@ -88,7 +91,7 @@ escape_ascii t p e = by (byte_at t p == 92) e
 
 escaped_goes : (t : List ℕ) (s : State) → length t < 2 ^ 64 - 1 → s.place < length t → (byte_at t s.place ≡ 32 → ⊥) → byte_at t s.place < 128 → Stands t s.place s → Goes t s.place (escaped t s)
 unfolding escaped
-escaped_goes t s short w b a h = by (is_escape t s.place) refl (starts_at t s.place (codes "\\\n"))
+escaped_goes t s short w b a h = by (is_escape t s.place) refl (starts_at t s.place (codes "\\\n")) refl
   where
     first : List Role
     first = slice_set s.roles s.place Hidden
@@ -99,60 +102,67 @@ escaped_goes t s short w b a h = by (is_escape t s.place) refl (starts_at t s.pl
     two : is_escape t s.place ≡ true → Fine t s.place (slice_set first (plus s.place 1) Fresh) s.runs s.brackets
     two e = neutral_put t s.place first s.runs s.brackets (plus s.place 1) Fresh (one.calm (plus s.place 1) (omega arith)) refl (escape_ascii t s.place e) one
 
-    by : (x : Bool) → is_escape t s.place ≡ x → (y : Bool) → Goes t s.place (if x then record s { roles = slice_set (slice_set s.roles s.place Hidden) (plus s.place 1) Fresh; resume = plus s.place 2 } else (if y then put_leaf HardBreak (plus s.place 2) s else s))
-    by true e y = (refl, fine_more t s.place (max (suc s.place) (plus s.place 2)) (slice_set first (plus s.place 1) Fresh) s.runs s.brackets (omega arith) (two e))
-    by false e true = leaf_goes t HardBreak (plus s.place 2) s b a h
-    by false e false = stays t s h
+    hard : starts_at t s.place (codes "\\\n") ≡ true → Ended t s.place (plus s.place 2)
+    hard e =
+        let k : s.place + 1 < length t = slice_get_within t (s.place + 1) 10 (word_got t (codes "\\\n") s.place 1 10 e refl) in
+        let q : s.place + 1 ≡ plus s.place 2 - 1 = omega arith in
+        let z : byte_at t (s.place + 1) ≡ 10 = word_byte t (codes "\\\n") s.place 1 10 e refl in
+        record { after = omega arith; within = omega arith; closes = subst (λ x. byte_at t x < 128) q (omega arith) }
 
-referred_goes : (t : List ℕ) (s : State) → (byte_at t s.place ≡ 32 → ⊥) → byte_at t s.place < 128 → Stands t s.place s → Goes t s.place (referred t s)
+    by : (x : Bool) → is_escape t s.place ≡ x → (y : Bool) → starts_at t s.place (codes "\\\n") ≡ y → Goes t s.place (if x then record s { roles = slice_set (slice_set s.roles s.place Hidden) (plus s.place 1) Fresh; resume = plus s.place 2 } else (if y then put_leaf HardBreak (plus s.place 2) s else s))
+    by true e y f = (refl, fine_more t s.place (max (suc s.place) (plus s.place 2)) (slice_set first (plus s.place 1) Fresh) s.runs s.brackets (omega arith) (two e))
+    by false e true f = leaf_goes t HardBreak (plus s.place 2) s b (a, hard f) h
+    by false e false f = stays t s h
+
+referred_goes : (t : List ℕ) (s : State) → length t < 2 ^ 64 - 1 → s.place < length t → (byte_at t s.place ≡ 32 → ⊥) → byte_at t s.place < 128 → Stands t s.place s → Goes t s.place (referred t s)
 unfolding referred
-referred_goes t s b a h = by (reference_at t s.place)
+referred_goes t s short w b a h = by (reference_at t s.place) (reference_ends t s.place short w)
   where
-    by : (o : Option Reference) → Goes t s.place (referred_to s o)
-    by None = stays t s h
-    by (Some r) = leaf_goes t _ r.next s b a h
+    by : (o : Option Reference) → MayRefer t s.place o → Goes t s.place (referred_to s o)
+    by None e = stays t s h
+    by (Some r) e = leaf_goes t _ r.next s b (a, e) h
 
-coded_goes : (t ticks : List ℕ) (s : State) → (byte_at t s.place ≡ 32 → ⊥) → byte_at t s.place < 128 → Stands t s.place s → Goes t s.place (coded t ticks s)
+coded_goes : (t ticks : List ℕ) (s : State) → length t < 2 ^ 64 - 1 → s.place < length t → last_ticks t ≡ ticks → (byte_at t s.place ≡ 32 → ⊥) → byte_at t s.place < 128 → Stands t s.place s → Goes t s.place (coded t ticks s)
 unfolding coded code_put kept_code
-coded_goes t ticks s b a h = by (tick_end t from (from - s.place) ticks)
+coded_goes t ticks s short w k b a h = by (tick_end t from (from - s.place) ticks) (subst (λ xs. CodeEnds t s.place (from - s.place) (tick_end t from (from - s.place) xs)) k (code_ends t s.place from (from - s.place) short (run_climbs t s.place (Only 96) (omega arith))))
   where
     from : ℕ
     from = run_end t s.place (Only 96)
 
-    by : (o : Option ℕ) → Goes t s.place (coded_to t from (from - s.place) s o)
-    by None = (refl, fine_more t s.place (max (suc s.place) from) s.roles s.runs s.brackets (omega arith) h)
-    by (Some to) = leaf_goes t _ (plus to (from - s.place)) ((kept_code (bytes_between t from to) s).0) b a h
+    by : (o : Option ℕ) → CodeEnds t s.place (from - s.place) o → Goes t s.place (coded_to t from (from - s.place) s o)
+    by None e = (refl, fine_more t s.place (max (suc s.place) from) s.roles s.runs s.brackets (omega arith) h)
+    by (Some to) e = leaf_goes t _ (plus to (from - s.place)) ((kept_code (bytes_between t from to) s).0) b (a, e) h
 
 addressed_goes : (t : List ℕ) (l : LinkType) (end : ℕ) (s : State) → (byte_at t s.place ≡ 32 → ⊥) → byte_at t s.place < 128 → Closed t s.place (Some end) → Stands t s.place s → Goes t s.place (addressed t l end s)
 unfolding addressed kept targeted
 addressed_goes t l end s b a (m, c, e) h = (refl, pair_put t s.roles s.runs s.brackets s.place (end - 1) (Link (length s.targets)) end b (not_white t (end - 1) 62 c refl) m (byte_within t (end - 1) 62 c refl) e a (omega arith) h)
 
-html_goes : (t : List ℕ) (end : ℕ) (s : State) → (byte_at t s.place ≡ 32 → ⊥) → byte_at t s.place < 128 → Stands t s.place s → Goes t s.place (html_put t end s)
+html_goes : (t : List ℕ) (end : ℕ) (s : State) → Ended t s.place end → (byte_at t s.place ≡ 32 → ⊥) → byte_at t s.place < 128 → Stands t s.place s → Goes t s.place (html_put t end s)
 unfolding html_put kept
-html_goes t end s b a h = leaf_goes t _ end ((kept (bytes_between t s.place end) s).0) b a h
+html_goes t end s e b a h = leaf_goes t _ end ((kept (bytes_between t s.place end) s).0) b (a, e) h
 
-tagged_goes : (t : List ℕ) (ends : LastEnds) (s : State) → (byte_at t s.place ≡ 32 → ⊥) → byte_at t s.place < 128 → Stands t s.place s → Goes t s.place (tagged t ends s)
+tagged_goes : (t : List ℕ) (ends : LastEnds) (s : State) → length t < 2 ^ 64 - 1 → s.place < length t → last_ends t ≡ ends → (byte_at t s.place ≡ 32 → ⊥) → byte_at t s.place < 128 → Stands t s.place s → Goes t s.place (tagged t ends s)
 unfolding tagged
-tagged_goes t ends s b a h = by (raw_html t s.place ends)
+tagged_goes t ends s short w k b a h = by (raw_html t s.place ends) (subst (λ x. MayEnd t s.place (raw_html t s.place x)) k (html_ends t s.place short w))
   where
-    by : (o : Option ℕ) → Goes t s.place (tagged_to t s o)
-    by None = stays t s h
-    by (Some end) = html_goes t end s b a h
+    by : (o : Option ℕ) → MayEnd t s.place o → Goes t s.place (tagged_to t s o)
+    by None e = stays t s h
+    by (Some end) e = html_goes t end s e b a h
 
-mailed_goes : (t : List ℕ) (ends : LastEnds) (s : State) → length t < 2 ^ 64 - 1 → s.place < length t → (byte_at t s.place ≡ 32 → ⊥) → byte_at t s.place < 128 → Stands t s.place s → Goes t s.place (mailed t ends s)
+mailed_goes : (t : List ℕ) (ends : LastEnds) (s : State) → length t < 2 ^ 64 - 1 → s.place < length t → last_ends t ≡ ends → (byte_at t s.place ≡ 32 → ⊥) → byte_at t s.place < 128 → Stands t s.place s → Goes t s.place (mailed t ends s)
 unfolding mailed
-mailed_goes t ends s short w b a h = by (mail_end t s.place) (mail_closed t s.place short w)
+mailed_goes t ends s short w k b a h = by (mail_end t s.place) (mail_closed t s.place short w)
   where
     by : (o : Option ℕ) → Closed t s.place o → Goes t s.place (mailed_to t ends s o)
-    by None c = tagged_goes t ends s b a h
+    by None c = tagged_goes t ends s short w k b a h
     by (Some end) c = addressed_goes t Email end s b a c h
 
-angled_goes : (t : List ℕ) (ends : LastEnds) (s : State) → length t < 2 ^ 64 - 1 → s.place < length t → (byte_at t s.place ≡ 32 → ⊥) → byte_at t s.place < 128 → Stands t s.place s → Goes t s.place (angled t ends s)
+angled_goes : (t : List ℕ) (ends : LastEnds) (s : State) → length t < 2 ^ 64 - 1 → s.place < length t → last_ends t ≡ ends → (byte_at t s.place ≡ 32 → ⊥) → byte_at t s.place < 128 → Stands t s.place s → Goes t s.place (angled t ends s)
 unfolding angled
-angled_goes t ends s short w b a h = by (uri_end t s.place) (uri_closed t s.place short w)
+angled_goes t ends s short w k b a h = by (uri_end t s.place) (uri_closed t s.place short w)
   where
     by : (o : Option ℕ) → Closed t s.place o → Goes t s.place (angled_to t ends s o)
-    by None c = mailed_goes t ends s short w b a h
+    by None c = mailed_goes t ends s short w k b a h
     by (Some end) c = addressed_goes t Autolink end s b a c h
 
 ended_goes : (t : List ℕ) (s : State) → length t < 2 ^ 64 - 1 → s.place < length t → s.resume ≤ s.place → byte_at t s.place ≡ 10 → Stands t s.place s → Goes t s.place (line_ended t s)
@@ -184,6 +194,9 @@ ended_goes t s short w r b h = by (nat_le 2 (s.place - first)) refl
         cases true e = let m : first < p = grind (arith, nat_tests) in let q : p ≡ suc first = omega arith in h.white first ((spaces.1) first (omega arith) m) (ap (byte_at t) (sym q) ∙ b)
         cases false e = let m : p ≤ first = grind (arith, nat_tests) in h.calm first m
 
+    ended : (x : ℕ) → x < one → Ended t x one
+    ended x l = let q : p ≡ one - 1 = omega arith in record { after = l; within = omega arith; closes = subst (λ y. byte_at t y < 128) q (omega (arith, b)) }
+
     first_ascii : byte_at t first < 128
     first_ascii = cases (nat_lt first p) refl
       where
@@ -192,10 +205,10 @@ ended_goes t s short w r b h = by (nat_le 2 (s.place - first)) refl
         cases false e = let m : p ≤ first = grind (arith, nat_tests) in let l : first ≤ p = spaces.0 in let q : p ≡ first = omega arith in subst (λ x. byte_at t x < 128) q (omega (arith, b))
 
     soft : s.place - first < 2 → Fine t (max (suc p) one) (slice_set (slice_set s.roles first Hidden) p (Single SoftBreak one)) s.runs s.brackets
-    soft l = single_put t (slice_set s.roles first Hidden) s.runs s.brackets p SoftBreak one (not_white t p 10 b refl) (omega (arith, b)) (neutral_put t p s.roles s.runs s.brackets first Hidden (at_first l) refl first_ascii h)
+    soft l = single_put t (slice_set s.roles first Hidden) s.runs s.brackets p SoftBreak one (not_white t p 10 b refl) (omega (arith, b), ended p (omega arith)) (neutral_put t p s.roles s.runs s.brackets first Hidden (at_first l) refl first_ascii h)
 
     hard : 2 ≤ s.place - first → Fine t (suc p) (slice_set s.roles first (Single HardBreak one)) s.runs s.brackets
-    hard l = subst (λ n. Fine t (suc p) (slice_set s.roles first (Single HardBreak n)) s.runs s.brackets) next (break_put t s.roles s.runs s.brackets first p HardBreak (omega arith) (spaces.1) h)
+    hard l = subst (λ n. Fine t (suc p) (slice_set s.roles first (Single HardBreak n)) s.runs s.brackets) next (break_put t s.roles s.runs s.brackets first p HardBreak (omega arith) (spaces.1) (subst (Ended t first) (sym next) (ended first (omega arith))) h)
 
     by : (k : Bool) → nat_le 2 (s.place - first) ≡ k → Goes t p (if k then record s { roles = slice_set s.roles first (Single HardBreak one) } else record s { roles = slice_set (slice_set s.roles first Hidden) s.place (Single SoftBreak one) })
     by true e = let l : 2 ≤ s.place - first = grind (arith, nat_tests) in (refl, fine_more t (suc p) (max (suc p) s.resume) (slice_set s.roles first (Single HardBreak one)) s.runs s.brackets (omega arith) (hard l))
@@ -372,7 +385,7 @@ active_goes t definitions b s short z o below h = by (inline_target t (plus s.pl
     within : s.place < length t
     within = byte_within t s.place 93 z refl
 
-    by : (x : Option InlineTarget) → MayEnd t (plus s.place 1) x → Goes t s.place (closed_found_in Four false t definitions b s x)
+    by : (x : Option InlineTarget) → MayEndInline t (plus s.place 1) x → Goes t s.place (closed_found_in Four false t definitions b s x)
     by None e = labelled_goes t definitions b s short z o below h
     by (Some found) e = inline_goes t b found s short z (let l : plus s.place 1 < found.end = e.after in record { after = omega (arith, within); within = e.within; closes = e.closes }) o below h
 
@@ -397,9 +410,9 @@ closed_goes t definitions s short z h = by (slice_get s.brackets (length s.brack
     by None e = stays t s h
     by (Some b) e = active b e (b.image || nat_le s.inactive height)
 
-mark_goes : (t ticks : List ℕ) (b : ℕ) (s : State) → length t < 2 ^ 64 - 1 → s.place < length t → s.resume ≤ s.place → byte_at t s.place ≡ b → Stands t s.place s → Goes t s.place (looked_mark t ticks b s)
+mark_goes : (t ticks : List ℕ) (b : ℕ) (s : State) → ticks ≡ ticks_of t → length t < 2 ^ 64 - 1 → s.place < length t → s.resume ≤ s.place → byte_at t s.place ≡ b → Stands t s.place s → Goes t s.place (looked_mark t ticks b s)
 unfolding looked_mark
-mark_goes t ticks b s short w r e h = by (b == 92) (b == 38) (b == 10) (b == 96) ((b == 42) || (b == 95)) refl refl refl refl refl
+mark_goes t ticks b s known short w r e h = by (b == 92) (b == 38) (b == 10) (b == 96) ((b == 42) || (b == 95)) refl refl refl refl refl
   where
     plain : (c : ℕ) → b ≡ c → (c == 32) ≡ false → byte_at t s.place ≡ 32 → ⊥
     plain c q n = not_white t s.place c (e ∙ q) n
@@ -407,48 +420,52 @@ mark_goes t ticks b s short w r e h = by (b == 92) (b == 38) (b == 10) (b == 96)
     by : (backslash ampersand feed tick run : Bool) → (b == 92) ≡ backslash → (b == 38) ≡ ampersand → (b == 10) ≡ feed → (b == 96) ≡ tick → ((b == 42) || (b == 95)) ≡ run
         → Goes t s.place (if backslash then escaped t s else (if ampersand then referred t s else (if feed then line_ended t s else (if tick then coded t ticks s else (if run then run_taken t b s else s)))))
     by true ampersand feed tick run p q f k i = let z : b ≡ 92 = grind (arith, nat_tests) in escaped_goes t s short w (plain 92 z refl) (omega (arith, e)) h
-    by false true feed tick run p q f k i = let z : b ≡ 38 = grind (arith, nat_tests) in referred_goes t s (plain 38 z refl) (omega (arith, e)) h
+    by false true feed tick run p q f k i = let z : b ≡ 38 = grind (arith, nat_tests) in referred_goes t s short w (plain 38 z refl) (omega (arith, e)) h
     by false false true tick run p q f k i = let z : b ≡ 10 = grind (arith, nat_tests) in ended_goes t s short w r (e ∙ z) h
-    by false false false true run p q f k i = let z : b ≡ 96 = grind (arith, nat_tests) in coded_goes t ticks s (plain 96 z refl) (omega (arith, e)) h
+    by false false false true run p q f k i = let z : b ≡ 96 = grind (arith, nat_tests) in coded_goes t ticks s short w (ticks_known t s.place w (e ∙ z) ∙ sym known) (plain 96 z refl) (omega (arith, e)) h
     by false false false false true p q f k i = taken_goes t b s short w i h
     by false false false false false p q f k i = stays t s h
 
-looked_goes : (t : List ℕ) (ahead : Known) (definitions : List ℕ → Option Entry) (b : ℕ) (s : State) → length t < 2 ^ 64 - 1 → s.place < length t → s.resume ≤ s.place → byte_at t s.place ≡ b → Stands t s.place s → Goes t s.place (looked t ahead definitions b s)
+-- what is known before the pass: runs of backticks, and the last ends of raw HTML
+abbrev Foreseen : List ℕ → Known → Type 0
+Foreseen t ahead = (ahead.ticks ≡ ticks_of t) × (ahead.ends ≡ ends_of t)
+
+looked_goes : (t : List ℕ) (ahead : Known) (definitions : List ℕ → Option Entry) (b : ℕ) (s : State) → Foreseen t ahead → length t < 2 ^ 64 - 1 → s.place < length t → s.resume ≤ s.place → byte_at t s.place ≡ b → Stands t s.place s → Goes t s.place (looked t ahead definitions b s)
 unfolding looked
-looked_goes t ahead definitions b s short w r e h = by (b == 91) (b == 33) (b == 93) (b == 60) refl refl refl refl
+looked_goes t ahead definitions b s known short w r e h = by (b == 91) (b == 33) (b == 93) (b == 60) refl refl refl refl
   where
     by : (opening image closing angle : Bool) → (b == 91) ≡ opening → (b == 33) ≡ image → (b == 93) ≡ closing → (b == 60) ≡ angle
         → Goes t s.place (if opening then opened false 1 s else (if image then imaged t s else (if closing then closed_in Four false t definitions s else (if angle then angled t ahead.ends s else looked_mark t ahead.ticks b s))))
     by true image closing angle p q c a = let z : b ≡ 91 = grind (arith, nat_tests) in opened_goes t false 1 s short w (inl refl) (ap is_bracket (e ∙ z)) (let y : s.place + (1 - 1) ≡ s.place = omega arith in ap (λ x. is_bracket (byte_at t x)) y ∙ ap is_bracket (e ∙ z)) h
     by false true closing angle p q c a = let z : b ≡ 33 = grind (arith, nat_tests) in imaged_goes t s short w (e ∙ z) h
     by false false true angle p q c a = let z : b ≡ 93 = grind (arith, nat_tests) in closed_goes t definitions s short (e ∙ z) h
-    by false false false true p q c a = let z : b ≡ 60 = grind (arith, nat_tests) in angled_goes t ahead.ends s short w (not_white t s.place 60 (e ∙ z) refl) (omega (arith, e)) h
-    by false false false false p q c a = mark_goes t ahead.ticks b s short w r e h
+    by false false false true p q c a = let z : b ≡ 60 = grind (arith, nat_tests) in angled_goes t ahead.ends s short w (ends_known t s.place w (e ∙ z) ∙ sym (known.1)) (not_white t s.place 60 (e ∙ z) refl) (omega (arith, e)) h
+    by false false false false p q c a = mark_goes t ahead.ticks b s (known.0) short w r e h
 
 -- the pass at a place
 abbrev pub At : List ℕ → ℕ → State → Type 0
 At t p s = (s.place ≡ p) × Stands t (max p s.resume) s
 
-step_goes : (t : List ℕ) (ahead : Known) (definitions : List ℕ → Option Entry) (p : ℕ) (s : State) (b : ℕ) → length t < 2 ^ 64 - 1 → p < length t → byte_at t p ≡ b → At t p s → At t (suc p) (scan_step_in CORE t ahead definitions s b)
+step_goes : (t : List ℕ) (ahead : Known) (definitions : List ℕ → Option Entry) (p : ℕ) (s : State) (b : ℕ) → Foreseen t ahead → length t < 2 ^ 64 - 1 → p < length t → byte_at t p ≡ b → At t p s → At t (suc p) (scan_step_in CORE t ahead definitions s b)
 unfolding scan_step_in looked_in is_tilde_in is_caret_in is_dollar_in is_note_end_in
-step_goes t ahead definitions p s b short w e (q, h) = by (is_mark_in CORE b) (nat_le s.resume s.place) refl
+step_goes t ahead definitions p s b known short w e (q, h) = by (is_mark_in CORE b) (nat_le s.resume s.place) refl
   where
     next : (u : State) → Goes t p u → (plus u.place 1 ≡ suc p) × Stands t (max (suc p) u.resume) u
     next u (x, k) = (omega arith, k)
 
     looks : s.resume ≤ s.place → Goes t p (looked t ahead definitions b s)
-    looks r = subst (λ x. Goes t x (looked t ahead definitions b s)) q (looked_goes t ahead definitions b s short (omega arith) r (ap (byte_at t) q ∙ e) (fine_more t (max p s.resume) s.place s.roles s.runs s.brackets (omega arith) h))
+    looks r = subst (λ x. Goes t x (looked t ahead definitions b s)) q (looked_goes t ahead definitions b s known short (omega arith) r (ap (byte_at t) q ∙ e) (fine_more t (max p s.resume) s.place s.roles s.runs s.brackets (omega arith) h))
 
     by : (m k : Bool) → nat_le s.resume s.place ≡ k → At t (suc p) (record (if m && k then looked_in CORE t ahead definitions b s else s) { place = plus (if m && k then looked_in CORE t ahead definitions b s else s).place 1 })
     by true true r = next (looked t ahead definitions b s) (looks (let l : s.resume ≤ s.place = grind (arith, nat_tests) in l))
     by true false r = next s (q, fine_more t (max p s.resume) (max (suc p) s.resume) s.roles s.runs s.brackets (omega arith) h)
     by false k r = next s (q, fine_more t (max p s.resume) (max (suc p) s.resume) s.roles s.runs s.brackets (omega arith) h)
 
-steps_go : (t : List ℕ) (ahead : Known) (definitions : List ℕ → Option Entry) (p : ℕ) (bs : List ℕ) (s : State) → length t < 2 ^ 64 - 1 → p + length bs ≤ length t → ((j b : ℕ) → slice_get bs j ≡ Some b → byte_at t (p + j) ≡ b) → At t p s → At t (p + length bs) (fold (scan_step_in CORE t ahead definitions) s bs)
-steps_go t ahead definitions p [] s short w e h = let n : p ≡ p + 0 = omega arith in subst (λ x. At t x s) n h
-steps_go t ahead definitions p (b ∷ bs) s short w e h = let n : suc p + length bs ≡ p + suc (length bs) = omega arith in subst (λ x. At t x (fold (scan_step_in CORE t ahead definitions) (scan_step_in CORE t ahead definitions s b) bs)) n
-    (steps_go t ahead definitions (suc p) bs (scan_step_in CORE t ahead definitions s b) short (omega arith) (λ j c g. let q : p + suc j ≡ suc p + j = omega arith in ap (byte_at t) (sym q) ∙ e (suc j) c g)
-    (step_goes t ahead definitions p s b short (omega arith) (let q : p + 0 ≡ p = omega arith in ap (byte_at t) (sym q) ∙ e 0 b refl) h))
+steps_go : (t : List ℕ) (ahead : Known) (definitions : List ℕ → Option Entry) (p : ℕ) (bs : List ℕ) (s : State) → Foreseen t ahead → length t < 2 ^ 64 - 1 → p + length bs ≤ length t → ((j b : ℕ) → slice_get bs j ≡ Some b → byte_at t (p + j) ≡ b) → At t p s → At t (p + length bs) (fold (scan_step_in CORE t ahead definitions) s bs)
+steps_go t ahead definitions p [] s known short w e h = let n : p ≡ p + 0 = omega arith in subst (λ x. At t x s) n h
+steps_go t ahead definitions p (b ∷ bs) s known short w e h = let n : suc p + length bs ≡ p + suc (length bs) = omega arith in subst (λ x. At t x (fold (scan_step_in CORE t ahead definitions) (scan_step_in CORE t ahead definitions s b) bs)) n
+    (steps_go t ahead definitions (suc p) bs (scan_step_in CORE t ahead definitions s b) known short (omega arith) (λ j c g. let q : p + suc j ≡ suc p + j = omega arith in ap (byte_at t) (sym q) ∙ e (suc j) c g)
+    (step_goes t ahead definitions p s b known short (omega arith) (let q : p + 0 ≡ p = omega arith in ap (byte_at t) (sym q) ∙ e 0 b refl) h))
 
 -- bytes that have no role yet
 abbrev pub AllPlain : List Role → Type 0
@@ -484,7 +501,7 @@ scanned_fine t definitions s short size plain rs bs p q = (max (0 + length t) la
     )
 
     all : At t (0 + length t) last
-    all = steps_go t (ahead_in CORE t) definitions 0 t s short (omega arith) (λ j b e. let z : 0 + j ≡ j = omega arith in ap (byte_at t) z ∙ got j b e) first
+    all = steps_go t (ahead_in CORE t) definitions 0 t s (refl, refl) short (omega arith) (λ j b e. let z : 0 + j ≡ j = omega arith in ap (byte_at t) z ∙ got j b e) first
       where
         got : (j b : ℕ) → slice_get t j ≡ Some b → byte_at t j ≡ b
         got j b e = ap (λ o. unwrap_or o 10) e

@@ -18,7 +18,7 @@ byte_within [] x b e n = absurd (true≢false (ap (λ c. c == 10) e ∙ n))
 byte_within (c ∷ cs) zero b e n = omega arith
 byte_within (c ∷ cs) (suc x) b e n = let l : x < length cs = byte_within cs x b e n in omega arith
 
-got_dropped : (p : ℕ) (t : List ℕ) (x : ℕ) → slice_get (drop p t) x ≡ slice_get t (p + x)
+pub got_dropped : (p : ℕ) (t : List ℕ) (x : ℕ) → slice_get (drop p t) x ≡ slice_get t (p + x)
 got_dropped zero t x = let q : x ≡ 0 + x = omega arith in ap (slice_get t) q
 got_dropped (suc p) [] x = refl
 got_dropped (suc p) (c ∷ cs) x = got_dropped p cs x ∙ (let q : suc (p + x) ≡ suc p + x = omega arith in ap (slice_get (c ∷ cs)) q)

@@ -182,7 +182,7 @@ text_started_ready P n x s front b p l r = by (slice_get s.blocks (length s.bloc
     new = record b { start = x }
 
     inner : (k : Bool) → (c : Block) × Ready P n (if k then record s { blocks = slice_set s.blocks (length s.blocks - 1) (record b { start = x }) } else s) front c
-    inner true = (new, record { split = ap (λ (bs : List Block). slice_set bs (length bs - 1) new) r.split ∙ set_last front b new; fits = r.fits; holds = r.holds; pieces = r.pieces; begins = p; within = l })
+    inner true = (new, record { split = ap (λ (bs : List Block). slice_set bs (length bs - 1) new) r.split ∙ set_last front b new; fits = r.fits; holds = r.holds; pieces = r.pieces; begins = p; within = l; plain = r.plain })
     inner false = (b, r)
 
     change : Block → State
@@ -269,6 +269,7 @@ underlined_stands P t level line s front b q g = finished_stands P line.end (rec
     pieces = g.ready.pieces;
     begins = g.ready.begins;
     within = g.ready.within;
+    plain = g.ready.plain;
   };
   stops = q;
   ordered = g.ready.within;
@@ -414,7 +415,7 @@ turned_stands P V t cs line place s turn.Closes k v w h = by (leaf_going_on P li
   where
     by : (front : List Block) × (b : Block) × Going P line.end s front b → Stands P line.end (leaf_finished (record s { end = line.end; line = line.number }))
     by (front, b, g) = finished_stands P line.end (record s { end = line.end; line = line.number }) front b (record {
-      ready = record { split = g.ready.split; fits = g.ready.fits; holds = g.ready.holds; pieces = g.ready.pieces; begins = g.ready.begins; within = g.ready.within };
+      ready = record { split = g.ready.split; fits = g.ready.fits; holds = g.ready.holds; pieces = g.ready.pieces; begins = g.ready.begins; within = g.ready.within; plain = g.ready.plain };
       stops = k.stops;
       ordered = g.ready.within;
       words = λ e. g.ready.pieces;
@@ -438,7 +439,7 @@ touched_stands : (P : ℕ → Type 0) (line : Line) (depth : ℕ) (s : State) �
 unfolding touched
 touched_stands P line depth s q (shut e h) = shut e (h.0, all_touched P (starts s.blocks) depth line.end line.number s.quotes s.opened q (h.1), h.2)
 touched_stands P line depth s q (holding w front b g) = holding w front b (record {
-  ready = record { split = g.ready.split; fits = g.ready.fits; holds = all_touched P (starts front) depth line.end line.number s.quotes s.opened q g.ready.holds; pieces = g.ready.pieces; begins = g.ready.begins; within = g.ready.within };
+  ready = record { split = g.ready.split; fits = g.ready.fits; holds = all_touched P (starts front) depth line.end line.number s.quotes s.opened q g.ready.holds; pieces = g.ready.pieces; begins = g.ready.begins; within = g.ready.within; plain = g.ready.plain };
   stops = g.stops;
   ordered = g.ordered;
   words = g.words;

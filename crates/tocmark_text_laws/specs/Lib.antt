@@ -21,3 +21,4 @@ pub mod InlineOrder
 pub mod LineOrder
 pub mod SourceOrder
 pub mod InlineNest
+pub mod InlinePlaces

@@ -1,6 +1,7 @@
-//! Laws of where the blocks of every text are, that they nest and are in order, and which of them are in which.
+//! Laws of where the blocks and inlines of every text are, that blocks nest and are in order, and which of them are in which.
 
 ghost use Rattle.tocmark_text_laws.specs.Housed.{BlocksAreHoused};
+ghost use Rattle.tocmark_text_laws.specs.InlinePlaces.{EventsAreInPlace, InlinesAreInPlace, ShortEventsAreInPlace};
 ghost use Rattle.tocmark_text_laws.specs.Nested.{BlocksNest};
 ghost use Rattle.tocmark_text_laws.specs.Ordered.{BlocksAreInOrder};
 ghost use Rattle.tocmark_text_laws.specs.Ranges.{BlockEventsAreInPlace, BlocksAreInPlace, LinesAreInPlace};
@@ -37,4 +38,21 @@ pub fn blocks_are_in_order()
 /// else, are directly in lists.
 pub fn blocks_are_housed()
     ensures { BlocksAreHoused }
+{}
+
+/// The range of each inline of a CommonMark leaf is in order, within the text and on boundaries of characters. So a reader
+/// hands it out as it is, and not as 0..0.
+pub fn inlines_are_in_place()
+    ensures { InlinesAreInPlace }
+{}
+
+/// So no range of what `CoreReader` reads becomes 0..0: the range of each block and inline, and of each line of code or
+/// HTML, is handed out as it is. The depth of each block and the length of its text are numbers of 64 bits.
+pub fn events_are_in_place()
+    ensures { EventsAreInPlace }
+{}
+
+/// The same holds of each text of fewer than 2^30 bytes.
+pub fn short_events_are_in_place()
+    ensures { ShortEventsAreInPlace }
 {}
