@@ -122,7 +122,7 @@ bytes_even : (at : ℕ) (s : State) (bs : List ℕ) → Even s → Even (put_byt
 bytes_even at s [] h = h
 bytes_even at s (b ∷ bs) h = bytes_even (plus at 1) (put_byte b at s) bs (byte_even b at s h)
 
-lines_even : (t : List ℕ) (s : State) (ls : List ContentLine) → Even s → Even (fold (put_line t) s ls)
+pub lines_even : (t : List ℕ) (s : State) (ls : List ContentLine) → Even s → Even (fold (put_line t) s ls)
 unfolding put_line
 lines_even t s [] h = h
 lines_even t s (l ∷ ls) h = lines_even t (put_line t s l) ls (put_even 10 l.end l.next (put_bytes l.start s (bytes_between t l.start l.end)) (bytes_even l.start s (bytes_between t l.start l.end) h))

@@ -5,7 +5,6 @@ use Rattle.std.specs.List.{AllByRecursion, fold}
 use Rattle.std.specs.Str.{IsUtf8}
 use Rattle.tocmark_event.specs.View as view
 use Rattle.tocmark_read_scan.specs.Basic.{plus}
-use Rattle.tocmark_read_scan.specs.Content as content
 use Rattle.tocmark_read_scan.specs.declared.syntax.TheConstants.{CORE}
 use Rattle.tocmark_read_page.specs.declared.page.Block.{Block}
 use Rattle.tocmark_read_page.specs.declared.page.BlockKind.{BlockKind}

@@ -10,6 +10,7 @@ use Rattle.tocmark_read_inlines.specs.Write.{State, pushed, flushed_from, flushe
 use Rattle.tocmark_read_inlines.specs.declared.write.InlineKind.TheVariants as item
 use Rattle.tocmark_read_inlines.specs.declared.write.Node.{Node}
 use Rattle.tocmark_text_laws.proofs.Nests.{Nested, Under, Tops, Fits, inner}
+use Rattle.tocmark_text_laws.proofs.TextNodes.{shown_place}
 use Rattle.tocmark_text_laws.proofs.Walks.{skips}
 
 -- an inline among these that is deeper, up to one that isn't, ends where another one ends, or before, and that one ends within a leaf's text of so many bytes
@@ -196,27 +197,6 @@ shown_stands count depth p es r s few caps above e h = by r e caps
     by (role.Single leaf end) e c =
         let m : Node = record { depth = u.depth; item = item.Leaf leaf; start = u.place; end = end } in
         record { here = refl; skip = refl; deep = is; nest = put_nest count depth es u.nodes m is e f.nest f.room; room = room_put count (depth + length es) es u.nodes m (omega (arith, is)) f.room }
-
-flushed_place : (s : State) → (flushed s).place ≡ s.place
-unfolding flushed pushed
-flushed_place s = by s.text
-  where
-    by : (o : Option ℕ) → (flushed_from o s).place ≡ s.place
-    by None = refl
-    by (Some start) = refl
-
-shown_place : (r : Role) (s : State) → (shown r s).place ≡ s.place
-unfolding shown opened closed single pushed
-shown_place role.Plain s = by s.text
-  where
-    by : (o : Option ℕ) → (texted s o).place ≡ s.place
-    by None = refl
-    by (Some start) = refl
-shown_place role.Fresh s = flushed_place s
-shown_place role.Hidden s = flushed_place s
-shown_place (role.Open span end) s = flushed_place s
-shown_place (role.Close end) s = flushed_place s
-shown_place (role.Single leaf end) s = flushed_place s
 
 -- at most one container begins with a byte
 inner_few : (r : Role) (es : List ℕ) → length (inner r es) ≤ suc (length es)

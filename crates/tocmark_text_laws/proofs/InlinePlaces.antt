@@ -1,12 +1,17 @@
 -- The inlines of a CommonMark leaf begin and end at boundaries of characters.
-use Rattle.std.proofs.Common.{◌≡◌, ℕ, suc, ◌+◌, ◌-◌, ◌*◌, ◌^◌, ◌<◌, ◌≤◌, ◌⊎◌, inl, inr, Bool, true, false, if◌then◌else◌, nat_le, List, [], ◌∷◌, ◌++◌, length, map, max, refl, ap, sym, ◌∙◌, subst, arith}
+use Rattle.std.proofs.Common.{◌≡◌, ℕ, suc, ◌+◌, ◌-◌, ◌*◌, ◌^◌, ◌<◌, ◌≤◌, ◌⊎◌, inl, inr, Bool, true, false, if◌then◌else◌, nat_le, List, [], ◌∷◌, ◌++◌, length, map, take, max, min, length-take, refl, ap, sym, ◌∙◌, subst, arith}
 use Rattle.std.specs.Prelude.{slice_get, unwrap_or, Option, Some, None}
 use Rattle.std.specs.List.{AllByRecursion, fold}
 use Rattle.std.specs.Str.{IsUtf8}
 use Rattle.std.proofs.lemmas.Bool.Decides.{nat_tests}
 use Rattle.std.proofs.lemmas.Option.{slice_get_within}
 use Rattle.tocmark_read_scan.specs.Basic.{plus, byte_at}
+use Rattle.tocmark_read_scan.specs.Content.{before_white, joined, content_of}
+use Rattle.tocmark_read_scan.specs.Repeat.{iterated}
+use Rattle.tocmark_read_scan.specs.declared.content.ContentLine.{ContentLine}
 use Rattle.tocmark_read_scan.specs.declared.syntax.TheConstants.{CORE}
+use Rattle.tocmark_read_page.specs.declared.piece.Piece.{Piece}
+use Rattle.tocmark_read_blocks.specs.Blocks.{blocks_in}
 use Rattle.tocmark_read_spans.specs.declared.definitions.Entry.{Entry}
 use Rattle.tocmark_read_spans.specs.declared.role.Role.{Role}
 use Rattle.tocmark_read_spans.specs.declared.role.Role.TheVariants as role
@@ -14,16 +19,19 @@ use Rattle.tocmark_read_inlines.specs.Inlines.{State as Inlines, read_inlines_in
 use Rattle.tocmark_read_inlines.specs.Write.{State, pushed, flushed_from, flushed, opened, closed, single, texted, shown, next_place, role_step, write_start, written, moved}
 use Rattle.tocmark_read_inlines.specs.declared.write.InlineKind.TheVariants as item
 use Rattle.tocmark_read_inlines.specs.declared.write.Node.{Node}
-use Rattle.tocmark_text_laws.specs.InlinePlaces.{InlinesAreInPlace}
+use Rattle.tocmark_reader.specs.Pages.{content_line, pieces_of}
+use Rattle.tocmark_text_laws.specs.InlinePlaces.{last_of, LiesIn, InlinesAreInPlace, InlinesLieInTheirLines}
 use Rattle.tocmark_text_laws.specs.Ranges.{IsInPlace}
 use Rattle.tocmark_text_laws.specs.SourceOrder.{leaf_of}
 use Rattle.tocmark_text_laws.proofs.Alls.{all_both}
+use Rattle.tocmark_text_laws.proofs.Contents.{lines_even, places_count}
 use Rattle.tocmark_text_laws.proofs.InPlace.{At, in_place}
-use Rattle.tocmark_text_laws.proofs.LeafPlaces.{Leads, IsMapped}
+use Rattle.tocmark_text_laws.proofs.LeafPlaces.{Leads, IsMapped, Rising, last_line, leaf_between}
 use Rattle.tocmark_text_laws.proofs.LinkEnds.{Ended}
 use Rattle.tocmark_text_laws.proofs.Scans.{Mark}
 use Rattle.tocmark_text_laws.proofs.SourceNest.{core_roles, core_count, core_marked, leaf_count, got_byte}
-use Rattle.tocmark_text_laws.proofs.SourceOrder.{some_mapped, got_place}
+use Rattle.tocmark_text_laws.proofs.SourceOrder.{some_rising, some_mapped, got_place}
+use Rattle.tocmark_text_laws.proofs.TextNodes.{shown_place}
 
 -- a place at which a character begins, or the text ends
 abbrev Stop : List ℕ → ℕ → Type 0
@@ -134,27 +142,6 @@ skipped_stands bytes p s low h = record { here = refl; nodes = h.nodes; ready = 
     by None c = let q : max p s.resume ≡ max (suc p) s.resume = omega arith in subst (Cut bytes) q c
     by (Some start) (c, l) = (c, omega arith)
 
-flushed_place : (s : State) → (flushed s).place ≡ s.place
-unfolding flushed pushed
-flushed_place s = by s.text
-  where
-    by : (o : Option ℕ) → (flushed_from o s).place ≡ s.place
-    by None = refl
-    by (Some start) = refl
-
-shown_place : (r : Role) (s : State) → (shown r s).place ≡ s.place
-unfolding shown opened closed single pushed
-shown_place role.Plain s = by s.text
-  where
-    by : (o : Option ℕ) → (texted s o).place ≡ s.place
-    by None = refl
-    by (Some start) = refl
-shown_place role.Fresh s = flushed_place s
-shown_place role.Hidden s = flushed_place s
-shown_place (role.Open span end) s = flushed_place s
-shown_place (role.Close end) s = flushed_place s
-shown_place (role.Single leaf end) s = flushed_place s
-
 run_fits : (bytes : List ℕ) (p : ℕ) (rs : List Role) (s : State) → Follows bytes → p + length rs ≡ length bytes → length bytes < 2 ^ 64 - 1 → ((i : ℕ) (r : Role) → slice_get rs i ≡ Some r → Mark bytes (p + i) r) → Stands bytes p s → AllFit bytes (flushed (fold role_step s rs)).nodes
 unfolding role_step
 run_fits bytes p [] s f all short m h = (flushed_fits bytes p s (omega arith) (λ c e. absurd (let w : p < length bytes = slice_get_within bytes p c e in omega arith)) h).0
@@ -231,3 +218,51 @@ core_placed t first last depth definitions s u small short none = subst (λ ns. 
 
 pub inlines_placed : InlinesAreInPlace
 inlines_placed t first last depth definitions s u small short = core_placed t first last depth definitions (record s { nodes = [] }) u small short refl
+
+-- the lines of a leaf
+
+no_bytes : (t : List ℕ) → length (content_of t []).bytes ≡ 0
+unfolding content_of
+no_bytes t = let z : length (take (iterated (before_white []) 0 0) []) ≡ min (iterated (before_white []) 0 0) 0 = length-take {A = ℕ} (iterated (before_white []) 0 0) [] in omega arith
+
+last_ends : (p : Piece) (ps : List Piece) → (last_line (content_line p) (map content_line ps)).end ≡ (last_of p ps).end
+unfolding content_line
+last_ends p [] = refl
+last_ends p (q ∷ qs) = last_ends q qs
+
+one_lies : (t : List ℕ) (ps : List Piece) (n : Node) → IsUtf8 t → length t + 1 < 2 ^ 64 → Rising t 0 (map content_line ps) → Fits (content_of t (map content_line ps)).bytes n → LiesIn ps (moved (content_of t (map content_line ps)).places n)
+unfolding moved content_line
+one_lies t [] n u short r f = absurd (let z : length (content_of t []).bytes ≡ 0 = no_bytes t in let a : n.start < n.end = f.filled in let b : n.end ≤ length (content_of t []).bytes = f.within in omega arith)
+one_lies t (p ∷ ps) n u short r f = by (got_place places n.start (omega (arith, some, within, same))) (got_place places (n.end - 1) (omega (arith, some, within, same)))
+  where
+    ls : List ContentLine
+    ls = map content_line ps
+
+    places : List (ℕ × ℕ)
+    places = (content_of t (content_line p ∷ ls)).places
+
+    some : n.start < n.end
+    some = f.filled
+
+    within : n.end ≤ length (content_of t (content_line p ∷ ls)).bytes
+    within = f.within
+
+    same : length (content_of t (content_line p ∷ ls)).bytes ≡ length places
+    same = places_count t (content_line p ∷ ls)
+
+    even : length (joined t (content_line p ∷ ls)).bytes ≡ length (joined t (content_line p ∷ ls)).places
+    even = lines_even t (record { bytes = []; places = [] }) (content_line p ∷ ls) refl
+
+    by : (x : ℕ × ℕ) × (slice_get places n.start ≡ Some x) → (y : ℕ × ℕ) × (slice_get places (n.end - 1) ≡ Some y) → (p.start ≤ (unwrap_or (slice_get places n.start) (0, 0)).0) × ((unwrap_or (slice_get places (n.end - 1)) (0, 0)).1 ≤ (last_of p ps).end)
+    by (x, e) (y, g) = rw (e, g) ((leaf_between t (content_line p) ls n.start x u short r even e).0, subst (λ m. y.1 ≤ m) (last_ends p ps) ((leaf_between t (content_line p) ls (n.end - 1) y u short r even g).1))
+
+all_lie : (t : List ℕ) (ps : List Piece) (ns : List Node) → IsUtf8 t → length t + 1 < 2 ^ 64 → Rising t 0 (map content_line ps) → AllFit (content_of t (map content_line ps)).bytes ns → AllByRecursion (LiesIn ps) (map (moved (content_of t (map content_line ps)).places) ns)
+all_lie t ps [] u short r f = tt
+all_lie t ps (n ∷ ns) u short r f = (one_lies t ps n u short r (f.0), all_lie t ps ns u short r (f.1))
+
+pub inlines_lie : InlinesLieInTheirLines
+unfolding read_inlines_in
+inlines_lie t first last depth definitions s u small short = all_lie t (pieces_of (blocks_in CORE t).pieces first last) (written (core_roles bytes definitions s) depth) u (omega arith) (some_rising t first last u small) (core_fits bytes depth definitions s (some_mapped t first last u small).ascii short)
+  where
+    bytes : List ℕ
+    bytes = (leaf_of t first last).bytes

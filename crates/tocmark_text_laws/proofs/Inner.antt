@@ -17,6 +17,7 @@ use Rattle.tocmark_read_inlines.specs.declared.write.Node.{Node}
 use Rattle.tocmark_text_laws.specs.Inside.{InlinesStayInside}
 use Rattle.tocmark_text_laws.proofs.Alls.{all_both}
 use Rattle.tocmark_text_laws.proofs.RoleCounts.{copies, roles_count}
+use Rattle.tocmark_text_laws.proofs.TextNodes.{shown_place}
 use Rattle.tocmark_text_laws.proofs.Walks.{Safe, skips, opens, Ends}
 use Rattle.tocmark_text_laws.proofs.Steps.{scanned_safe}
 
@@ -77,27 +78,6 @@ shown_stands depth p d r s few e h = by r e
     by (role.Open span end) e = record { here = refl; skip = then_skip; open_ = omega (arith, is); nodes = one_more depth u.nodes (record { depth = u.depth; item = item.Span span; start = u.place; end = end }) (omega (arith, is)) f.nodes }
     by (role.Close end) e = record { here = refl; skip = refl; open_ = omega (arith, is, e); nodes = f.nodes }
     by (role.Single leaf end) e = record { here = refl; skip = refl; open_ = is; nodes = one_more depth u.nodes (record { depth = u.depth; item = item.Leaf leaf; start = u.place; end = end }) (omega (arith, is)) f.nodes }
-
-flushed_place : (s : State) → (flushed s).place ≡ s.place
-unfolding flushed pushed
-flushed_place s = by s.text
-  where
-    by : (o : Option ℕ) → (flushed_from o s).place ≡ s.place
-    by None = refl
-    by (Some start) = refl
-
-shown_place : (r : Role) (s : State) → (shown r s).place ≡ s.place
-unfolding shown opened closed single pushed
-shown_place role.Plain s = by s.text
-  where
-    by : (o : Option ℕ) → (texted s o).place ≡ s.place
-    by None = refl
-    by (Some start) = refl
-shown_place role.Fresh s = flushed_place s
-shown_place role.Hidden s = flushed_place s
-shown_place (role.Open span end) s = flushed_place s
-shown_place (role.Close end) s = flushed_place s
-shown_place (role.Single leaf end) s = flushed_place s
 
 -- at most one container begins with a byte
 opens_few : (r : Role) (d : ℕ) → opens r d ≤ suc d

@@ -1,20 +1,21 @@
 -- Where the bytes of a leaf's text are in the source: in order, and on boundaries of characters where characters begin and end.
-use Rattle.std.proofs.Common.{◌≡◌, ℕ, zero, suc, ◌+◌, ◌-◌, ◌^◌, ◌<◌, ◌≤◌, ◌⊎◌, inl, inr, Bool, true, false, ◌==◌, ◌||◌, ◌&&◌, if◌then◌else◌, nat_lt, nat_le, List, [], ◌∷◌, ◌++◌, length, take, drop, refl, ap, sym, ◌∙◌, subst, arith, true≢false, min, length-take}
-use Rattle.std.specs.Prelude.{slice_get, slice_index, slice_range, Some}
+use Rattle.std.proofs.Common.{◌≡◌, ℕ, zero, suc, ◌+◌, ◌-◌, ◌^◌, ◌<◌, ◌≤◌, ◌⊎◌, inl, inr, Bool, true, false, ◌==◌, ◌||◌, ◌&&◌, if◌then◌else◌, nat_lt, nat_le, List, [], ◌∷◌, ◌++◌, length, take, drop, refl, ap, sym, ◌∙◌, subst, arith, true≢false, min, length-append, length-take}
+use Rattle.std.specs.Prelude.{slice_get, slice_index, slice_range, Some, None}
 use Rattle.std.specs.List.{fold}
 use Rattle.std.specs.Str.{IsUtf8, IsCharBoundary}
 use Rattle.std.proofs.lemmas.Bool.Decides.{nat_tests}
 use Rattle.std.proofs.lemmas.List.{length-drop}
 use Rattle.std.proofs.lemmas.Option.{get_or_from_slice_get, slice_get_within}
 use Rattle.std.proofs.lemmas.Str.{IsCharBoundary-start, IsCharBoundary-after_ascii}
-use Rattle.tocmark_read_scan.specs.Basic.{plus, bytes_between}
+use Rattle.tocmark_read_scan.specs.Basic.{plus, byte_at, bytes_between}
 use Rattle.tocmark_read_scan.specs.Class.{is_in}
 use Rattle.tocmark_read_scan.specs.Content.{State, put, put_byte, put_bytes, put_line, joined, before_white, content_of}
-use Rattle.tocmark_read_scan.specs.Repeat.{iterated}
+use Rattle.tocmark_read_scan.specs.Repeat.{going_on, iterated}
 use Rattle.tocmark_read_scan.specs.declared.class.Class.TheVariants.{White}
 use Rattle.tocmark_read_scan.specs.declared.content.ContentLine.{ContentLine}
 use Rattle.tocmark_text_laws.proofs.Alls.{got_front}
 use Rattle.tocmark_text_laws.proofs.KeptLines.{AllWhite, back_white, none_left}
+use Rattle.tocmark_text_laws.proofs.Tokens.{got_dropped}
 
 -- a boundary of characters
 abbrev At : List ℕ → ℕ → Type 0
@@ -204,11 +205,6 @@ abbrev pub Rising : List ℕ → ℕ → List ContentLine → Type 0
 Rising t to [] = Unit
 Rising t to (l ∷ ls) = (to ≤ l.start) × Placed t l × Rising t l.next ls
 
-got_dropped : (p : ℕ) (t : List ℕ) (x : ℕ) → slice_get (drop p t) x ≡ slice_get t (p + x)
-got_dropped zero t x = let q : x ≡ 0 + x = omega arith in ap (slice_get t) q
-got_dropped (suc p) [] x = refl
-got_dropped (suc p) (c ∷ cs) x = got_dropped p cs x ∙ (let q : suc (p + x) ≡ suc p + x = omega arith in ap (slice_get (c ∷ cs)) q)
-
 got_taken : {A : Type 0} (k : ℕ) (xs : List A) (i : ℕ) (x : A) → slice_get (take k xs) i ≡ Some x → slice_get xs i ≡ Some x
 got_taken zero xs i x e = absurd cc
 got_taken (suc k) [] i x e = e
@@ -257,24 +253,25 @@ between_here t a b l m = by (nat_le a b) (nat_le b (length t)) refl refl
     by true false p q = absurd (let w : length t < b = grind (arith, nat_tests) in omega arith)
     by false y p q = absurd (let w : b < a = grind (arith, nat_tests) in omega arith)
 
-line_stands : (t : List ℕ) (to : ℕ) (l : ContentLine) (s : State) → IsUtf8 t → length t + 1 < 2 ^ 64 → to ≤ l.start → At t to → Placed t l → Stands t to s → Stands t l.next (put_line t s l)
-unfolding put_line put
-line_stands t to l s u short o a p h = spread_put t l.end l.next w.bytes w.places 10 (l.end, l.next) follows (record { ordered = p.onto; begins = λ k. p.stops }) (record { starts = p.onto; stops = omega arith; meets = inl refl; ascii = λ k. p.next }) stands
+-- the bytes of a line, without its ending
+abbrev words : List ℕ → State → ContentLine → State
+words t s l = put_bytes l.start s (bytes_between t l.start l.end)
+
+words_stand : (t : List ℕ) (to : ℕ) (l : ContentLine) (s : State) → IsUtf8 t → length t + 1 < 2 ^ 64 → to ≤ l.start → At t to → Placed t l → Stands t to s → Stands t l.end (words t s l)
+words_stand t to l s u short o a p h = subst (λ n. Stands t n (words t s l)) (there.1) (bytes_stand t l.start s (bytes_between t l.start l.end) u (there.0) (omega (arith, within, there.1)) (spread_more t to l.start s.bytes s.places o a p.begins h))
   where
-    bs : List ℕ
-    bs = bytes_between t l.start l.end
-
-    w : State
-    w = put_bytes l.start s bs
-
     within : l.end ≤ length t
     within = (p.stops).0
 
-    there : Here t l.start bs × (l.start + length bs ≡ l.end)
+    there : Here t l.start (bytes_between t l.start l.end) × (l.start + length (bytes_between t l.start l.end) ≡ l.end)
     there = between_here t l.start l.end p.ordered within
 
-    stands : Stands t l.end w
-    stands = subst (λ n. Stands t n w) (there.1) (bytes_stand t l.start s bs u (there.0) (omega (arith, within, there.1)) (spread_more t to l.start s.bytes s.places o a p.begins h))
+line_stands : (t : List ℕ) (to : ℕ) (l : ContentLine) (s : State) → IsUtf8 t → length t + 1 < 2 ^ 64 → to ≤ l.start → At t to → Placed t l → Stands t to s → Stands t l.next (put_line t s l)
+unfolding put_line put
+line_stands t to l s u short o a p h = spread_put t l.end l.next w.bytes w.places 10 (l.end, l.next) follows (record { ordered = p.onto; begins = λ k. p.stops }) (record { starts = p.onto; stops = omega arith; meets = inl refl; ascii = λ k. p.next }) (words_stand t to l s u short o a p h)
+  where
+    w : State
+    w = words t s l
 
     follows : (b : ℕ) (q : ℕ × ℕ) → Last t l.end b q → Follows t b q 10 (l.end, l.next)
     follows b q m = record {
@@ -377,56 +374,56 @@ pub record IsMapped (t : List ℕ) (bytes : List ℕ) (places : List (ℕ × ℕ
   pub ascii : (i b c : ℕ) → slice_get bytes i ≡ Some b → b < 128 → slice_get bytes (suc i) ≡ Some c → Leads c
   pub first : (p : ℕ × ℕ) → slice_get places 0 ≡ Some p → At t p.0
 
--- the first range begins at a boundary
-abbrev Begun : List ℕ → State → Type 0
-Begun t s = (p : ℕ × ℕ) × (slice_get s.places 0 ≡ Some p) × At t p.0
+-- the first range begins at a place of a set
+abbrev Begun : (ℕ → Type 0) → State → Type 0
+Begun P s = (p : ℕ × ℕ) × (slice_get s.places 0 ≡ Some p) × P p.0
 
-put_begun : (t : List ℕ) (b start end : ℕ) (s : State) → Begun t s → Begun t (put b start end s)
+put_begun : (P : ℕ → Type 0) (b start end : ℕ) (s : State) → Begun P s → Begun P (put b start end s)
 unfolding put
-put_begun t b start end s (p, e, a) = (p, got_front s.places ((start, end) ∷ []) 0 p e, a)
+put_begun P b start end s (p, e, a) = (p, got_front s.places ((start, end) ∷ []) 0 p e, a)
 
-byte_begun : (t : List ℕ) (b at : ℕ) (s : State) → Begun t s → Begun t (put_byte b at s)
+byte_begun : (P : ℕ → Type 0) (b at : ℕ) (s : State) → Begun P s → Begun P (put_byte b at s)
 unfolding put_byte
-byte_begun t b at s h = by (b == 0)
+byte_begun P b at s h = by (b == 0)
   where
     next : ℕ
     next = plus at 1
 
-    by : (x : Bool) → Begun t (if x then put 0xBD at next (put 0xBF at next (put 0xEF at next s)) else put b at next s)
-    by true = put_begun t 0xBD at next (put 0xBF at next (put 0xEF at next s)) (put_begun t 0xBF at next (put 0xEF at next s) (put_begun t 0xEF at next s h))
-    by false = put_begun t b at next s h
+    by : (x : Bool) → Begun P (if x then put 0xBD at next (put 0xBF at next (put 0xEF at next s)) else put b at next s)
+    by true = put_begun P 0xBD at next (put 0xBF at next (put 0xEF at next s)) (put_begun P 0xBF at next (put 0xEF at next s) (put_begun P 0xEF at next s h))
+    by false = put_begun P b at next s h
 
-bytes_begun : (t : List ℕ) (at : ℕ) (s : State) (bs : List ℕ) → Begun t s → Begun t (put_bytes at s bs)
-bytes_begun t at s [] h = h
-bytes_begun t at s (b ∷ bs) h = bytes_begun t (plus at 1) (put_byte b at s) bs (byte_begun t b at s h)
+bytes_begun : (P : ℕ → Type 0) (at : ℕ) (s : State) (bs : List ℕ) → Begun P s → Begun P (put_bytes at s bs)
+bytes_begun P at s [] h = h
+bytes_begun P at s (b ∷ bs) h = bytes_begun P (plus at 1) (put_byte b at s) bs (byte_begun P b at s h)
 
-lines_begun : (t : List ℕ) (s : State) (ls : List ContentLine) → Begun t s → Begun t (fold (put_line t) s ls)
+lines_begun : (P : ℕ → Type 0) (t : List ℕ) (s : State) (ls : List ContentLine) → Begun P s → Begun P (fold (put_line t) s ls)
 unfolding put_line
-lines_begun t s [] h = h
-lines_begun t s (l ∷ ls) h = lines_begun t (put_line t s l) ls (put_begun t 10 l.end l.next (put_bytes l.start s (bytes_between t l.start l.end)) (bytes_begun t l.start s (bytes_between t l.start l.end) h))
+lines_begun P t s [] h = h
+lines_begun P t s (l ∷ ls) h = lines_begun P t (put_line t s l) ls (put_begun P 10 l.end l.next (put_bytes l.start s (bytes_between t l.start l.end)) (bytes_begun P l.start s (bytes_between t l.start l.end) h))
 
 -- no byte yet
 abbrev nothing : State
 nothing = record { bytes = []; places = [] }
 
-first_begun : (t : List ℕ) (b at : ℕ) → At t at → Begun t (put_byte b at nothing)
+first_begun : (P : ℕ → Type 0) (b at : ℕ) → P at → Begun P (put_byte b at nothing)
 unfolding put_byte put
-first_begun t b at a = by (b == 0)
+first_begun P b at a = by (b == 0)
   where
     next : ℕ
     next = plus at 1
 
-    by : (x : Bool) → Begun t (if x then put 0xBD at next (put 0xBF at next (put 0xEF at next nothing)) else put b at next nothing)
+    by : (x : Bool) → Begun P (if x then put 0xBD at next (put 0xBF at next (put 0xEF at next nothing)) else put b at next nothing)
     by true = ((at, next), refl, a)
     by false = ((at, next), refl, a)
 
-line_begun : (t : List ℕ) (l : ContentLine) → Placed t l → Begun t (put_line t nothing l)
+line_begun : (P : ℕ → Type 0) (t : List ℕ) (l : ContentLine) → P l.start → P l.end → Begun P (put_line t nothing l)
 unfolding put_line put
-line_begun t l p = by (bytes_between t l.start l.end)
+line_begun P t l a e = by (bytes_between t l.start l.end)
   where
-    by : (bs : List ℕ) → Begun t (put 10 l.end l.next (put_bytes l.start nothing bs))
-    by [] = ((l.end, l.next), refl, p.stops)
-    by (b ∷ bs) = put_begun t 10 l.end l.next (put_bytes (plus l.start 1) (put_byte b l.start nothing) bs) (bytes_begun t (plus l.start 1) (put_byte b l.start nothing) bs (first_begun t b l.start p.begins))
+    by : (bs : List ℕ) → Begun P (put 10 l.end l.next (put_bytes l.start nothing bs))
+    by [] = ((l.end, l.next), refl, e)
+    by (b ∷ bs) = put_begun P 10 l.end l.next (put_bytes (plus l.start 1) (put_byte b l.start nothing) bs) (bytes_begun P (plus l.start 1) (put_byte b l.start nothing) bs (first_begun P b l.start a))
 
 -- the text of lines without white space at the end
 pub leaf_mapped : (t : List ℕ) (ls : List ContentLine) → IsUtf8 t → length t + 1 < 2 ^ 64 → Rising t 0 ls → IsMapped t (content_of t ls).bytes (content_of t ls).places
@@ -445,12 +442,12 @@ leaf_mapped t ls u short r = by (lines_stand t 0 ls nothing u short (IsCharBound
     first : (p : ℕ × ℕ) → slice_get all.places 0 ≡ Some p → At t p.0
     first p e = lines ls r e
       where
-        same : (s : State) → Begun t s → slice_get s.places 0 ≡ Some p → At t p.0
+        same : (s : State) → Begun (At t) s → slice_get s.places 0 ≡ Some p → At t p.0
         same s (q, f, a) g = let w : Some q ≡ Some p = sym f ∙ g in let v : q ≡ p = cc in subst (λ (x : ℕ × ℕ). At t x.0) v a
 
         lines : (ms : List ContentLine) → Rising t 0 ms → slice_get (fold (put_line t) nothing ms).places 0 ≡ Some p → At t p.0
         lines [] r g = absurd cc
-        lines (m ∷ ms) (o, q, r) g = same (fold (put_line t) (put_line t nothing m) ms) (lines_begun t (put_line t nothing m) ms (line_begun t m q)) g
+        lines (m ∷ ms) (o, q, r) g = same (fold (put_line t) (put_line t nothing m) ms) (lines_begun (At t) t (put_line t nothing m) ms (line_begun (At t) t m q.begins q.stops)) g
 
     by : Ended t all → IsMapped t (take end all.bytes) (take end all.places)
     by (to, a, h) = record {
@@ -475,3 +472,104 @@ leaf_mapped t ls u short r = by (lines_stand t 0 ls nothing u short (IsCharBound
             cases : (x : Bool) → nat_lt (suc i) end ≡ x → Leads c
             cases true e = let w : suc i < end = grind (arith, nat_tests) in k c (taken_got end all.bytes (suc i) c w f)
             cases false e = let w : end ≤ suc i = grind (arith, nat_tests) in let q : end ≡ suc i = omega arith in white_leads c (dropped_white all.bytes end c white (ap (slice_get all.bytes) q ∙ f))
+
+-- all ranges end before the next byte's place
+spread_low : (t : List ℕ) (to : ℕ) (bs : List ℕ) (ps : List (ℕ × ℕ)) (i : ℕ) (p : ℕ × ℕ) → Spread t to bs ps → slice_get ps i ≡ Some p → p.1 ≤ to
+spread_low t to bs [] i p h e = absurd cc
+spread_low t to [] (q ∷ ps) i p h e = absurd h
+spread_low t to (b ∷ []) (q ∷ []) zero p (x, y, z) e = let w : q ≡ p = cc in subst (λ (r : ℕ × ℕ). r.1 ≤ to) w y.stops
+spread_low t to (b ∷ []) (q ∷ r ∷ ps) zero p (x, y, z) e = absurd y
+spread_low t to (b ∷ c ∷ bs) (q ∷ []) zero p (x, y, z) e = absurd y
+spread_low t to (b ∷ c ∷ bs) (q ∷ r ∷ ps) zero p (x, y, z) e = let w : q ≡ p = cc in let k : r.1 ≤ to = spread_low t to (c ∷ bs) (r ∷ ps) 0 r z refl in let m : q.1 ≤ r.1 = y.stops in subst (λ (s : ℕ × ℕ). s.1 ≤ to) w (omega arith)
+spread_low t to (b ∷ bs) (q ∷ ps) (suc i) p h e = spread_low t to bs ps i p (h.2) e
+
+got_before : {A : Type 0} (xs : List A) (y : A) (i : ℕ) (x : A) → i < length xs → slice_get (xs ++ y ∷ []) i ≡ Some x → slice_get xs i ≡ Some x
+got_before [] y i x l e = absurd (omega arith)
+got_before (z ∷ zs) y zero x l e = e
+got_before (z ∷ zs) y (suc i) x l e = got_before zs y i x (omega arith) e
+
+got_end : (xs : List ℕ) (y : ℕ) → byte_at (xs ++ y ∷ []) (length xs) ≡ y
+got_end [] y = refl
+got_end (x ∷ xs) y = got_end xs y
+
+-- the last of lines
+abbrev pub last_line : ContentLine → List ContentLine → ContentLine
+last_line l [] = l
+last_line l (m ∷ ms) = last_line m ms
+
+-- lines that are joined end with a line feed, before which no range ends after the last line
+record Closes (stop : ℕ) (s : State) : Type 0 where
+  before : (i : ℕ) (p : ℕ × ℕ) → suc i < length s.places → slice_get s.places i ≡ Some p → p.1 ≤ stop
+  some : 0 < length s.bytes
+  feed : byte_at s.bytes (length s.bytes - 1) ≡ 10
+
+lines_close : (t : List ℕ) (to : ℕ) (l : ContentLine) (ls : List ContentLine) (s : State) → IsUtf8 t → length t + 1 < 2 ^ 64 → At t to → Rising t to (l ∷ ls) → Stands t to s → Closes (last_line l ls).end (fold (put_line t) s (l ∷ ls))
+unfolding put_line put
+lines_close t to l [] s u short a (o, p, r) h = record {
+  before = λ i q k e. spread_low t l.end w.bytes w.places i q (words_stand t to l s u short o a p h) (got_before w.places (l.end, l.next) i q (let z : length (w.places ++ (l.end, l.next) ∷ []) ≡ length w.places + 1 = length-append w.places ((l.end, l.next) ∷ []) in omega arith) e);
+  some = let z : length (w.bytes ++ 10 ∷ []) ≡ length w.bytes + 1 = length-append w.bytes (10 ∷ []) in omega arith;
+  feed = let z : length (w.bytes ++ 10 ∷ []) ≡ length w.bytes + 1 = length-append w.bytes (10 ∷ []) in let y : length w.bytes ≡ length (w.bytes ++ 10 ∷ []) - 1 = omega arith in subst (λ n. byte_at (w.bytes ++ 10 ∷ []) n ≡ 10) y (got_end w.bytes 10);
+}
+  where
+    w : State
+    w = words t s l
+lines_close t to l (m ∷ ms) s u short a (o, p, r) h = lines_close t l.next m ms (put_line t s l) u short p.next r (line_stands t to l s u short o a p h)
+
+back_low : (bs : List ℕ) (n c : ℕ) → iterated (before_white bs) n c ≤ c
+unfolding iterated before_white
+back_low bs zero c = omega arith
+back_low bs (suc n) c = by (nat_lt 0 c && is_in White (byte_at bs (c - 1))) (back_low bs n (c - 1))
+  where
+    by : (x : Bool) → iterated (before_white bs) n (c - 1) ≤ c - 1 → going_on (λ d. iterated (before_white bs) n d) c (if x then Some (c - 1) else None) ≤ c
+    by true k = omega arith
+    by false k = omega arith
+
+feed_white : is_in White 10 ≡ true
+unfolding is_in
+feed_white = refl
+
+-- the line feed at the end is none of a leaf's text
+step_low : (bs : List ℕ) (n : ℕ) → byte_at bs (suc n - 1) ≡ 10 → suc (iterated (before_white bs) (suc n) (suc n)) ≤ suc n
+unfolding iterated before_white
+step_low bs n f = by (nat_lt 0 (suc n)) (is_in White (byte_at bs (suc n - 1))) (let z : nat_lt 0 (suc n) ≡ true = grind (arith, nat_tests) in z) (ap (is_in White) f ∙ feed_white) (back_low bs n (suc n - 1))
+  where
+    by : (x y : Bool) → x ≡ true → y ≡ true → iterated (before_white bs) n (suc n - 1) ≤ suc n - 1 → suc (going_on (λ d. iterated (before_white bs) n d) (suc n) (if x && y then Some (suc n - 1) else None)) ≤ suc n
+    by true true p q k = omega arith
+    by true false p q k = absurd (true≢false (sym q))
+    by false y p q k = absurd (true≢false (sym p))
+
+end_low : (bs : List ℕ) → 0 < length bs → byte_at bs (length bs - 1) ≡ 10 → suc (iterated (before_white bs) (length bs) (length bs)) ≤ length bs
+end_low bs some feed = by (length bs) refl
+  where
+    by : (n : ℕ) → length bs ≡ n → suc (iterated (before_white bs) n n) ≤ n
+    by zero e = absurd (omega arith)
+    by (suc n) e = step_low bs n (let q : suc n - 1 ≡ length bs - 1 = omega arith in ap (byte_at bs) q ∙ feed)
+
+-- the bytes of a leaf's text are between where its first line begins and where its last one ends
+pub leaf_between : (t : List ℕ) (l : ContentLine) (ls : List ContentLine) (i : ℕ) (p : ℕ × ℕ) → IsUtf8 t → length t + 1 < 2 ^ 64 → Rising t 0 (l ∷ ls) → length (joined t (l ∷ ls)).bytes ≡ length (joined t (l ∷ ls)).places → slice_get (content_of t (l ∷ ls)).places i ≡ Some p → (l.start ≤ p.0) × (p.1 ≤ (last_line l ls).end)
+unfolding content_of
+leaf_between t l ls i p u short r same e = (low (lines_begun (λ x. l.start ≤ x) t (put_line t nothing l) ls (line_begun (λ x. l.start ≤ x) t l (omega arith) ((r.1).ordered))), closes.before i p (omega (arith, few, ends, same)) got)
+  where
+    all : State
+    all = joined t (l ∷ ls)
+
+    end : ℕ
+    end = iterated (before_white all.bytes) (length all.bytes) (length all.bytes)
+
+    got : slice_get all.places i ≡ Some p
+    got = got_taken end all.places i p e
+
+    few : i < end
+    few = got_few end all.places i p e
+
+    closes : Closes (last_line l ls).end all
+    closes = lines_close t 0 l ls nothing u short (IsCharBoundary-start t u) r tt
+
+    ends : suc end ≤ length all.bytes
+    ends = end_low all.bytes closes.some closes.feed
+
+    low : Begun (λ x. l.start ≤ x) all → l.start ≤ p.0
+    low (q, f, a) = by (lines_stand t 0 (l ∷ ls) nothing u short (IsCharBoundary-start t u) r tt)
+      where
+        by : Ended t all → l.start ≤ p.0
+        by (to, b, h) = let w : q.0 ≤ p.0 = (rise_at t to all.bytes all.places 0 i q p h (omega arith) f got).0 in omega arith

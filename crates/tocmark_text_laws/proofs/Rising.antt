@@ -62,7 +62,7 @@ rise_more : (m n k : ℕ) (ps : List Piece) → n ≤ k → Rise m n ps → Rise
 rise_more m n k [] l h = omega arith
 rise_more m n k (p ∷ ps) l (a, b, c) = (a, b, rise_more p.next n k ps l c)
 
-rise_take : (m n j : ℕ) (ps : List Piece) → Rise m n ps → Rise m n (take j ps)
+pub rise_take : (m n j : ℕ) (ps : List Piece) → Rise m n ps → Rise m n (take j ps)
 rise_take m n zero ps h = rise_ordered m n ps h
 rise_take m n (suc j) [] h = h
 rise_take m n (suc j) (p ∷ ps) (a, b, c) = (a, b, rise_take p.next n j ps c)

@@ -1,5 +1,5 @@
 -- The inlines of a CommonMark leaf nest, and in the source they are in order and nest, too.
-use Rattle.std.proofs.Common.{◌≡◌, ℕ, zero, suc, ◌+◌, ◌-◌, ◌^◌, ◌<◌, ◌≤◌, Bool, true, false, cond, if◌then◌else◌, nat_lt, nat_le, List, [], ◌∷◌, ◌++◌, length, map, refl, ap, sym, ◌∙◌, subst, arith}
+use Rattle.std.proofs.Common.{◌≡◌, ℕ, zero, suc, ◌+◌, ◌-◌, ◌^◌, ◌<◌, ◌≤◌, Bool, true, false, cond, if◌then◌else◌, nat_lt, nat_le, List, [], ◌∷◌, ◌++◌, length, map, refl, sym, subst, arith}
 use Rattle.std.specs.Prelude.{slice_get, unwrap_or, Option, Some, None}
 use Rattle.std.specs.List.{AllByRecursion, fold}
 use Rattle.std.proofs.lemmas.Bool.Decides.{nat_tests}
@@ -32,6 +32,8 @@ use Rattle.tocmark_text_laws.proofs.RoleCounts.{copies, roles_count}
 use Rattle.tocmark_text_laws.proofs.Scans.{Mark}
 use Rattle.tocmark_text_laws.proofs.SourceOrder.{some_mapped, got_place, begins_after}
 use Rattle.tocmark_text_laws.proofs.Steps.{scanned_nested, scanned_marked}
+use Rattle.tocmark_text_laws.proofs.TextNodes.{shown_place}
+use Rattle.tocmark_text_laws.proofs.TickEnds.{byte_past}
 
 -- the roles of a CommonMark content
 abbrev pub core_start : List ℕ → Inlines → scan.State
@@ -121,34 +123,9 @@ shown_stops bytes (role.Open span end) s m h = one_stops bytes (flushed s).nodes
 shown_stops bytes (role.Close end) s m h = flushed_stops bytes s (m.0) h
 shown_stops bytes (role.Single leaf end) s m h = one_stops bytes (flushed s).nodes (record { depth = (flushed s).depth; item = item.Leaf leaf; start = (flushed s).place; end = end }) (λ e. absurd cc) (flushed_stops bytes s (m.0) h)
 
-flushed_place : (s : State) → (flushed s).place ≡ s.place
-unfolding flushed pushed
-flushed_place s = by s.text
-  where
-    by : (o : Option ℕ) → (flushed_from o s).place ≡ s.place
-    by None = refl
-    by (Some start) = refl
-
-shown_place : (r : Role) (s : State) → (shown r s).place ≡ s.place
-unfolding shown opened closed single pushed
-shown_place role.Plain s = by s.text
-  where
-    by : (o : Option ℕ) → (texted s o).place ≡ s.place
-    by None = refl
-    by (Some start) = refl
-shown_place role.Fresh s = flushed_place s
-shown_place role.Hidden s = flushed_place s
-shown_place (role.Open span end) s = flushed_place s
-shown_place (role.Close end) s = flushed_place s
-shown_place (role.Single leaf end) s = flushed_place s
-
-byte_past : (bytes : List ℕ) → byte_at bytes (length bytes) ≡ 10
-byte_past [] = refl
-byte_past (b ∷ bs) = byte_past bs
-
 run_stops : (bytes : List ℕ) (p : ℕ) (rs : List Role) (s : State) → p + length rs ≡ length bytes → length bytes < 2 ^ 64 - 1 → s.place ≡ p → ((i : ℕ) (r : Role) → slice_get rs i ≡ Some r → Mark bytes (p + i) r) → AllStop bytes s.nodes → AllStop bytes (flushed (fold role_step s rs)).nodes
 unfolding role_step
-run_stops bytes p [] s all short here m h = flushed_stops bytes s (let q : s.place ≡ length bytes = omega arith in let w : byte_at bytes s.place ≡ 10 = ap (byte_at bytes) q ∙ byte_past bytes in omega arith) h
+run_stops bytes p [] s all short here m h = flushed_stops bytes s (let q : s.place ≡ length bytes = omega arith in let w : byte_at bytes s.place ≡ 10 = byte_past bytes s.place (omega arith) in omega arith) h
 run_stops bytes p (r ∷ rs) s all short here m h = by (nat_le s.resume s.place) (λ u e k. run_stops bytes (suc p) rs u (omega arith) short e (λ i x g. let q : p + suc i ≡ suc p + i = omega arith in subst (λ n. Mark bytes n x) q (m (suc i) x g)) k)
   where
     now : Mark bytes s.place r

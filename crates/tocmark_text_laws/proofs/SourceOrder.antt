@@ -1,5 +1,5 @@
 -- The inlines of a leaf begin one after the other in the source.
-use Rattle.std.proofs.Common.{◌≡◌, ℕ, zero, suc, ◌+◌, ◌-◌, ◌*◌, ◌^◌, ◌<◌, ◌≤◌, Bool, true, false, ◌&&◌, if◌then◌else◌, nat_le, List, [], ◌∷◌, length, map, take, drop, refl, ◌∙◌, subst, arith}
+use Rattle.std.proofs.Common.{◌≡◌, ℕ, zero, suc, ◌+◌, ◌-◌, ◌*◌, ◌^◌, ◌<◌, ◌≤◌, Bool, true, false, ◌&&◌, if◌then◌else◌, nat_le, List, [], ◌∷◌, length, map, drop, refl, ◌∙◌, subst, arith}
 use Rattle.std.specs.Prelude.{slice_get, slice_range, unwrap_or, Some}
 use Rattle.std.specs.List.{AllByRecursion}
 use Rattle.std.specs.Str.{IsUtf8}
@@ -18,7 +18,7 @@ use Rattle.tocmark_text_laws.proofs.InPlace.{At, page_shut}
 use Rattle.tocmark_text_laws.proofs.InlineOrder.{inlines_ordered}
 use Rattle.tocmark_text_laws.proofs.LeafPlaces.{Rising, IsMapped, leaf_mapped}
 use Rattle.tocmark_text_laws.proofs.Placed.{Held, Shut}
-use Rattle.tocmark_text_laws.proofs.Rising.{lines_in_order}
+use Rattle.tocmark_text_laws.proofs.Rising.{rise_take, lines_in_order}
 
 -- some lines of leaves come one after the other, too
 rise_drop : (m n j : ℕ) (ps : List Piece) → Rise m n ps → Rise 0 n (drop j ps)
@@ -27,20 +27,11 @@ rise_drop m n zero (p ∷ ps) h = (omega arith, h.1, h.2)
 rise_drop m n (suc j) [] h = omega arith
 rise_drop m n (suc j) (p ∷ ps) h = rise_drop p.next n j ps (h.2)
 
-rise_up : (m n : ℕ) (ps : List Piece) → Rise m n ps → m ≤ n
-rise_up m n [] h = h
-rise_up m n (p ∷ ps) (a, b, c) = let w : p.next ≤ n = rise_up p.next n ps c in omega arith
-
-rise_front : (m n j : ℕ) (ps : List Piece) → Rise m n ps → Rise m n (take j ps)
-rise_front m n zero ps h = rise_up m n ps h
-rise_front m n (suc j) [] h = h
-rise_front m n (suc j) (p ∷ ps) (a, b, c) = (a, b, rise_front p.next n j ps c)
-
 rise_some : (n : ℕ) (ps : List Piece) (first last : ℕ) → Rise 0 n ps → Rise 0 n (pieces_of ps first last)
 rise_some n ps first last h = by (nat_le first last && nat_le last (length ps))
   where
     by : (x : Bool) → Rise 0 n (if x then slice_range ps first last else [])
-    by true = rise_front 0 n (last - first) (drop first ps) (rise_drop 0 n first ps h)
+    by true = rise_take 0 n (last - first) (drop first ps) (rise_drop 0 n first ps h)
     by false = omega arith
 
 -- they are placed as lines of a leaf's text
@@ -49,16 +40,16 @@ unfolding content_line
 lines_placed t m n k [] r h = tt
 lines_placed t m n k (p ∷ ps) (a, b, c) (h, hs) = (a, record { begins = h.begins; stops = h.ends; next = h.stops; ordered = h.forward; onto = h.onto }, lines_placed t p.next n k ps c hs)
 
+pub some_rising : (t : List ℕ) (first last : ℕ) → IsUtf8 t → 4 * length t + 1 < 2 ^ 64 → Rising t 0 (map content_line (pieces_of (blocks_in CORE t).pieces first last))
+unfolding blocks_in
+some_rising t first last u small = by (page_shut t u small)
+  where
+    by : (m : ℕ) × Shut (At t) m (page_in CORE t) → Rising t 0 (map content_line (pieces_of (page_in CORE t).pieces first last))
+    by (m, h) = lines_placed t 0 (length t) m (pieces_of (page_in CORE t).pieces first last) (rise_some (length t) (page_in CORE t).pieces first last (lines_in_order t small)) (some_pieces t m (page_in CORE t).pieces first last (h.2))
+
 -- where the bytes of the lines of a leaf are
 pub some_mapped : (t : List ℕ) (first last : ℕ) → IsUtf8 t → 4 * length t + 1 < 2 ^ 64 → IsMapped t (leaf_of t first last).bytes (leaf_of t first last).places
-unfolding blocks_in
-some_mapped t first last u small = by (page_shut t u small)
-  where
-    rise : Rise 0 (length t) (page_in CORE t).pieces
-    rise = lines_in_order t small
-
-    by : (m : ℕ) × Shut (At t) m (page_in CORE t) → IsMapped t (leaf_of t first last).bytes (leaf_of t first last).places
-    by (m, h) = leaf_mapped t (map content_line (pieces_of (page_in CORE t).pieces first last)) u (omega arith) (lines_placed t 0 (length t) m (pieces_of (page_in CORE t).pieces first last) (rise_some (length t) (page_in CORE t).pieces first last rise) (some_pieces t m (page_in CORE t).pieces first last (h.2)))
+some_mapped t first last u small = leaf_mapped t (map content_line (pieces_of (blocks_in CORE t).pieces first last)) u (omega arith) (some_rising t first last u small)
 
 -- a place of a leaf's text has a range
 pub got_place : (ps : List (ℕ × ℕ)) (i : ℕ) → i < length ps → (p : ℕ × ℕ) × (slice_get ps i ≡ Some p)

@@ -33,7 +33,7 @@ flushed_before m s h = by s.text (h.1)
     by None k = h
     by (Some start) k = (one_more m s.nodes (record { depth = s.depth; item = item.Text; start = start; end = s.place }) (h.0) k, tt)
 
-flushed_place : (s : State) → (flushed s).place ≡ s.place
+pub flushed_place : (s : State) → (flushed s).place ≡ s.place
 unfolding flushed pushed
 flushed_place s = by s.text
   where
@@ -54,7 +54,7 @@ shown_before m (role.Open span end) s k h = (one_more m (flushed s).nodes (recor
 shown_before m (role.Close end) s k h = flushed_before m s h
 shown_before m (role.Single leaf end) s k h = (one_more m (flushed s).nodes (record { depth = (flushed s).depth; item = item.Leaf leaf; start = (flushed s).place; end = end }) ((flushed_before m s h).0) (subst (λ p. p < m) (sym (flushed_place s)) k), (flushed_before m s h).1)
 
-shown_place : (r : Role) (s : State) → (shown r s).place ≡ s.place
+pub shown_place : (r : Role) (s : State) → (shown r s).place ≡ s.place
 unfolding shown opened closed single pushed
 shown_place role.Plain s = by s.text
   where

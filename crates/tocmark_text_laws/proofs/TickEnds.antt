@@ -36,7 +36,7 @@ run_stops t p c short l =
     let q : p + run_length c (drop p t) ≡ plus p (run_length c (drop p t)) = omega arith in
     subst (λ m. is_in c (byte_at t m) ≡ false) q (ap (λ o. is_in c (unwrap_or o 10)) (sym (got_dropped p t (run_length c (drop p t)))) ∙ run_next c (drop p t) n)
 
-byte_past : (t : List ℕ) (p : ℕ) → length t ≤ p → byte_at t p ≡ 10
+pub byte_past : (t : List ℕ) (p : ℕ) → length t ≤ p → byte_at t p ≡ 10
 byte_past [] p l = refl
 byte_past (b ∷ bs) zero l = absurd (omega arith)
 byte_past (b ∷ bs) (suc p) l = byte_past bs p (omega arith)

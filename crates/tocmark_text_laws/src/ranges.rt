@@ -1,7 +1,7 @@
 //! Laws of where the blocks and inlines of every text are, that blocks nest and are in order, and which of them are in which.
 
 ghost use Rattle.tocmark_text_laws.specs.Housed.{BlocksAreHoused};
-ghost use Rattle.tocmark_text_laws.specs.InlinePlaces.{EventsAreInPlace, InlinesAreInPlace, ShortEventsAreInPlace};
+ghost use Rattle.tocmark_text_laws.specs.InlinePlaces.{EventsAreInPlace, InlinesAreInPlace, InlinesLieInTheirLines, ShortEventsAreInPlace};
 ghost use Rattle.tocmark_text_laws.specs.Nested.{BlocksNest};
 ghost use Rattle.tocmark_text_laws.specs.Ordered.{BlocksAreInOrder};
 ghost use Rattle.tocmark_text_laws.specs.Ranges.{BlockEventsAreInPlace, BlocksAreInPlace, LinesAreInPlace};
@@ -55,4 +55,9 @@ pub fn events_are_in_place()
 /// The same holds of each text of fewer than 2^30 bytes.
 pub fn short_events_are_in_place()
     ensures { ShortEventsAreInPlace }
+{}
+
+/// The inlines of a CommonMark leaf lie between where its first line begins and where its last line ends.
+pub fn inlines_lie_in_their_lines()
+    ensures { InlinesLieInTheirLines }
 {}
