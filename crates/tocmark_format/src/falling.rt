@@ -3,8 +3,6 @@
 ghost use Rattle.std.specs.Prelude.{[]};
 ghost use Rattle.tocmark_judge.specs.Summaries.{SumsFirst};
 
-use crate::answer::{Left, Reason};
-use crate::range::Lines;
 use crate::trees::{Places, TreeWalk};
 use std::alloc::{AllocError, Global};
 use tocmark_compare::digest::TreeEnd;
@@ -13,8 +11,7 @@ use tocmark_event::reader::Reading;
 use tocmark_judge::shape::Outline;
 use tocmark_judge::summary::Summary;
 use tocmark_judge::{Judge, PartReader, PartTaker};
-use tocmark_print::blocks::Blocks;
-use tocmark_print::{Ladder, Placed, Source, Step};
+use tocmark_printing::{Blocks, Ladder, Placed, Step};
 
 /// Keeps what a text says that is read back, and where its trees begin.
 #[derive(Drop)]
@@ -168,39 +165,4 @@ pub(crate) fn blocks_apart<R: PartReader>(
         add_apart(&mut apart, blocks, &old, &new)?;
     }
     Ok(apart)
-}
-
-/// The blocks that keep their lines, of those that the lines to format touch.
-pub(crate) fn blocks_left(
-    alloc: Global,
-    source: &Source<'_>,
-    ladder: &Ladder,
-    blocks: &Blocks,
-    asked: Option<Lines>,
-) -> Result<Vec<Left>, AllocError> {
-    let mut all = Vec::new(alloc);
-    let mut place = blocks.first();
-    for _ in 0..blocks.len() {
-        let Some(block) = blocks.take(&mut place) else {
-            break;
-        };
-        let Some(tree) = block.tree else {
-            continue;
-        };
-        let reason = if block.is_outgrown {
-            Reason::Outgrown
-        } else if ladder.step(tree).keeps_lines() {
-            Reason::ReadOtherwise
-        } else {
-            continue;
-        };
-        let lines = Lines::of(source, block);
-        if asked.is_none_or(|asked| asked.touch(lines)) {
-            all.push(Left {
-                lines: (lines.first, lines.last),
-                reason,
-            })?;
-        }
-    }
-    Ok(all)
 }

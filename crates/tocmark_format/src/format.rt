@@ -1,20 +1,20 @@
 //! Formats a document: all of it is printed in one pass and read back; what is read otherwise is printed nearer to the source.
 
-ghost use Rattle.std.specs.Prelude.{◌≡◌, ◌++◌, IfOk, IfSome, IsTrue, map, string_bytes, true};
-ghost use Rattle.std.specs.List.{All};
+ghost use Rattle.std.specs.Prelude.{◌≡◌, ◌≢◌, ◌++◌, [], IfOk, IfSome, IsTrue, None, map, string_bytes, true};
 ghost use Rattle.tocmark_compare.specs.Given.{found_events};
 ghost use Rattle.tocmark_event.specs.declared.event.flags.ParserOptions.{ParserOptions};
+ghost use Rattle.tocmark_format.specs.Formatted.{SaysAsBefore, Tells, TellsOfPlain};
+ghost use Rattle.tocmark_format.specs.Named.{AreInOrder};
+ghost use Rattle.tocmark_format.specs.Plain.{usual_ends};
 ghost use Rattle.tocmark_judge.specs.Alike.{AreAlike};
 ghost use Rattle.tocmark_judge.specs.Letters.{letters};
 ghost use Rattle.tocmark_judge.specs.LinkDefinitions.{link_defined};
 ghost use Rattle.tocmark_judge.specs.Marks.{after_mark, has_mark, mark};
-ghost use Rattle.tocmark_judge.specs.Same.{SaySame};
-ghost use Rattle.tocmark_judge.specs.Shape.{has_same_shape};
 ghost use Rattle.tocmark_judge.specs.Summaries.{Sums, SumsFirst};
-ghost use Rattle.tocmark_print.specs.Fills.{fills};
 
-use crate::answer::{Formatted, Left, Reason};
-use crate::falling::{ReadBack, blocks_apart, blocks_left, fall_all};
+use crate::answer::{Formatted, Left};
+use crate::falling::{ReadBack, blocks_apart, fall_all};
+use crate::named::{blocks_left, one_line};
 use crate::range::{Ends, Lines, Patch, StyledLines, keep_others};
 use crate::trees::Places;
 use std::alloc::{AllocError, Global};
@@ -24,41 +24,73 @@ use tocmark_judge::judge::is_same_text;
 use tocmark_judge::mark::{with_mark, without_mark};
 use tocmark_judge::summary::Summary;
 use tocmark_judge::{Found, Judge, PartReader, PartTaker};
-use tocmark_print::blocks::Blocks;
-use tocmark_print::{Ladder, Printing, Source, Style};
+use tocmark_printing::{Blocks, EventTaker, Events, Ladder, Page, Print};
 
 /// How often a document is printed and read back. If it never reads as its source, it stays as it is.
 const ROUNDS: usize = 4;
 
 /// Formats documents: what reads and compares them, and how they are to look.
 #[derive(Clone, Copy)]
-struct Formatter<'f, R> {
+struct Formatter<'f, R, P> {
     judge: Judge<'f, R>,
-    asked: StyledLines,
+    asked: StyledLines<P>,
 }
 
-/// Prints the trees of the source as they come, and keeps what they say.
+/// The source as its printer gets it: the events that a reader finds. What else is found is what the source says.
+#[derive(Clone, Copy)]
+struct SourceEvents<'e, R> {
+    reader: &'e R,
+    flags: ParserOptions,
+    /// Whether white space is folded in what the source says.
+    folds: bool,
+    text: &'e str,
+}
+
+/// Hands events on, and keeps what they say.
 #[derive(Drop)]
-struct Copying<'d> {
-    printing: Printing<'d>,
+struct Copying<'c, T> {
+    taker: &'c mut T,
     /// What they say.
     said: Summary,
 }
 
-impl PartTaker for Copying<'_> {
+impl<T: EventTaker> PartTaker for Copying<'_, T> {
     ghost has_taken = { λ copying events. SumsFirst copying.said events };
 
     fn take(&mut self, alloc: Global, part: &Reading) -> Result<(), AllocError> {
-        self.printing.add(&part.events)?;
+        self.taker.take_events(&part.events)?;
         self.said.take(alloc, part)
+    }
+}
+
+impl<R: PartReader> Events for SourceEvents<'_, R> {
+    type Found = Found;
+
+    ghost finds = { λ events found. Sums found.says (found_events
+        (R.reading events.reader.now events.text.now events.flags))
+        × (map link_defined found.definitions.items
+        ≡ R.definitions events.reader.now events.text.now events.flags) };
+
+    fn hand_to<T: EventTaker>(&self, alloc: Global, taker: &mut T) -> Result<Found, AllocError> {
+        let mut copying = Copying {
+            taker,
+            said: Summary::new(alloc, self.folds),
+        };
+        let definitions = self
+            .reader
+            .read_parts(alloc, self.text, self.flags, &mut copying)?;
+        let Copying { said, .. } = copying;
+        Ok(Found {
+            says: said,
+            definitions,
+        })
     }
 }
 
 /// A printed document, and what the reader finds in its source.
 #[derive(Drop)]
 struct Printed {
-    text: String,
-    blocks: Blocks,
+    page: Page,
     source: Found,
 }
 
@@ -87,45 +119,37 @@ fn with_line_feeds(alloc: Global, text: &str) -> Result<String, AllocError> {
 
 /// A document that stays as it is, from a line on.
 fn unchanged(alloc: Global, text: &str, line: usize) -> Result<Formatted, AllocError>
-    ensures { IfOk result (λ answer. string_bytes answer.text ≡ text.now) }
+    ensures text { IfOk result (λ answer. string_bytes answer.text ≡ text.now) }
+    ensures ordered { IfOk result (λ answer. AreInOrder 0 answer.left.items) }
+    ensures told { IfOk result (λ answer. answer.left.items ≢ []) }
 {
-    let mut left = Vec::new(alloc);
-    left.push(Left {
-        lines: (line, line),
-        reason: Reason::ReadOtherwise,
-    })?;
+    let left = one_line(alloc, line)?;
     let text = String::from_str(alloc, text)?;
     Ok(Formatted { text, left })
 }
 
-impl<R: PartReader> Formatter<'_, R> {
+impl<R: PartReader, P: Print + Copy> Formatter<'_, R, P> {
     /// Prints a document.
-    fn print(&self, source: &Source<'_>, ladder: &Ladder) -> Result<Printed, AllocError>
+    fn print(&self, text: &str, ladder: &Ladder) -> Result<Printed, AllocError>
         ensures said { IfOk result (λ printed. Sums printed.source.says (found_events
-            (R.reading self.now.judge.reader.now source.now.text.now self.now.judge.flags))) }
+            (R.reading self.now.judge.reader.now text.now self.now.judge.flags))) }
         ensures definitions { IfOk result (λ printed.
             map link_defined printed.source.definitions.items
-            ≡ R.definitions self.now.judge.reader.now source.now.text.now self.now.judge.flags) }
+            ≡ R.definitions self.now.judge.reader.now text.now self.now.judge.flags) }
+        ensures prints { IfOk result (λ printed.
+            P.prints self.now.asked.style text.now ladder.now (string_bytes printed.page.text)) }
     {
-        let mut copying = Copying {
-            printing: Printing::new(self.judge.alloc, source, self.asked.style, ladder),
-            said: Summary::new(self.judge.alloc, self.judge.folds),
-        };
-        let text = source.text;
-        let definitions = self
-            .judge
-            .reader
-            .read_parts(self.judge.alloc, text, self.judge.flags, &mut copying)?;
-        let Copying { printing, said } = copying;
-        let (text, blocks) = printing.end()?;
-        Ok(Printed {
+        let events = SourceEvents {
+            reader: self.judge.reader,
+            flags: self.judge.flags,
+            folds: self.judge.folds,
             text,
-            blocks,
-            source: Found {
-                says: said,
-                definitions,
-            },
-        })
+        };
+        let (page, source) = self
+            .asked
+            .style
+            .print(self.judge.alloc, text, ladder, &events)?;
+        Ok(Printed { page, source })
     }
 
     /// Reads a printed document.
@@ -147,45 +171,45 @@ impl<R: PartReader> Formatter<'_, R> {
     /// Whether a printed document in which the reader finds this reads as its source.
     fn reads_as_source(
         &self,
-        source: &Source<'_>,
+        source: &str,
         printed: &Printed,
         found: &Found,
     ) -> Result<bool, AllocError>
         ensures { IfOk result (λ same. IsTrue same
             → Sums found.now.says (found_events (R.reading self.now.judge.reader.now
-            (string_bytes printed.now.text) self.now.judge.flags))
+            (string_bytes printed.now.page.text) self.now.judge.flags))
             → map link_defined found.now.definitions.items
             ≡ R.definitions self.now.judge.reader.now
-            (string_bytes printed.now.text) self.now.judge.flags
+            (string_bytes printed.now.page.text) self.now.judge.flags
             → Sums printed.now.source.says (found_events
-            (R.reading self.now.judge.reader.now source.now.text.now self.now.judge.flags))
+            (R.reading self.now.judge.reader.now source.now self.now.judge.flags))
             → map link_defined printed.now.source.definitions.items
-            ≡ R.definitions self.now.judge.reader.now source.now.text.now self.now.judge.flags
+            ≡ R.definitions self.now.judge.reader.now source.now self.now.judge.flags
             → AreAlike self.now.judge.folds self.now.judge.flags self.now.judge.also.now
             (R.reading self.now.judge.reader.now) (R.definitions self.now.judge.reader.now)
-            (string_bytes printed.now.text) source.now.text.now) }
+            (string_bytes printed.now.page.text) source.now) }
     {
-        let new = printed.text.as_str();
+        let new = printed.page.text.as_str();
         self.judge
-            .finds_the_same(new, found, source.text, &printed.source)
+            .finds_the_same(new, found, source, &printed.source)
     }
 
     /// Moves each tree that parses differently one step towards the source. False if no step is left.
     fn fall(
         &self,
-        source: &Source<'_>,
+        source: &str,
         ladder: &mut Ladder,
         printed: &Printed,
         back: (&Found, &Places),
     ) -> Result<bool, AllocError> {
-        let new = printed.text.as_str();
-        let apart = blocks_apart(&self.judge, source.text, new, &printed.blocks)?;
+        let new = printed.page.text.as_str();
+        let apart = blocks_apart(&self.judge, source, new, &printed.page.blocks)?;
         let (found, starts) = back;
         let said = (&printed.source.says, &found.says);
         fall_all(
             ladder,
             self.judge.alloc,
-            (&printed.blocks, starts),
+            (&printed.page.blocks, starts),
             said,
             &apart,
         )
@@ -194,43 +218,56 @@ impl<R: PartReader> Formatter<'_, R> {
     /// The answer with a printed document.
     fn answered(
         &self,
-        source: &Source<'_>,
+        source: &str,
         ladder: &Ladder,
         printed: Printed,
     ) -> Result<Option<Answer>, AllocError>
-        ensures { IfOk result (λ answer. IfSome answer (λ answer.
-            string_bytes answer.text ≡ string_bytes printed.text)) }
+        ensures text { IfOk result (λ answer. IfSome answer (λ answer.
+            string_bytes answer.text ≡ string_bytes printed.page.text)) }
+        ensures ordered { IfOk result (λ answer. IfSome answer (λ answer.
+            AreInOrder 0 answer.left.items)) }
+        ensures told { IfOk result (λ answer. IfSome answer (λ answer.
+            P.prints self.now.asked.style source.now ladder.now (string_bytes printed.page.text)
+            → Tells (P.prints self.now.asked.style) self.now.asked.lines answer.left.items
+            source.now (string_bytes answer.text))) }
     {
         let asked = self.asked.lines;
-        let left = blocks_left(self.judge.alloc, source, ladder, &printed.blocks, asked)?;
-        let Printed { text, blocks, .. } = printed;
+        let Printed { page, source: said } = printed;
+        drop(said);
+        let left = blocks_left(self.judge.alloc, source, ladder, &page.blocks, asked)?;
+        let Page { text, blocks } = page;
         Ok(Some(Answer { text, blocks, left }))
     }
 
     /// Where the rounds begin: all trees in the style, or if only some lines are asked for, the others by their lines.
-    fn first_ladder(&self, source: &Source<'_>) -> Result<Ladder, AllocError> {
-        let mut ladder = Ladder::new(self.judge.alloc, source.text)?;
+    fn first_ladder(&self, source: &str) -> Result<Ladder, AllocError> {
+        let mut ladder = Ladder::new(self.judge.alloc, source)?;
         if let Some(lines) = self.asked.lines {
             let printed = self.print(source, &ladder)?;
-            keep_others(&mut ladder, source, &printed.blocks, lines)?;
+            keep_others(&mut ladder, source, &printed.page.blocks, lines)?;
         }
         Ok(ladder)
     }
 
     /// The document that reads as its source, if some round leads there. One that is printed as it was isn't read back.
-    fn rounds(&self, source: &Source<'_>) -> Result<Option<Answer>, AllocError>
-        ensures { IfOk result (λ answer. IfSome answer (λ answer. AreAlike
+    fn rounds(&self, source: &str) -> Result<Option<Answer>, AllocError>
+        ensures alike { IfOk result (λ answer. IfSome answer (λ answer. AreAlike
             self.now.judge.folds self.now.judge.flags self.now.judge.also.now
             (R.reading self.now.judge.reader.now) (R.definitions self.now.judge.reader.now)
-            (string_bytes answer.text) source.now.text.now)) }
+            (string_bytes answer.text) source.now)) }
+        ensures ordered { IfOk result (λ answer. IfSome answer (λ answer.
+            AreInOrder 0 answer.left.items)) }
+        ensures told { IfOk result (λ answer. IfSome answer (λ answer.
+            Tells (P.prints self.now.asked.style) self.now.asked.lines answer.left.items
+            source.now (string_bytes answer.text))) }
     {
         let mut ladder = self.first_ladder(source)?;
         for _ in 0..ROUNDS {
             let printed = self.print(source, &ladder)?;
-            if is_same_text(printed.text.as_str(), source.text) {
+            if is_same_text(printed.page.text.as_str(), source) {
                 return self.answered(source, &ladder, printed);
             }
-            let (found, starts) = self.read_back(printed.text.as_str())?;
+            let (found, starts) = self.read_back(printed.page.text.as_str())?;
             if self.reads_as_source(source, &printed, &found)? {
                 return self.answered(source, &ladder, printed);
             }
@@ -243,13 +280,15 @@ impl<R: PartReader> Formatter<'_, R> {
 
     /// Formats a text whose lines end with line feeds.
     fn format_lines(&self, text: &str) -> Result<Formatted, AllocError>
-        ensures { IfOk result (λ answer. AreAlike
+        ensures alike { IfOk result (λ answer. AreAlike
             self.now.judge.folds self.now.judge.flags self.now.judge.also.now
             (R.reading self.now.judge.reader.now) (R.definitions self.now.judge.reader.now)
             (string_bytes answer.text) text.now) }
+        ensures ordered { IfOk result (λ answer. AreInOrder 0 answer.left.items) }
+        ensures told { IfOk result (λ answer. Tells (P.prints self.now.asked.style)
+            self.now.asked.lines answer.left.items text.now (string_bytes answer.text)) }
     {
-        let source = Source::new(self.judge.alloc, text)?;
-        match self.rounds(&source)? {
+        match self.rounds(text)? {
             Some(Answer { text, left, .. }) => Ok(Formatted { text, left }),
             None => unchanged(self.judge.alloc, text, 1),
         }
@@ -282,10 +321,11 @@ impl<R: PartReader> Formatter<'_, R> {
     /// Formats a text with carriage returns, or one whose lines have to end otherwise than with line feeds. In the answer all
     /// lines end alike.
     fn format_with_returns(&self, text: &str) -> Result<Formatted, AllocError>
-        ensures { IfOk result (λ answer. AreAlike
+        ensures alike { IfOk result (λ answer. AreAlike
             self.now.judge.folds self.now.judge.flags self.now.judge.also.now
             (R.reading self.now.judge.reader.now) (R.definitions self.now.judge.reader.now)
             (string_bytes answer.text) text.now) }
+        ensures ordered { IfOk result (λ answer. AreInOrder 0 answer.left.items) }
     {
         let bare = with_line_feeds(self.judge.alloc, text)?;
         let Formatted { text: lines, left } = self.format_lines(bare.as_str())?;
@@ -302,10 +342,13 @@ impl<R: PartReader> Formatter<'_, R> {
     }
 
     /// A text with some of its lines formatted, if these read as before.
-    fn patched(&self, text: &str, lines: Lines) -> Result<Option<(String, Vec<Left>)>, AllocError> {
+    fn patched(&self, text: &str, lines: Lines) -> Result<Option<(String, Vec<Left>)>, AllocError>
+        ensures { IfOk result (λ patched. IfSome patched (λ patched.
+            AreInOrder 0 patched.1.items)) }
+    {
         let bare = with_line_feeds(self.judge.alloc, text)?;
-        let source = Source::new(self.judge.alloc, bare.as_str())?;
-        let Some(answer) = self.rounds(&source)? else {
+        let source = bare.as_str();
+        let Some(answer) = self.rounds(source)? else {
             return Ok(None);
         };
         let Answer {
@@ -313,7 +356,7 @@ impl<R: PartReader> Formatter<'_, R> {
             blocks,
             left,
         } = answer;
-        let whole = match Patch::of(&source, &blocks, printed.as_str(), lines) {
+        let whole = match Patch::of(source, &blocks, printed.as_str(), lines) {
             Some(patch) => patch.put_in(self.judge.alloc, text, line_ending(text))?,
             None => String::from_str(self.judge.alloc, text)?,
         };
@@ -322,10 +365,11 @@ impl<R: PartReader> Formatter<'_, R> {
 
     /// Formats some lines of a text. All bytes of the blocks that they don't touch stay, and so do the blank lines beside these.
     fn format_some(&self, text: &str, lines: Lines) -> Result<Formatted, AllocError>
-        ensures { IfOk result (λ answer. AreAlike
+        ensures alike { IfOk result (λ answer. AreAlike
             self.now.judge.folds self.now.judge.flags self.now.judge.also.now
             (R.reading self.now.judge.reader.now) (R.definitions self.now.judge.reader.now)
             (string_bytes answer.text) text.now) }
+        ensures ordered { IfOk result (λ answer. AreInOrder 0 answer.left.items) }
     {
         let Some((new, left)) = self.patched(text, lines)? else {
             return unchanged(self.judge.alloc, text, lines.first);
@@ -339,10 +383,14 @@ impl<R: PartReader> Formatter<'_, R> {
 
     /// Formats a text without a byte order mark at its front; one that is there belongs to the text.
     fn format_text(&self, text: &str) -> Result<Formatted, AllocError>
-        ensures { IfOk result (λ answer. AreAlike
+        ensures alike { IfOk result (λ answer. AreAlike
             self.now.judge.folds self.now.judge.flags self.now.judge.also.now
             (R.reading self.now.judge.reader.now) (R.definitions self.now.judge.reader.now)
             (string_bytes answer.text) text.now) }
+        ensures ordered { IfOk result (λ answer. AreInOrder 0 answer.left.items) }
+        ensures told { IfOk result (λ answer. TellsOfPlain (P.prints self.now.asked.style)
+            self.now.asked.lines self.now.asked.ends answer.left.items
+            text.now (string_bytes answer.text)) }
     {
         if let Some(lines) = self.asked.lines {
             self.format_some(text, lines)
@@ -362,6 +410,10 @@ impl<R: PartReader> Formatter<'_, R> {
             self.now.judge.folds self.now.judge.flags self.now.judge.also.now
             (R.reading self.now.judge.reader.now) (R.definitions self.now.judge.reader.now)
             (after_mark (string_bytes answer.text)) text.now) }
+        ensures ordered { IfOk result (λ answer. AreInOrder 0 answer.left.items) }
+        ensures told { IfOk result (λ answer. TellsOfPlain (P.prints self.now.asked.style)
+            self.now.asked.lines self.now.asked.ends answer.left.items
+            text.now (after_mark (string_bytes answer.text))) }
     {
         let Formatted { text: rest, left } = self.format_text(text)?;
         let text = with_mark(self.judge.alloc, rest.as_str())?;
@@ -378,6 +430,10 @@ impl<R: PartReader> Formatter<'_, R> {
             self.now.judge.folds self.now.judge.flags self.now.judge.also.now
             (R.reading self.now.judge.reader.now) (R.definitions self.now.judge.reader.now)
             (after_mark (string_bytes answer.text)) (after_mark text.now)) }
+        ensures ordered { IfOk result (λ answer. AreInOrder 0 answer.left.items) }
+        ensures told { IfOk result (λ answer. TellsOfPlain (P.prints self.now.asked.style)
+            self.now.asked.lines self.now.asked.ends answer.left.items
+            (after_mark text.now) (after_mark (string_bytes answer.text))) }
     {
         match without_mark(text) {
             Some(rest) => self.format_after_mark(rest),
@@ -391,10 +447,11 @@ impl<R: PartReader> Formatter<'_, R> {
 /// block would read otherwise, it is printed in its own spelling; if that doesn't help, it keeps its lines, and the answer
 /// names these and the reason.
 ///
-/// Under these flags the reader finds the same events in the new text as in the old one, if each longest stretch of texts
-/// counts as one (`same`). If the style fills lines, soft breaks count as blanks, and so does each run of white space in a
-/// text. The text also defines the same links, in the same order, used or not (`definitions`). Under each of the flags in
-/// `also` it has the same blocks as before (`also`): what they say is compared under `flags` alone.
+/// This holds for every printer (`says`), and `Style` of `tocmark_print` is one. Under these flags the reader finds the same
+/// events in the new text as in the old one, if each longest stretch of texts counts as one (`same` of `SaysAsBefore`). If the
+/// printer fills lines, soft breaks count as blanks, and so does each run of white space in a text. The text also defines the
+/// same links, in the same order, used or not (`definitions`). Under each of the flags in `also` it has the same blocks as
+/// before (`also`): what they say is compared under `flags` alone.
 ///
 /// A byte order mark at the front is no text: it stays there, and these promises are about what comes after it. The new text
 /// begins with a mark only if the old one does (`mark`).
@@ -402,33 +459,28 @@ impl<R: PartReader> Formatter<'_, R> {
 /// The letters of both texts are the same, in the same order, whatever the reader finds: ASCII letters and all characters past
 /// ASCII (`letters`).
 ///
-/// It fails if memory runs out, or if a line begins after 4 GiB.
+/// The answer names blocks in their order, and none twice (`ordered`). If it names none, the text is what the printer printed
+/// with no tree that keeps its lines (`told`). That clause is for texts without carriage returns.
+///
+/// It fails if memory runs out, or if the printer fails.
 ///
 /// ```
 /// let answer = formatted(alloc, "a\n=\n- b\n", &CoreReader, ParserOptions::empty(), Style::new(), &[])?;
 /// assert_eq!(rt; answer.text.as_str(), "# a\n\n- b\n");
 /// ```
-pub fn formatted<R: PartReader>(
+pub fn formatted<R: PartReader, P: Print + Copy>(
     alloc: Global,
     text: &str,
     reader: &R,
     flags: ParserOptions,
-    style: Style,
+    style: P,
     also: &[ParserOptions],
 ) -> Result<Formatted, AllocError>
-    ensures mark { IfOk result (λ answer.
-        has_mark (string_bytes answer.text) ≡ has_mark text.now) }
-    ensures letters { IfOk result (λ answer.
-        letters (string_bytes answer.text) ≡ letters text.now) }
-    ensures same { IfOk result (λ answer. SaySame (fills style.wrap)
-        (R.reading reader.now (after_mark (string_bytes answer.text)) flags)
-        (R.reading reader.now (after_mark text.now) flags)) }
-    ensures definitions { IfOk result (λ answer.
-        R.definitions reader.now (after_mark (string_bytes answer.text)) flags
-        ≡ R.definitions reader.now (after_mark text.now) flags) }
-    ensures also { IfOk result (λ answer. All (λ flags. has_same_shape
-        (R.reading reader.now (after_mark (string_bytes answer.text)) flags)
-        (R.reading reader.now (after_mark text.now) flags)) also.now) }
+    ensures says { IfOk result (λ answer. SaysAsBefore (P.fills style) flags also.now
+        (R.reading reader.now) (R.definitions reader.now) text.now (string_bytes answer.text)) }
+    ensures ordered { IfOk result (λ answer. AreInOrder 0 answer.left.items) }
+    ensures told { IfOk result (λ answer. TellsOfPlain (P.prints style) None usual_ends
+        answer.left.items (after_mark text.now) (after_mark (string_bytes answer.text))) }
 {
     let asked = StyledLines {
         style,
@@ -442,33 +494,25 @@ pub fn formatted<R: PartReader>(
 /// bytes of the other blocks stay, and so do the blank lines between them and the blocks that are formatted.
 ///
 /// It fails as `formatted` does.
-pub fn formatted_lines<R: PartReader>(
+pub fn formatted_lines<R: PartReader, P: Print + Copy>(
     alloc: Global,
     text: &str,
     reader: &R,
     flags: ParserOptions,
-    asked: StyledLines,
+    asked: StyledLines<P>,
     also: &[ParserOptions],
 ) -> Result<Formatted, AllocError>
-    ensures mark { IfOk result (λ answer.
-        has_mark (string_bytes answer.text) ≡ has_mark text.now) }
-    ensures letters { IfOk result (λ answer.
-        letters (string_bytes answer.text) ≡ letters text.now) }
-    ensures same { IfOk result (λ answer. SaySame (fills asked.style.wrap)
-        (R.reading reader.now (after_mark (string_bytes answer.text)) flags)
-        (R.reading reader.now (after_mark text.now) flags)) }
-    ensures definitions { IfOk result (λ answer.
-        R.definitions reader.now (after_mark (string_bytes answer.text)) flags
-        ≡ R.definitions reader.now (after_mark text.now) flags) }
-    ensures also { IfOk result (λ answer. All (λ flags. has_same_shape
-        (R.reading reader.now (after_mark (string_bytes answer.text)) flags)
-        (R.reading reader.now (after_mark text.now) flags)) also.now) }
+    ensures says { IfOk result (λ answer. SaysAsBefore (P.fills asked.style) flags also.now
+        (R.reading reader.now) (R.definitions reader.now) text.now (string_bytes answer.text)) }
+    ensures ordered { IfOk result (λ answer. AreInOrder 0 answer.left.items) }
+    ensures told { IfOk result (λ answer. TellsOfPlain (P.prints asked.style) asked.lines asked.ends
+        answer.left.items (after_mark text.now) (after_mark (string_bytes answer.text))) }
 {
     let judge = Judge {
         alloc,
         reader,
         flags,
-        folds: asked.style.wrap.fills(),
+        folds: asked.style.fills(),
         also,
     };
     Formatter { judge, asked }.format_document(text)

@@ -1,8 +1,11 @@
 //! Some lines of a document: which blocks they touch, and what comes in the place of these.
 
+ghost use Rattle.std.specs.Prelude.{◌≡◌, ◌==◌};
+ghost use Rattle.std.specs.List.{list_any};
+ghost use Rattle.tocmark_format.specs.Plain.{has_plain_ends, is_line_feed, usual_ends};
+
 use std::alloc::{AllocError, Global};
-use tocmark_print::blocks::{Block, Blocks};
-use tocmark_print::{Ladder, Source, Step, Style};
+use tocmark_printing::{Block, Blocks, Ladder, Step};
 
 /// Lines of a text, counted from 1.
 #[derive(Clone, Copy)]
@@ -11,10 +14,10 @@ pub struct Lines {
     pub last: usize,
 }
 
-/// How a document is to look, which of its lines are formatted, and how they end.
+/// How a document is to look, which of its lines are formatted, and how they end. A style is what prints.
 #[derive(Clone, Copy)]
-pub struct StyledLines {
-    pub style: Style,
+pub struct StyledLines<P> {
+    pub style: P,
     /// Each block that one of these lines touches is formatted. `None`: all are.
     pub lines: Option<Lines>,
     /// How the lines end if all are formatted.
@@ -39,9 +42,27 @@ pub struct Ends {
     pub omits_last: bool,
 }
 
+/// Whether lines end with line feeds, if those of the source do.
+fn is_line_feed(each: Option<Ending>) -> bool
+    ensures { result ≡ is_line_feed each }
+{
+    match each {
+        None | Some(Ending::LineFeed) => true,
+        Some(Ending::CarriageReturn | Ending::Both) => false,
+    }
+}
+
+fn has_return(text: &str) -> bool
+    ensures { result ≡ list_any (λ b. b == 13) text.now }
+{
+    text.as_bytes().contains(&b'\r')
+}
+
 impl Ends {
     /// Lines that end as in the source, also the last one.
-    pub fn new() -> Ends {
+    pub fn new() -> Ends
+        ensures { result ≡ usual_ends }
+    {
         Ends {
             each: None,
             omits_last: false,
@@ -49,9 +70,10 @@ impl Ends {
     }
 
     /// Whether the lines of a text end with line feeds alone before and after it is formatted.
-    pub(crate) fn are_plain(self, text: &str) -> bool {
-        let is_feed = matches!(self.each, None | Some(Ending::LineFeed));
-        is_feed && !self.omits_last && !text.contains('\r')
+    pub(crate) fn are_plain(self, text: &str) -> bool
+        ensures { result ≡ has_plain_ends self text.now }
+    {
+        is_line_feed(self.each) && !self.omits_last && !has_return(text)
     }
 
     /// What each line of a text ends with after it is formatted; `own` is what it ends with before.
@@ -86,21 +108,49 @@ pub(crate) struct Patch<'p> {
     text: &'p str,
 }
 
-impl Lines {
-    /// The lines on which a block is, without blank ones: definitions have those beside them.
-    pub(crate) fn of(source: &Source<'_>, block: Block) -> Lines {
+/// A place in a text that only moves on, and its line, counted from 1. Lines end with line feeds.
+#[derive(Clone, Copy)]
+pub(crate) struct LineCount<'t> {
+    text: &'t str,
+    place: usize,
+    line: usize,
+}
+
+impl<'t> LineCount<'t> {
+    /// The front of a text.
+    pub(crate) fn new(text: &'t str) -> LineCount<'t> {
+        LineCount {
+            text,
+            place: 0,
+            line: 1,
+        }
+    }
+
+    /// Moves on to a place; its line.
+    fn move_to(&mut self, place: usize) -> usize {
+        let bytes = self.text.as_bytes();
+        let end = place.min(bytes.len());
+        let between = bytes.get(self.place..end).unwrap_or(&[]);
+        let feeds = between.iter().filter(|byte| **byte == b'\n').count();
+        self.line = self.line.saturating_add(feeds);
+        self.place = self.place.max(end);
+        self.line
+    }
+
+    /// The lines on which a block is, without blank ones: definitions have those beside them. Blocks come in order.
+    pub(crate) fn lines_of(&mut self, block: Block) -> Lines {
         let (from, to) = block.range;
-        let text = source.text.get(from..to).unwrap_or("");
+        let text = self.text.get(from..to).unwrap_or("");
         let end = text.trim_end_matches(&WHITE).len();
         let rest = text.trim_start_matches(&WHITE).len();
         let white = text.len().saturating_sub(rest);
-        let (first, last) = source.lines_between(
-            from.saturating_add(white),
-            from.saturating_add(end),
-        );
+        let first = self.move_to(from.saturating_add(white));
+        let last = self.move_to(from.saturating_add(end).saturating_sub(1));
         Lines { first, last }
     }
+}
 
+impl Lines {
     /// Whether both have a line in common.
     pub(crate) fn touch(self, others: Lines) -> bool {
         self.first <= others.last && others.first <= self.last
@@ -110,10 +160,11 @@ impl Lines {
 /// Lets the trees of the blocks that these lines don't touch keep their lines.
 pub(crate) fn keep_others(
     ladder: &mut Ladder,
-    source: &Source<'_>,
+    text: &str,
     blocks: &Blocks,
     lines: Lines,
 ) -> Result<(), AllocError> {
+    let mut count = LineCount::new(text);
     let mut place = blocks.first();
     for _ in 0..blocks.len() {
         let Some(block) = blocks.take(&mut place) else {
@@ -125,7 +176,7 @@ pub(crate) fn keep_others(
         for _ in ladder.steps.len()..=tree {
             ladder.steps.push(Step::Styled)?;
         }
-        if !lines.touch(Lines::of(source, block)) {
+        if !lines.touch(count.lines_of(block)) {
             if let Some(step) = ladder.steps.get_mut(tree) {
                 *step = Step::Lines;
             }
@@ -160,14 +211,15 @@ fn rest_from(text: &str, line: usize) -> &str {
 }
 
 /// Where the first block begins that these lines touch, and the first one below those.
-fn edges(source: &Source<'_>, blocks: &Blocks, lines: Lines) -> (Option<Edge>, Option<Edge>) {
+fn edges(text: &str, blocks: &Blocks, lines: Lines) -> (Option<Edge>, Option<Edge>) {
     let mut first = None;
+    let mut count = LineCount::new(text);
     let mut place = blocks.first();
     for number in 0..blocks.len() {
         let Some(block) = blocks.take(&mut place) else {
             break;
         };
-        let its_lines = Lines::of(source, block);
+        let its_lines = count.lines_of(block);
         let edge = Edge {
             line: its_lines.first,
             place: block.start,
@@ -188,7 +240,7 @@ fn edges(source: &Source<'_>, blocks: &Blocks, lines: Lines) -> (Option<Edge>, O
 impl<'p> Patch<'p> {
     /// What comes in the place of the blocks that these lines touch, by the printed document. `None`: they touch none.
     pub(crate) fn of(
-        source: &Source<'_>,
+        source: &str,
         blocks: &Blocks,
         printed: &'p str,
         lines: Lines,

@@ -1,8 +1,8 @@
 //! The trees of blocks: those of the source, and those that are read back in the text that is printed for them.
 
 use std::alloc::{AllocError, Global};
-use tocmark_print::blocks::{BlockPlace, Blocks};
-use tocmark_print::numbers::Numbers;
+use tocmark_printing::numbers::Numbers;
+use tocmark_printing::{BlockPlace, Blocks};
 
 /// Places in their order.
 #[derive(Drop)]

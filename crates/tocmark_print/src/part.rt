@@ -4,10 +4,8 @@
 use crate::source::Source;
 use std::alloc::{AllocError, Global};
 use tocmark_event::event::{Alignment, CodeBlockKind, Event, HeadingLevel, LinkType, Tag, TagEnd};
+use tocmark_printing::Placed;
 use tocmark_spelling::kinds::is_inline_end;
-
-/// An event, and the bytes of the source that it comes from.
-pub type Placed = (Event<'static>, (usize, usize));
 
 /// What printing needs of a container's start.
 #[derive(Clone, Copy)]

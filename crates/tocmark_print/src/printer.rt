@@ -1,9 +1,7 @@
 //! The walk over the events of a document: each block is printed as it comes.
 
-use crate::blocks::{Block, Blocks};
 use crate::dialect::Foreign;
 use crate::kept::Stretch;
-use crate::ladder::{Ladder, Step};
 use crate::look::Look;
 use crate::page::{Kind, Page};
 use crate::part::{Mark, Opening, Part, is_inline};
@@ -11,6 +9,7 @@ use crate::piece::Pieces;
 use crate::source::Source;
 use crate::style::ListIndent;
 use std::alloc::{AllocError, Global};
+use tocmark_printing::{Block, Blocks, Ladder, Step};
 
 /// Prefixes may have so many bytes in a block, and four for each byte of it.
 const FREE_PREFIXES: usize = 4096;

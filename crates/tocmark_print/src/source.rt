@@ -8,8 +8,8 @@ use std::alloc::{AllocError, Global};
 
 /// A text, and where its lines begin.
 #[derive(Drop)]
-pub struct Source<'s> {
-    pub text: &'s str,
+pub(crate) struct Source<'s> {
+    pub(crate) text: &'s str,
     lines: LineStarts,
     /// The lines that other programs read as one, in their order.
     spans: Vec<Span>,
@@ -32,7 +32,7 @@ pub(crate) fn without_blanks(text: &str) -> &str {
 
 impl<'s> Source<'s> {
     /// A text whose lines end with line feeds.
-    pub fn new(alloc: Global, text: &'s str) -> Result<Source<'s>, AllocError>
+    pub(crate) fn new(alloc: Global, text: &'s str) -> Result<Source<'s>, AllocError>
         ensures { IfOk result (λ source. source.text.now ≡ text.now) }
     {
         let lines = LineStarts::of(alloc, text)?;
@@ -133,12 +133,5 @@ impl<'s> Source<'s> {
             }
         }
         false
-    }
-
-    /// The lines between two places, counted from 1: the first one and the last one.
-    pub fn lines_between(&self, from: usize, to: usize) -> (usize, usize) {
-        let first = self.line_of(from).saturating_add(1);
-        let last = self.line_of(to.saturating_sub(1)).saturating_add(1);
-        (first, last.max(first))
     }
 }

@@ -10,7 +10,7 @@ returns g c =
     let f = c.args.self.now in
     let read = g.R.Reader.reading f.judge.reader.now in
     let defined = g.R.PartReader.definitions f.judge.reader.now in
-    let source = c.args.source.now.text.now in
+    let source = c.args.source.now in
     let old = c.args.printed.now.source in
     let new = c.args.found.now in
     subst (λ (t : List ℕ). IfOk c.finds_the_same.result (λ same. IsTrue same

@@ -58,7 +58,8 @@ pub struct BlockPlace {
 }
 
 impl Blocks {
-    pub(crate) fn new(alloc: Global) -> Blocks {
+    /// No blocks.
+    pub fn new(alloc: Global) -> Blocks {
         Blocks {
             numbers: Numbers::new(alloc),
             before: Before {
@@ -77,12 +78,13 @@ impl Blocks {
         self.len
     }
 
-    pub(crate) fn last(&self) -> Option<Block> {
+    /// The block that was added last.
+    pub fn last(&self) -> Option<Block> {
         self.last
     }
 
     /// Marks the last block as one whose prefixes outgrew its text.
-    pub(crate) fn outgrow_last(&mut self) {
+    pub fn outgrow_last(&mut self) {
         if let Some(last) = self.last {
             self.last = Some(Block {
                 is_outgrown: true,
@@ -91,8 +93,8 @@ impl Blocks {
         }
     }
 
-    /// Adds a block after the others.
-    pub(crate) fn push(&mut self, block: Block) -> Result<(), AllocError> {
+    /// Adds a block after the others. It fails if memory runs out.
+    pub fn push(&mut self, block: Block) -> Result<(), AllocError> {
         if let Some(last) = self.last {
             self.pack(last)?;
             self.before = self.before.behind(last);
@@ -124,7 +126,7 @@ impl Blocks {
     }
 
     /// Moves all texts after some bytes.
-    pub(crate) fn shift(&mut self, bytes: usize) {
+    pub fn shift(&mut self, bytes: usize) {
         self.shift = self.shift.saturating_add(bytes);
     }
 

@@ -15,6 +15,7 @@ pub struct Numbers {
 }
 
 impl Numbers {
+    /// No numbers.
     pub fn new(alloc: Global) -> Numbers {
         Numbers {
             bytes: Vec::new(alloc),
@@ -26,7 +27,7 @@ impl Numbers {
         self.bytes.len()
     }
 
-    /// Adds a number after the others.
+    /// Adds a number after the others. It fails if memory runs out.
     pub fn push(&mut self, number: usize) -> Result<(), AllocError> {
         let mut rest = number;
         for _ in 0..LONGEST {

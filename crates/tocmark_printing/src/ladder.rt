@@ -1,5 +1,9 @@
 //! How near to the source the blocks at the top of a document are printed.
 
+ghost use Rattle.std.specs.Prelude.{◌≡◌};
+ghost use Rattle.std.specs.List.{list_any};
+ghost use Rattle.tocmark_printing.specs.Kept.{keeps_lines, keeps_some};
+
 use std::alloc::{AllocError, Global};
 
 /// The byte order mark.
@@ -20,8 +24,13 @@ pub enum Step {
 
 impl Step {
     /// Whether the tree keeps its lines.
-    pub fn keeps_lines(self) -> bool {
-        matches!(self, Step::Lines | Step::Attached)
+    pub fn keeps_lines(self) -> bool
+        ensures { result ≡ keeps_lines self }
+    {
+        match self {
+            Step::Styled | Step::Spelled => false,
+            Step::Lines | Step::Attached => true,
+        }
     }
 }
 
@@ -32,6 +41,18 @@ pub struct Ladder {
     pub steps: Vec<Step>,
     /// Whether definitions stay as they are spelled.
     pub keeps_definitions: bool,
+}
+
+/// Whether some of these trees keep their lines.
+fn has_kept(steps: &[Step]) -> bool
+    ensures { result ≡ list_any keeps_lines steps.now }
+{
+    for step in steps {
+        if step.keeps_lines() {
+            return true;
+        }
+    }
+    false
 }
 
 impl Ladder {
@@ -51,6 +72,13 @@ impl Ladder {
     /// How near to the source a tree is printed.
     pub fn step(&self, tree: usize) -> Step {
         self.steps.get(tree).copied().unwrap_or(Step::Styled)
+    }
+
+    /// Whether some tree keeps its lines.
+    pub fn keeps_some(&self) -> bool
+        ensures { result ≡ keeps_some self.now }
+    {
+        has_kept(&self.steps)
     }
 
     /// Takes a tree one step nearer to the source; false if there is none. One that is apart can also be attached.
