@@ -1,4 +1,4 @@
-use Rattle.std.proofs.Common.{◌≡◌, [], ◌∷◌, arith, subst, sym}
+use Rattle.std.proofs.Common.{◌≡◌, arith, subst, sym}
 use Rattle.tocmark_format.specs.Named.{AreInOrder, last_line}
 use Rattle.tocmark_format.specs.declared.answer.Left.{Left}
 use Rattle.tocmark_format.proofs.Naming.{last-more, ordered-more}
