@@ -1,0 +1,4 @@
+pub mod Followings
+pub mod LabelPlaces
+pub mod Patching
+pub mod Replacing

@@ -1,0 +1,3 @@
+pub mod Defined
+pub mod Followed
+pub mod Redefined
