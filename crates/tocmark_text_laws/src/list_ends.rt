@@ -20,8 +20,8 @@ pub fn a_list_ends_at_once()
     ensures { AListEndsAtOnce }
 {}
 
-/// The same law for another text that begins after one space at the margin, such as a block quote with the marker ` > `. An item goes on
-/// only in lines that are indented by two columns or more.
+/// A list also ends before a text that begins after one space, for example with the block quote ` > q`. An item continues only in
+/// lines that are indented by two columns or more.
 pub fn a_list_ends_near_the_margin()
     ensures { AListEndsNearMargin }
 {}

@@ -39,13 +39,13 @@ pub fn marks_make_a_loose_item()
     ensures { MarksMakeALooseItem }
 {}
 
-/// The same law for a first text that leaves a list open, in no container, and a second text that ends this list. As in `a_list_ends`, the
-/// second text begins at the margin, and not with an item of the same sort. So the inner list and what is after it are apart.
+/// As `marks_make_a_loose_item`, if the first text leaves a list open that is in no container. The second text ends this list: as in
+/// `a_list_ends`, it begins at the margin, and not with an item of the same sort.
 pub fn a_list_ends_in_a_loose_item()
     ensures { AListEndsInALooseItem }
 {}
 
-/// The same law for a second text that begins after one space at the margin, such as a block quote with the marker ` > `.
+/// As `a_list_ends_in_a_loose_item`, if the second text begins after one space, for example with the block quote ` > q`.
 pub fn a_list_ends_near_the_margin_in_a_loose_item()
     ensures { AListEndsNearMarginInALooseItem }
 {}

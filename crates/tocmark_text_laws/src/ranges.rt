@@ -46,13 +46,13 @@ pub fn inlines_are_in_place()
     ensures { InlinesAreInPlace }
 {}
 
-/// So no range of what `CoreReader` reads becomes 0..0: the range of each block and inline, and of each line of code or
-/// HTML, is handed out as it is. The depth of each block and the length of its text are numbers of 64 bits.
+/// `CoreReader` hands out the range of each block and inline, and of each line of code or HTML, as it is. So none becomes
+/// 0..0. The depth of each block and the length of its text must be numbers of 64 bits.
 pub fn events_are_in_place()
     ensures { EventsAreInPlace }
 {}
 
-/// The same holds of each text of fewer than 2^30 bytes.
+/// No range becomes 0..0 if the text has fewer than 2^30 bytes: then `events_are_in_place` holds of it.
 pub fn short_events_are_in_place()
     ensures { ShortEventsAreInPlace }
 {}
