@@ -48,10 +48,7 @@ fn new_at<'d>(
 }
 
 /// The keys of the labels of definitions.
-pub(crate) fn keys_of(
-    alloc: Global,
-    definitions: &[ReferenceDefinition],
-) -> Result<Vec<String>, AllocError>
+fn keys_of(alloc: Global, definitions: &[ReferenceDefinition]) -> Result<Vec<String>, AllocError>
     ensures { IfOk result (λ keys. map string_bytes keys.items
         ≡ map (λ d. key_of (said_view d).label) definitions.now) }
 {

@@ -8,12 +8,11 @@ ghost use Rattle.tocmark_reader.specs.Definitions.{said_view};
 ghost use Rattle.tocmark_redefine.specs.Followed.{definitions_under, events_under, followed_in, IsFollowed};
 ghost use Rattle.tocmark_redefine.specs.Redefined.{AreApart, AreRedefined, IsAsked, IsIn, IsRedefined, patched_from, replaced};
 
-use crate::following::{follow, keys_of};
+use crate::following::follow;
 use std::alloc::{AllocError, AllocFailed, Global};
 use tocmark_compare::same::are_same;
 use tocmark_event::event::ParserOptions;
 use tocmark_event::reader::Reader;
-use tocmark_read_tokens::label::first_places;
 use tocmark_reader::{DefinitionPlace, ExtendedReader, Names, ReferenceDefinition};
 use tocmark_rewrite::destination::redirection;
 use tocmark_rewrite::patch::Patch;
@@ -377,45 +376,4 @@ pub(crate) fn with_changes(
         return Ok(new);
     }
     Err(misread(source, &new.olds, first_number(changes)))
-}
-
-/// Whether a definition says what another one does.
-fn is_same(one: &ReferenceDefinition, other: &ReferenceDefinition) -> bool {
-    one.destination.as_str() == other.destination.as_str()
-        && one.title.as_str() == other.title.as_str()
-}
-
-/// The line of the first definition in the source by whose label links lead elsewhere in this text than in the redefined one,
-/// although the definition was changed. None if there is no such definition.
-///
-/// It fails if memory runs out.
-pub fn first_lost(
-    alloc: Global,
-    source: &str,
-    redefined: &Redefined,
-    flags: ParserOptions,
-    text: &str,
-) -> Result<Option<usize>, AllocError> {
-    let (olds, news) = (&redefined.olds, &redefined.news);
-    let found = READER.definitions(alloc, text, flags)?;
-    let found_places = first_places(alloc, &keys_of(alloc, &found)?)?;
-    let keys = keys_of(alloc, olds)?;
-    let places = first_places(alloc, &keys)?;
-    for (number, (old, new)) in olds.iter().zip(news).enumerate() {
-        let Some(key) = keys.get(number) else {
-            break;
-        };
-        if is_same(old, new) || places.get(key.as_str()) != Some(&number) {
-            continue;
-        }
-        let is_found = match found_places.get(key.as_str()) {
-            Some(place) => found.get(*place).is_some_and(|one| is_same(one, new)),
-            None => false,
-        };
-        if !is_found {
-            let at = old.place.whole.0;
-            return Ok(Some(LineCounter::new().line_of(source.as_bytes(), at)));
-        }
-    }
-    Ok(None)
 }
