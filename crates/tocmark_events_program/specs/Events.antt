@@ -4,6 +4,7 @@ use Rattle.std.specs.Io.KnownBytes.{Appends}
 use Rattle.serde_json.specs.Written.{compact_text}
 use Rattle.tocmark_event.specs.Options.{options_view}
 use Rattle.tocmark_event.specs.declared.event.flags.ParserOptions.{ParserOptions}
+use Rattle.tocmark_definitions.specs.Redefining.{IsRedefinedBy}
 use Rattle.tocmark_documents.specs.Document.{IsWrittenTheSame}
 use Rattle.tocmark_documents.specs.Interchange.{IsWrittenAgain, IsWrittenFrom, reading_json, reading_located}
 use Rattle.tocmark_documents.specs.Lines.{AppendsFront, IsWrittenFromLines, json_of, reading_lines, reading_located_lines}
@@ -23,6 +24,7 @@ joins_lines (job.Define flags) = false
 joins_lines job.Check = false
 joins_lines (job.Write flags options file is_document lines) = is_document && lines
 joins_lines (job.Rewrite flags options file reports lines) = lines
+joins_lines (job.Redefine flags file) = false
 
 -- an array of events is read from a text, with lines and columns or without
 abbrev pub IsReadAs : ParserOptions → Bool → List ℕ → List ℕ → Type 0
@@ -43,6 +45,7 @@ IsMade (job.Write flags options file true lines) source text output = IsWrittenT
 IsMade (job.Write flags options file false true) source text output = IsWrittenFromLines (options_view options) flags (is_some file) source text output
 IsMade (job.Write flags options file false false) source text output = IsWrittenFrom (options_view options) flags (is_some file) source text output
 IsMade (job.Rewrite flags options file reports lines) source text output = IsRewrittenText flags source text output
+IsMade (job.Redefine flags file) source text output = IsRedefinedBy flags text source output
 
 -- what a job makes of its input
 abbrev pub IsAnswer : Job → List ℕ → List ℕ → List ℕ → Type 0
@@ -65,6 +68,7 @@ IsWriteFault (fault.NoEvent n value wanted) = ⊥
 IsWriteFault (fault.Refused e) = ⊥
 IsWriteFault (fault.NotRewritten e) = ⊥
 IsWriteFault (fault.Contested e label) = ⊥
+IsWriteFault (fault.NotRedefined e) = ⊥
 IsWriteFault (fault.Changed n) = ⊥
 IsWriteFault fault.OutOfMemory = ⊥
 IsWriteFault fault.Write = Unit {0}

@@ -2,6 +2,7 @@
 
 ghost use Rattle.std.specs.Prelude.{◌≡◌, IfErr, IfOk, string_bytes};
 ghost use Rattle.serde_json.specs.Written.{compact_text};
+ghost use Rattle.tocmark_definitions.specs.Redefining.{IsRedefinedBy};
 ghost use Rattle.tocmark_event.specs.Options.{options_view};
 ghost use Rattle.tocmark_documents.specs.Document.{IsWrittenTheSame};
 ghost use Rattle.tocmark_documents.specs.Interchange.{IsWrittenAgain, IsWrittenFrom, reading_json, reading_located};
@@ -16,6 +17,7 @@ use crate::fault::Fault;
 use std::alloc::Global;
 use tocmark::Options;
 use tocmark::event::ParserOptions;
+use tocmark_definitions::redefine;
 use tocmark_documents::{
     array_of, check_json, checked_over, read_json, read_located, rewrite_json, write_lines,
     write_over,
@@ -169,6 +171,21 @@ fn rewrite_events(
     })
 }
 
+/// The source, with the definitions of links that a text has as JSON.
+fn redefine_links(
+    alloc: Global,
+    text: &str,
+    source: &str,
+    flags: ParserOptions,
+) -> Result<Answer, Fault>
+    ensures fault { IfErr result (λ fault. ¬ (IsWriteFault fault)) }
+    ensures redefined { IfOk result (λ answer.
+        IsRedefinedBy flags text.now source.now (string_bytes answer.text)) }
+{
+    let output = redefine(alloc, source, flags, text)?;
+    Ok(only(alloc, output))
+}
+
 /// What a job makes of a text whose lines aren't joined.
 fn made(alloc: Global, job: Job<'_>, source: &str, text: &str) -> Result<Answer, Fault>
     ensures fault { IfErr result (λ fault. ¬ (IsWriteFault fault)) }
@@ -201,6 +218,7 @@ fn made(alloc: Global, job: Job<'_>, source: &str, text: &str) -> Result<Answer,
             ..
         } => write_document(alloc, text, source, file.is_some(), flags, options),
         Job::Rewrite { flags, options, .. } => rewrite_events(alloc, text, source, flags, options),
+        Job::Redefine { flags, .. } => redefine_links(alloc, text, source, flags),
     }
 }
 

@@ -58,6 +58,11 @@ pub enum Job<'a> {
         /// Whether each event is on a line of its own.
         lines: bool,
     },
+    /// The document in a file, read under these flags, with other definitions of links.
+    Redefine {
+        flags: ParserOptions,
+        source: &'a str,
+    },
 }
 
 impl<'a> Job<'a> {
@@ -69,7 +74,7 @@ impl<'a> Job<'a> {
         ensures { result ≡ joins_lines self.now }
     {
         match self {
-            Job::Read { .. } | Job::Define { .. } | Job::Check => false,
+            Job::Read { .. } | Job::Define { .. } | Job::Redefine { .. } | Job::Check => false,
             Job::Write {
                 is_document,
                 lines,
@@ -87,6 +92,7 @@ pub enum Refusal<'a> {
     Syntax,
     Extension,
     NoSource,
+    NoFile,
     NoPair,
     Option(OptionFault<'a>),
     Invalid(OptionsError),
@@ -96,13 +102,17 @@ pub enum Refusal<'a> {
 impl<'a> fmt::Display for Refusal<'a> {
     fn fmt<W: fmt::Write>(&self, f: &mut fmt::Formatter<W>) -> fmt::Result {
         match self {
-            Refusal::NoVerb => write!(f, "read, definitions, write, rewrite or check is wanted"),
+            Refusal::NoVerb => write!(
+                f,
+                "read, definitions, redefine, write, rewrite or check is wanted"
+            ),
             Refusal::Syntax => write!(f, "--syntax wants commonmark, gfm or all"),
             Refusal::Extension => write!(
                 f,
                 "--extension wants a name that --help lists, or no- before one"
             ),
             Refusal::NoSource => write!(f, "rewrite wants --source FILE"),
+            Refusal::NoFile => write!(f, "redefine wants FILE"),
             Refusal::NoPair => write!(f, "--option wants KEY=VALUE"),
             Refusal::Option(fault) => write!(f, "--option: {fault}"),
             Refusal::Invalid(error) => write!(f, "{error}"),
@@ -119,6 +129,10 @@ const READ: &str = "Turn Markdown into events as JSON";
 
 /// What `--help` says of `definitions`.
 const DEFINITIONS: &str = "List the definitions of links in Markdown as JSON";
+
+/// What `--help` says of `redefine`.
+const REDEFINE: &str =
+    "Give definitions of links other destinations and\ntitles, which come as JSON";
 
 /// What `--help` says of `write`.
 const WRITE: &str = "Turn events as JSON into Markdown";
@@ -171,6 +185,17 @@ static WRITE_OPTIONS: [CommandOption<'static>; 3] = [
     },
 ];
 
+/// The option of each command that edits a document.
+const IN_PLACE: CommandOption<'static> = CommandOption {
+    name: "in-place",
+    letter: None,
+    takes: Takes::Nothing,
+    help: "Replace the document, and write no output",
+};
+
+/// The options of `redefine`.
+static REDEFINE_OPTIONS: [CommandOption<'static>; 1] = [IN_PLACE];
+
 /// The options that only `rewrite` has.
 static REWRITE_OPTIONS: [CommandOption<'static>; 3] = [
     CommandOption {
@@ -185,12 +210,7 @@ static REWRITE_OPTIONS: [CommandOption<'static>; 3] = [
         takes: Takes::Nothing,
         help: "Tell on standard error what became of each block",
     },
-    CommandOption {
-        name: "in-place",
-        letter: None,
-        takes: Takes::Nothing,
-        help: "Replace the document, and write no output",
-    },
+    IN_PLACE,
 ];
 
 /// The options of each command that writes Markdown.
@@ -241,6 +261,15 @@ fn definitions_command<'a>(alloc: Global, syntax_help: &'a str) -> Result<Comman
     with_syntax(alloc, definitions, syntax_help)
 }
 
+fn redefine_command<'a>(alloc: Global, syntax_help: &'a str) -> Result<Command<'a>, AllocError> {
+    let file = Arg::new(alloc, "file")
+        .value_name("FILE")
+        .help("The document that the definitions were read from");
+    let redefine = Command::new(alloc, "redefine").about(REDEFINE).arg(file)?;
+    let redefine = with_options(alloc, redefine, &REDEFINE_OPTIONS)?;
+    with_syntax(alloc, redefine, syntax_help)
+}
+
 fn rewrite_command<'a>(alloc: Global, syntax_help: &'a str) -> Result<Command<'a>, AllocError> {
     let rewrite = verb(alloc, "rewrite", REWRITE)?;
     writing_command(alloc, rewrite, &REWRITE_OPTIONS, syntax_help)
@@ -268,6 +297,7 @@ pub fn command<'a>(alloc: Global, syntax_help: &'a str) -> Result<Command<'a>, A
         .subcommand_required(true);
     let command = with_subcommand(command, read_command(alloc, syntax_help))?;
     let command = with_subcommand(command, definitions_command(alloc, syntax_help))?;
+    let command = with_subcommand(command, redefine_command(alloc, syntax_help))?;
     let command = with_subcommand(command, rewrite_command(alloc, syntax_help))?;
     let command = with_subcommand(command, write_command(alloc, syntax_help))?;
     with_subcommand(command, verb(alloc, "check", CHECK))
@@ -330,6 +360,7 @@ pub struct Files<'a> {
 fn file_in_place<'a>(matches: &ArgMatches<'a>) -> Option<&'a str> {
     match matches.subcommand() {
         Some(("rewrite", matches)) if matches.get_flag("in-place") => matches.get_str("source"),
+        Some(("redefine", matches)) if matches.get_flag("in-place") => matches.get_str("file"),
         _ => None,
     }
 }
@@ -337,6 +368,7 @@ fn file_in_place<'a>(matches: &ArgMatches<'a>) -> Option<&'a str> {
 /// The files that a call names beside its source and its options.
 pub fn files_in<'a>(matches: &ArgMatches<'a>) -> Files<'a> {
     let read = match matches.subcommand() {
+        Some(("redefine", _)) => None,
         Some((_, words)) => words.get_str("file"),
         None => None,
     };
@@ -374,6 +406,50 @@ fn valid_options<'a>(
     }
 }
 
+/// What `redefine` asks for.
+fn redefining_asked<'a>(
+    matches: &ArgMatches<'a>,
+    flags: ParserOptions,
+) -> Result<Call<'a>, Refusal<'a>> {
+    match matches.get_str("file") {
+        Some(source) => Ok(Call::Whole(Job::Redefine { flags, source })),
+        None => Err(Refusal::NoFile),
+    }
+}
+
+/// What `write` asks for.
+fn writing_asked<'a>(
+    matches: &ArgMatches<'a>,
+    flags: ParserOptions,
+    options: Options<'static>,
+) -> Call<'a> {
+    Call::Whole(Job::Write {
+        flags,
+        options,
+        source: matches.get_str("source"),
+        is_document: !matches.get_flag("unchecked"),
+        lines: matches.get_flag("lines"),
+    })
+}
+
+/// What `rewrite` asks for.
+fn rewriting_asked<'a>(
+    matches: &ArgMatches<'a>,
+    flags: ParserOptions,
+    options: Options<'static>,
+) -> Result<Call<'a>, Refusal<'a>> {
+    let Some(source) = matches.get_str("source") else {
+        return Err(Refusal::NoSource);
+    };
+    Ok(Call::Whole(Job::Rewrite {
+        flags,
+        options,
+        source,
+        reports: matches.get_flag("report"),
+        lines: matches.get_flag("lines"),
+    }))
+}
+
 /// What the arguments ask for, beginning with these options, or why they are wrong.
 pub fn asked<'a>(
     alloc: Global,
@@ -393,25 +469,12 @@ pub fn asked<'a>(
     if name == "definitions" {
         return Ok(Call::Whole(Job::Define { flags }));
     }
-    let options = valid_options(alloc, matches, name, flags, given)?;
-    let lines = matches.get_flag("lines");
-    if name == "write" {
-        return Ok(Call::Whole(Job::Write {
-            flags,
-            options,
-            source: matches.get_str("source"),
-            is_document: !matches.get_flag("unchecked"),
-            lines,
-        }));
+    if name == "redefine" {
+        return redefining_asked(matches, flags);
     }
-    let Some(source) = matches.get_str("source") else {
-        return Err(Refusal::NoSource);
-    };
-    Ok(Call::Whole(Job::Rewrite {
-        flags,
-        options,
-        source,
-        reports: matches.get_flag("report"),
-        lines,
-    }))
+    let options = valid_options(alloc, matches, name, flags, given)?;
+    if name == "write" {
+        return Ok(writing_asked(matches, flags, options));
+    }
+    rewriting_asked(matches, flags, options)
 }

@@ -18,7 +18,7 @@ pub struct Edited<'e> {
     pub job: Job<'e>,
     /// The text of the file.
     pub source: &'e str,
-    /// The events, as they came.
+    /// The events or the definitions, as they came.
     pub input: &'e str,
     /// What the file gets.
     pub answer: &'e Answer,

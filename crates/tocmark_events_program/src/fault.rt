@@ -38,6 +38,8 @@ pub enum Fault {
     /// Links by this label lead to different destinations.
     #[error("{0}: links by the label {1} share its definition, so give them one destination and title, or make one Inline")]
     Contested(RewriteError, String),
+    #[error("{0}")]
+    NotRedefined(tocmark_definitions::Fault),
     #[error("event {0}: the output would parse differently (--unchecked writes it)")]
     Changed(usize),
     #[error("out of memory")]
@@ -113,6 +115,14 @@ impl From<RewriteError> for Fault {
             }
             RewriteError::OutOfMemory => Fault::OutOfMemory,
         }
+    }
+}
+
+impl From<tocmark_definitions::Fault> for Fault {
+    ghost from_gives = { λ _ e. ¬ (IsWriteFault e) };
+
+    fn from(error: tocmark_definitions::Fault) -> Fault {
+        Fault::NotRedefined(error)
     }
 }
 

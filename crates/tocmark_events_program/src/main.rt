@@ -1,10 +1,10 @@
 //! The program for other languages: Markdown to events as JSON on standard output, and back.
 //! `docs/JSON.md` has the form.
 //!
-//! It is on `tocmark_documents`, which makes its answers, and on `tocmark_command`, which has what it shares with the
-//! formatter. `answer` asks for the answer to a call, and `edited` puts it in the place of a file. `arguments` has the
-//! program's options, `settings` sets those of the writer, and `fault` has the messages on standard error. `explained` adds
-//! what the input says about a fault.
+//! It is on `tocmark_documents`, `tocmark_outline` and `tocmark_definitions`, which make its answers, and on
+//! `tocmark_command`, which has what it shares with the formatter. `answer` asks for the answer to a call, and `edited` puts it in
+//! the place of a file. `arguments` has the program's options, `settings` sets those of the writer, and `fault` has the messages
+//! on standard error. `explained` adds what the input says about a fault.
 #![tactic(auto)]
 
 mod answer;
@@ -197,6 +197,7 @@ fn source_of(rt: &HostRuntime, call: Call<'_>) -> Result<String, Fault> {
     let file = match call {
         Call::Whole(Job::Write { source, .. }) => source,
         Call::Whole(Job::Rewrite { source, .. }) => Some(source),
+        Call::Whole(Job::Redefine { source, .. }) => Some(source),
         _ => None,
     };
     match file {
@@ -321,6 +322,9 @@ fn note_of(call: Call<'_>) -> &'static str {
     match call {
         Call::Stream { .. } | Call::Whole(Job::Read { .. } | Job::Define { .. }) => {
             "reading Markdown from the terminal; end it with Ctrl-D"
+        }
+        Call::Whole(Job::Redefine { .. }) => {
+            "reading definitions as JSON from the terminal; end them with Ctrl-D"
         }
         _ => "reading events as JSON from the terminal; end them with Ctrl-D",
     }
