@@ -64,6 +64,8 @@ document_too bits source options json cause.Failed h = h
 document_too bits source options json cause.InvalidStyle h = absurd h
 document_too bits source options json cause.Changed h = absurd h
 document_too bits source options json cause.TooLong h = absurd h
+document_too bits source options json cause.NotDefinitions h = absurd h
+document_too bits source options json cause.NoDefinition h = absurd h
 
 -- why events are no document that says the same
 document_by_error : (bits : ℕ) (source options json : List ℕ) (o : OptionsView) → AreOptions options o → (e : DocumentError) → IsDocumentCause o (flags_of bits) (has_source source) source json e → IsDocumentCauseOf bits source options json (document_cause e)

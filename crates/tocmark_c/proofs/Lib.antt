@@ -3,4 +3,5 @@ mod Causes
 mod DumpCauses
 mod Listed
 mod PackedCauses
+mod Redefined
 mod Rewritten

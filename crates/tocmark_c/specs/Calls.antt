@@ -108,6 +108,8 @@ IsWriteCause bits source options json cause.Failed = IsRefusedAs error.Failed bi
 IsWriteCause bits source options json cause.InvalidStyle = ⊥
 IsWriteCause bits source options json cause.Changed = ⊥
 IsWriteCause bits source options json cause.TooLong = ⊥
+IsWriteCause bits source options json cause.NotDefinitions = ⊥
+IsWriteCause bits source options json cause.NoDefinition = ⊥
 
 -- a text is what the events of a JSON text are written as, and just these events are found in it
 abbrev pub IsSameMarkdownOf : ℕ → List ℕ → List ℕ → List ℕ → List ℕ → Type 0

@@ -2,6 +2,8 @@
 use Rattle.std.specs.Prelude.{◌==◌, if◌then◌else◌, ℕ, ℤ, pos, negsuc, List, int_lt, unsigned_abs, codes}
 use Rattle.tocmark_event.specs.declared.options.Error.{Error}
 use Rattle.tocmark_event.specs.declared.options.Error.TheVariants as error
+use Rattle.tocmark_definitions.specs.declared.fault.Fault.{Fault}
+use Rattle.tocmark_definitions.specs.declared.fault.Fault.TheVariants as fault
 use Rattle.tocmark_documents.specs.declared.fault.DocumentError.{DocumentError}
 use Rattle.tocmark_documents.specs.declared.fault.DocumentError.TheVariants as document_error
 use Rattle.tocmark_documents.specs.declared.fault.OptionsTextError.{OptionsTextError}
@@ -34,6 +36,8 @@ order_of cause.Failed = 13
 order_of cause.InvalidStyle = 14
 order_of cause.Changed = 15
 order_of cause.TooLong = 16
+order_of cause.NotDefinitions = 17
+order_of cause.NoDefinition = 18
 
 -- the code of a cause: -1 and below
 abbrev pub code_of : Cause → ℤ
@@ -75,6 +79,15 @@ rewriting_cause (rewrite_error.Refused p e) = refusal_cause e
 rewriting_cause (rewrite_error.ReadOtherwise p) = cause.Changed
 rewriting_cause rewrite_error.OutOfMemory = cause.OutOfMemory
 
+-- the cause that definitions are not redefined
+abbrev pub redefining_cause : Fault → Cause
+redefining_cause (fault.NotJson e) = cause.NotJson
+redefining_cause fault.NotAList = cause.NotDefinitions
+redefining_cause (fault.Wanted index key wanted) = cause.NotDefinitions
+redefining_cause (fault.NoDefinition index) = cause.NoDefinition
+redefining_cause (fault.Misread line) = cause.Changed
+redefining_cause fault.OutOfMemory = cause.OutOfMemory
+
 -- the cause that a text has no options
 abbrev pub options_cause : OptionsTextError → Cause
 options_cause (options_error.NotJson e) = cause.OptionsNotJson
@@ -106,4 +119,6 @@ error_text n =
     else if n == 15 then codes "the style is too small, or has a number that means nothing"
     else if n == 16 then codes "the document would say something else than the events"
     else if n == 17 then codes "the events are too long for Python"
+    else if n == 18 then codes "the JSON is not that of definitions of links"
+    else if n == 19 then codes "a definition is none of the source"
     else codes "no error of tocmark"

@@ -6,6 +6,7 @@ pub mod Style
 pub mod PackedCalls
 pub mod Place
 pub mod Calls
+pub mod Redefining
 pub mod Rewriting
 pub mod Comparing
 pub mod Outline

@@ -43,3 +43,5 @@ IsDumpWriteCause bits source options bytes cause.Failed = IsDumpRefusedAs error.
 IsDumpWriteCause bits source options bytes cause.InvalidStyle = ⊥
 IsDumpWriteCause bits source options bytes cause.Changed = ⊥
 IsDumpWriteCause bits source options bytes cause.TooLong = ⊥
+IsDumpWriteCause bits source options bytes cause.NotDefinitions = ⊥
+IsDumpWriteCause bits source options bytes cause.NoDefinition = ⊥

@@ -44,3 +44,5 @@ IsPackedWriteCause bits source options packed cause.Failed = IsPackedRefusedAs e
 IsPackedWriteCause bits source options packed cause.InvalidStyle = ⊥
 IsPackedWriteCause bits source options packed cause.Changed = ⊥
 IsPackedWriteCause bits source options packed cause.TooLong = ⊥
+IsPackedWriteCause bits source options packed cause.NotDefinitions = ⊥
+IsPackedWriteCause bits source options packed cause.NoDefinition = ⊥

@@ -1,9 +1,10 @@
 //! The causes of errors, and their codes.
 
 ghost use Rattle.std.specs.Prelude.{◌≡◌};
-ghost use Rattle.tocmark_c.specs.Codes.{code_of, document_cause, error_text, number_of, options_cause, packed_cause, refusal_cause, rewriting_cause, write_cause};
+ghost use Rattle.tocmark_c.specs.Codes.{code_of, document_cause, error_text, number_of, options_cause, packed_cause, redefining_cause, refusal_cause, rewriting_cause, write_cause};
 
 use tocmark::Error;
+use tocmark_definitions::Fault;
 use tocmark_documents::{
     DocumentError, OptionsTextError, PackedWriteError, RewriteError, WriteError,
 };
@@ -45,6 +46,10 @@ pub enum Cause {
     Changed,
     /// The bytes for Python would be too many for it.
     TooLong,
+    /// The JSON isn't that of definitions of links.
+    NotDefinitions,
+    /// A definition is none of the source.
+    NoDefinition,
 }
 
 impl Cause {
@@ -70,6 +75,8 @@ impl Cause {
             Cause::InvalidStyle => -15,
             Cause::Changed => -16,
             Cause::TooLong => -17,
+            Cause::NotDefinitions => -18,
+            Cause::NoDefinition => -19,
         }
     }
 
@@ -116,6 +123,20 @@ impl Cause {
             RewriteError::Refused(_, error) => Cause::of_refusal(error),
             RewriteError::ReadOtherwise(_) => Cause::Changed,
             RewriteError::OutOfMemory => Cause::OutOfMemory,
+        }
+    }
+
+    /// The cause of an error of redefining.
+    pub fn of_redefining(error: &Fault) -> Cause
+        ensures { result ≡ redefining_cause error.now }
+    {
+        match error {
+            Fault::NotJson(_) => Cause::NotJson,
+            Fault::NotAList => Cause::NotDefinitions,
+            Fault::Wanted { .. } => Cause::NotDefinitions,
+            Fault::NoDefinition(_) => Cause::NoDefinition,
+            Fault::Misread(_) => Cause::Changed,
+            Fault::OutOfMemory => Cause::OutOfMemory,
         }
     }
 
@@ -175,6 +196,8 @@ pub fn error_text(code: isize) -> &'static str
         15 => "the style is too small, or has a number that means nothing",
         16 => "the document would say something else than the events",
         17 => "the events are too long for Python",
+        18 => "the JSON is not that of definitions of links",
+        19 => "a definition is none of the source",
         _ => "no error of tocmark",
     }
 }

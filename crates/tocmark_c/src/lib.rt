@@ -4,11 +4,11 @@
 //! bytes, or a negative number, the code of an error (`cause`). If the buffer is too small, nothing is written. No
 //! state is kept between calls. `style` takes a style from C, and `place` tells C where an error is; `refusal` has an
 //! error with its place. `marshal_reading` parses Markdown for Python, and `marshal_writing` writes events that Python gives.
-//! `writing` and `packed_events` write events, too, and `rewriting` rewrites a source. `comparing` lists what two texts say
-//! differently, and `outlining` what a text has.
+//! `writing` and `packed_events` write events, too, `rewriting` rewrites a source, and `redefining` changes its definitions of
+//! links. `comparing` lists what two texts say differently, and `outlining` what a text has.
 //!
 //! The crate uses `tocmark_documents` for events, `tocmark_format` for formatting, `tocmark_differences` and
-//! `tocmark_bare_links` for comparing, and `tocmark_outline` for lists.
+//! `tocmark_bare_links` for comparing, `tocmark_outline` for lists, and `tocmark_definitions` for definitions of links.
 #![tactic(auto)]
 
 mod cause;
@@ -18,6 +18,7 @@ mod marshal_writing;
 mod outlining;
 mod packed_events;
 mod place;
+mod redefining;
 mod refusal;
 mod rewriting;
 mod room;
@@ -33,6 +34,7 @@ ghost use Rattle.tocmark_c.specs.MarshalWriting.{IsDumpMarkdown, IsDumpWriteCaus
 ghost use Rattle.tocmark_c.specs.Outline.{IsOutline};
 ghost use Rattle.tocmark_c.specs.PackedCalls.{IsPackedMarkdown, IsPackedWriteCause};
 ghost use Rattle.tocmark_c.specs.Place.{IsTold};
+ghost use Rattle.tocmark_c.specs.Redefining.{IsRedefineCauseOf, IsRedefinedOf};
 ghost use Rattle.tocmark_c.specs.Rewriting.{IsRewriteCauseOf, IsRewrittenOf};
 
 use cause::{Cause, error_text};
@@ -42,6 +44,7 @@ use marshal_writing::write_marshal_events;
 use outlining::{Outlined, outline};
 use packed_events::write_packed_events;
 use place::TocmarkPlace;
+use redefining::redefined;
 use rewriting::rewrite;
 use room::{answer, answer_at, lay, lay_bytes};
 use std::alloc::{AllocError, Global};
@@ -295,6 +298,25 @@ pub extern "C" fn tocmark_rewrite(
     ensures told { IsTold result place.old place.new }
 {
     answer_at(rewrite(alloc, json, source, flags, options), place, out)
+}
+
+/// Gives definitions of links of a source what a JSON text says, and writes the new text into `out`. If that fails, `place` is
+/// filled with where the error is: the number of a definition, or a line.
+#[unsafe(no_mangle)]
+#[tactic(auto, using(crate::proofs::Answers::answered_at, crate::proofs::Answers::told_at))]
+pub extern "C" fn tocmark_redefine(
+    alloc: Global,
+    json: &[u8],
+    source: &[u8],
+    flags: u32,
+    place: &mut TocmarkPlace,
+    out: &mut [u8],
+) -> isize
+    ensures answer { IsAnswer (IsRedefinedOf flags source.now json.now)
+        (IsRedefineCauseOf source.now json.now) result out.old out.new }
+    ensures told { IsTold result place.old place.new }
+{
+    answer_at(redefined(alloc, json, source, flags), place, out)
 }
 
 /// Formats Markdown in a style, and writes the result into `out`. The result parses to the same events as the text that is

@@ -1,11 +1,12 @@
 //! Errors with their place.
 
 ghost use Rattle.std.specs.Prelude.{◌≡◌};
-ghost use Rattle.tocmark_c.specs.Codes.{code_of, document_cause, options_cause, packed_cause, rewriting_cause, write_cause};
+ghost use Rattle.tocmark_c.specs.Codes.{code_of, document_cause, options_cause, packed_cause, redefining_cause, rewriting_cause, write_cause};
 ghost use Rattle.tocmark_c.specs.Place.{IsFilled};
 
 use crate::cause::Cause;
 use crate::place::TocmarkPlace;
+use tocmark_definitions::Fault;
 use tocmark_documents::{
     DocumentError, OptionsTextError, PackedWriteError, RewriteError, WriteError,
 };
@@ -74,6 +75,16 @@ impl Refusal {
         }
     }
 
+    /// The refusal of an error of redefining, with its place if it has one.
+    pub fn of_redefining(error: &Fault) -> Refusal
+        ensures { result.cause ≡ redefining_cause error.now }
+    {
+        Refusal {
+            cause: Cause::of_redefining(error),
+            place: place_of_redefining(error),
+        }
+    }
+
     /// Fills the place, and returns the code of the cause.
     pub fn told(self, place: &mut TocmarkPlace) -> isize
         ensures code { result ≡ code_of self.cause }
@@ -124,6 +135,19 @@ fn place_of_rewriting(error: &RewriteError) -> Option<Place> {
         RewriteError::Refused(place, _) => Some(*place),
         RewriteError::ReadOtherwise(place) => Some(*place),
         RewriteError::NotEvents(error) => place_of_json(error),
+        _ => None,
+    }
+}
+
+/// The number of a definition, as that of an event, or else a line of the source.
+fn place_of_redefining(error: &Fault) -> Option<Place> {
+    match error {
+        Fault::Wanted { index, .. } => Some(event_alone(*index)),
+        Fault::NoDefinition(index) => Some(event_alone(*index)),
+        Fault::Misread(line) => Some(Place {
+            event: usize::MAX,
+            lines: Some((*line, *line)),
+        }),
         _ => None,
     }
 }
