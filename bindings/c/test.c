@@ -295,6 +295,40 @@ static void rewriting(void) {
          "options and no place");
 }
 
+/* Gives definitions of a source what a JSON text says, where what is wanted is a text, or an error's code. */
+static void redefines(const char *json, const char *source, const char *wanted, ptrdiff_t code) {
+  uint8_t out[100];
+  place = (struct tocmark_place){sizeof place, 7, 8, 9};
+  ptrdiff_t size = tocmark_redefine((const uint8_t *)json, strlen(json), (const uint8_t *)source, strlen(source), TOCMARK_GFM,
+                                    &place, out, sizeof out);
+  expect(size, code < 0 ? code : (ptrdiff_t)strlen(wanted), json);
+  if (size >= 0 && memcmp(out, wanted, (size_t)size) != 0)
+    wrong("definitions are changed otherwise", &(struct text){out, (size_t)size});
+}
+
+#define DEFINED(label, destination, start, end) \
+  "{\"label\": \"" label "\", \"destination\": \"" destination "\", \"title\": \"\", \"range\": {\"start\": " #start ", \"end\": " #end "}}"
+
+static void redefining(void) {
+  static const char source[] = "[a]\n\n[a]: /b 'c'\n[d]: /e\n";
+  redefines("[]", source, source, 0);
+  redefines("[" DEFINED("d", "x y", 17, 24) "," DEFINED("a", "/b", 5, 16) "]", source, "[a]\n\n[a]: /b\n[d]: <x y>\n", 0);
+  is_at(7, 8, 9);
+  redefines("[" DEFINED("d", "/x", 17, 24) "," DEFINED("a", "/b", 5, 15) "]", source, "", TOCMARK_NO_DEFINITION);
+  is_at(1, 0, 0);
+  redefines("[" DEFINED("d", "/x", 17, 24) ", 1]", source, "", TOCMARK_NOT_DEFINITIONS);
+  is_at(1, 0, 0);
+  redefines("{}", source, "", TOCMARK_NOT_DEFINITIONS);
+  is_at(SIZE_MAX, 0, 0);
+  redefines("[", source, "", TOCMARK_NOT_JSON);
+  redefines("\xFF", source, "", TOCMARK_NOT_UTF8);
+  redefines("[]", "\xFF", "", TOCMARK_SOURCE_NOT_UTF8);
+  /* Of two that name one definition, not both can be so. */
+  redefines("[" DEFINED("d", "/x", 17, 24) "," DEFINED("d", "/y", 17, 24) "]", source, "", TOCMARK_CHANGED);
+  is_at(SIZE_MAX, 4, 4);
+  expect(tocmark_redefine(NULL, 0, NULL, 0, 0, NULL, NULL, 0), TOCMARK_NOT_JSON, "no JSON of definitions");
+}
+
 /* --- where writing goes wrong --- */
 
 typedef ptrdiff_t writer(const uint8_t *, size_t, const uint8_t *, size_t, uint32_t, const uint8_t *, size_t,
@@ -642,10 +676,10 @@ static void errors(void) {
   expect(tocmark_error_text(TOCMARK_OUT_OF_MEMORY, out, sizeof out), 13, "the text of an error");
   if (memcmp(out, "out of memory", 13) != 0)
     wrong("the text of an error", NULL);
-  for (ptrdiff_t code = -17; code < 0; code++)
+  for (ptrdiff_t code = -19; code < 0; code++)
     if (is_no_error(code))
       wrong("an error has no text", NULL);
-  if (!is_no_error(-18) || !is_no_error(0) || !is_no_error(1) || !is_no_error(PTRDIFF_MIN) || !is_no_error(PTRDIFF_MAX))
+  if (!is_no_error(-20) || !is_no_error(0) || !is_no_error(1) || !is_no_error(PTRDIFF_MIN) || !is_no_error(PTRDIFF_MAX))
     wrong("what is no error has a text", NULL);
 }
 
@@ -724,6 +758,7 @@ int main(void) {
     wrong("652 texts are wanted on standard input", NULL);
   errors();
   rewriting();
+  redefining();
   places();
   packed();
   dumped();

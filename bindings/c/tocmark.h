@@ -68,7 +68,9 @@ enum tocmark_error {
   TOCMARK_FAILED = -14,               /* a call after an error; these functions never return it */
   TOCMARK_INVALID_STYLE = -15,        /* a style is too small, or has a number that means nothing */
   TOCMARK_CHANGED = -16,              /* the text would parse to other events */
-  TOCMARK_TOO_LONG = -17              /* the bytes for Python would be more than 2,147,483,647 */
+  TOCMARK_TOO_LONG = -17,             /* the bytes for Python would be more than 2,147,483,647 */
+  TOCMARK_NOT_DEFINITIONS = -18,      /* the JSON isn't that of definitions of links */
+  TOCMARK_NO_DEFINITION = -19         /* a definition is none of the source */
 };
 
 /* Returns the version: 65,536 times the first number, 256 times the second, and the third. */
@@ -110,8 +112,8 @@ ptrdiff_t tocmark_definitions(const uint8_t *text, size_t text_len, uint32_t fla
  * flags: the extensions under which the result has to parse back.
  * options: a JSON object, such as {"list_token": "-"}. Without options, the default ones are used.
  *
- * Errors: all but TOCMARK_FINISHED, TOCMARK_FAILED, TOCMARK_INVALID_STYLE, TOCMARK_CHANGED and TOCMARK_TOO_LONG. If there are several, the
- * result is the first in this order: TOCMARK_NOT_UTF8, TOCMARK_SOURCE_NOT_UTF8, TOCMARK_OPTIONS_NOT_UTF8, those of the
+ * Errors: all but TOCMARK_FINISHED, TOCMARK_FAILED, TOCMARK_INVALID_STYLE, TOCMARK_CHANGED, TOCMARK_TOO_LONG,
+ * TOCMARK_NOT_DEFINITIONS and TOCMARK_NO_DEFINITION. If there are several, the result is the first in this order: TOCMARK_NOT_UTF8, TOCMARK_SOURCE_NOT_UTF8, TOCMARK_OPTIONS_NOT_UTF8, those of the
  * options, those of the JSON, those of the events. */
 ptrdiff_t tocmark_write_json(const uint8_t *json, size_t json_len, const uint8_t *source, size_t source_len, uint32_t flags,
                              const uint8_t *options, size_t options_len, uint8_t *out, size_t out_len);
@@ -202,6 +204,19 @@ ptrdiff_t tocmark_write_marshal_at(const uint8_t *bytes, size_t bytes_len, const
 ptrdiff_t tocmark_rewrite(const uint8_t *json, size_t json_len, const uint8_t *source, size_t source_len, uint32_t flags,
                           const uint8_t *options, size_t options_len, struct tocmark_place *where, uint8_t *out,
                           size_t out_len);
+
+/* Gives definitions of links of a source other destinations and titles. Those not given stay. Links by the label of a changed
+ * definition follow, all else parses as before, and all other bytes stay. A byte order mark at the front stays there.
+ *
+ * json: an array as tocmark_definitions writes it for the source, with other values of "destination" and "title". An element is
+ * named by its "label" and its "range"; other keys than these four aren't read.
+ * where: NULL, or what an error fills. `event` is the number of the element, counted from 0. TOCMARK_CHANGED has the line of a
+ * definition in place of it: no text was found that has this definition and else parses as before.
+ *
+ * Errors: TOCMARK_OUT_OF_MEMORY, TOCMARK_NOT_UTF8, TOCMARK_SOURCE_NOT_UTF8, TOCMARK_NOT_JSON, TOCMARK_NOT_DEFINITIONS,
+ * TOCMARK_NO_DEFINITION, TOCMARK_CHANGED. */
+ptrdiff_t tocmark_redefine(const uint8_t *json, size_t json_len, const uint8_t *source, size_t source_len, uint32_t flags,
+                           struct tocmark_place *where, uint8_t *out, size_t out_len);
 
 /* The style of a formatted text. A character is its own number, and 0 is the default:
  * struct tocmark_style style = {.size = sizeof style, .bullet = '-'};
@@ -381,6 +396,13 @@ static inline ptrdiff_t tocmark_rewrite_(const uint8_t *json, size_t json_len, c
                          options_len, where ? where : &unread, tocmark_room_(out), out_len);
 }
 
+static inline ptrdiff_t tocmark_redefine_(const uint8_t *json, size_t json_len, const uint8_t *source, size_t source_len,
+                                          uint32_t flags, struct tocmark_place *where, uint8_t *out, size_t out_len) {
+  struct tocmark_place unread = {sizeof unread, 0, 0, 0};
+  return tocmark_redefine(tocmark_text_(json), json_len, tocmark_text_(source), source_len, flags, where ? where : &unread,
+                          tocmark_room_(out), out_len);
+}
+
 static inline ptrdiff_t tocmark_format_(const uint8_t *text, size_t text_len, uint32_t flags,
                                         const struct tocmark_style *style, uint8_t *out, size_t out_len) {
   static const struct tocmark_style plain = {sizeof plain, 0, 0, 0, 0, 0, 0, 0, 0, 0, 0, 0, 0, 0};
@@ -416,6 +438,7 @@ static inline ptrdiff_t tocmark_compare_(const uint8_t *old_text, size_t old_len
 #define tocmark_write_packed_at tocmark_write_packed_at_
 #define tocmark_write_marshal_at tocmark_write_marshal_at_
 #define tocmark_rewrite tocmark_rewrite_
+#define tocmark_redefine tocmark_redefine_
 #define tocmark_format tocmark_format_
 #define tocmark_format_also tocmark_format_also_
 #define tocmark_compare tocmark_compare_

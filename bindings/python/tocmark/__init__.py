@@ -27,7 +27,7 @@ dictionary with one key. A document is a list of pairs of an event and its range
 ...     print(difference)
 the text "you" became "me"
 
-`links`, `headings`, `text` and `definitions` list what a text has:
+`links`, `headings`, `text` and `definitions` list what a text has, and `redefine` changes its definitions of links:
 
 >>> [link.destination for link in tocmark.links(source)]
 ['/old']
@@ -36,21 +36,23 @@ Calls take no lock, so several threads may call at once.
 """
 from ._calls import edit, format, read, rewrite, write
 from ._compare import KINDS, Difference, compare, same
-from ._errors import (Changed, Error, InvalidOptions, InvalidSourceRange, InvalidStyle, NotEvents, UnexpectedEvent,
+from ._errors import (Changed, Error, InvalidOptions, InvalidSourceRange, InvalidStyle, NoDefinition, NotEvents, UnexpectedEvent,
                       Unrepresentable)
 from ._files import format_file
 from ._mdbook import Chapter, mdbook
 from ._options import EXTENSIONS, SYNTAXES
-from ._outline import Definition, Heading, Link, definitions, headings, links, read_json, read_json_bytes, text
+from ._outline import Definition, Heading, Link, definitions, headings, links, read_json, read_json_bytes, redefine, text
 from ._tree import Node, position_of, text_of, tree, walk
 from .events import Event, Placed
 
 __version__ = "0.1.0"
 __all__ = [
     "EXTENSIONS", "KINDS", "SYNTAXES", "Changed", "Chapter", "Definition", "Difference", "Error", "Event", "Heading",
-    "InvalidOptions", "InvalidSourceRange", "InvalidStyle", "Link", "Node", "NotEvents", "Placed", "UnexpectedEvent",
-    "Unrepresentable", "compare", "definitions", "edit", "format", "format_file", "headings", "links", "mdbook",
-    "position_of", "read", "read_json", "read_json_bytes", "rewrite", "same", "text", "text_of", "tree", "walk", "write"]
-for _error in (Changed, Error, InvalidOptions, InvalidSourceRange, InvalidStyle, NotEvents, UnexpectedEvent, Unrepresentable):
+    "InvalidOptions", "InvalidSourceRange", "InvalidStyle", "Link", "NoDefinition", "Node", "NotEvents", "Placed",
+    "UnexpectedEvent", "Unrepresentable", "compare", "definitions", "edit", "format", "format_file", "headings", "links",
+    "mdbook", "position_of", "read", "read_json", "read_json_bytes", "redefine", "rewrite", "same", "text", "text_of", "tree",
+    "walk", "write"]
+for _error in (Changed, Error, InvalidOptions, InvalidSourceRange, InvalidStyle, NoDefinition, NotEvents, UnexpectedEvent,
+               Unrepresentable):
     _error.__module__ = __name__
 del _error

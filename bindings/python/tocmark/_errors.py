@@ -48,12 +48,16 @@ class Changed(Error, ValueError):
     """The document would parse to other events."""
 
 
+class NoDefinition(Error, ValueError):
+    """A definition is none of the source."""
+
+
 class InvalidStyle(Error, ValueError):
     """A style has no such value."""
 
 
 _ERRORS = {-6: NotEvents, -8: InvalidOptions, -9: InvalidOptions, -10: UnexpectedEvent, -11: Unrepresentable,
-           -12: InvalidSourceRange, -15: InvalidStyle, -16: Changed}
+           -12: InvalidSourceRange, -15: InvalidStyle, -16: Changed, -19: NoDefinition}
 
 
 def error_of(code: int, event: Optional[int] = None, lines: Optional[Tuple[int, int]] = None) -> Exception:

@@ -1,11 +1,12 @@
-"""What a text has: links, headings, words, and definitions of links."""
+"""What a text has: links, headings, words, and definitions of links, which can be changed."""
+import ctypes
 import json
 import os
 from typing import Any, Iterable, Iterator, List, NamedTuple, Optional, Tuple, Union
 
 from . import _library
 from ._calls import encoded
-from ._errors import error_of
+from ._errors import Error, error_of
 from ._options import flags_of
 
 # A field has this name below.
@@ -164,6 +165,41 @@ def definitions(text: str, *, syntax: str = "gfm", extensions: Iterable[str] = (
     found = json.loads(_listed(_library.definitions, text, flags_of(syntax, extensions), 2))
     return [Definition(it["label"], it["destination"], it["title"], _range_of(it["range"]), _range_of(it["destination_range"]),
                        _range_of(it["title_range"]), it["used"]) for it in found]
+
+
+def _redefining_error(code: int, place: Any) -> Exception:
+    """Returns the exception of a code, with the number of the definition or the line of the source."""
+    lines = (place.first_line, place.last_line) if place.first_line else None
+    error = error_of(code, None, lines)
+    if not isinstance(error, Error) or code == -5:
+        return error
+    if lines is not None:
+        return type(error)(code, None, lines, "no text was found that has this definition and else parses as before")
+    return type(error)(code, None, None, f"definition {place.event}: {error}")
+
+
+def redefine(source: str, definitions: Iterable[Definition], *, syntax: str = "gfm", extensions: Iterable[str] = ()) -> str:
+    """Returns a text whose definitions of links have the destinations and titles that are given. Those not given stay.
+
+    The definitions are some of those that `definitions` returns for the source. A definition is named by its label and its range.
+    Links by the label of a changed one follow, all else parses as before, and all other characters stay.
+
+    >>> import tocmark
+    >>> source = "[a]\\n\\n[a]: /b 'c'\\n[d]: /e\\n"
+    >>> tocmark.redefine(source, [it._replace(destination="/new", title="") for it in tocmark.definitions(source)])
+    '[a]\\n\\n[a]: /new\\n[d]: /new\\n'
+
+    Raises `NoDefinition` if one is none of the source, `Changed` if no such text was found, and what `read` does.
+    """
+    data = json.dumps([{"label": it.label, "destination": it.destination, "title": it.title,
+                        "range": {"start": it.range.start, "end": it.range.stop}} for it in definitions], ensure_ascii=False).encode()
+    text = encoded("source", source)
+    place = _library.Place(size=ctypes.sizeof(_library.Place))
+    code, found = _library.answer(_library.redefine, data, len(data), text, len(text), flags_of(syntax, extensions), place,
+                                  guess=2 * len(text) + 1024)
+    if code < 0:
+        raise _redefining_error(code, place)
+    return found.decode()
 
 
 def read_json(text: str, *, syntax: str = "gfm", extensions: Iterable[str] = ()) -> str:

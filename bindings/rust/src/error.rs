@@ -23,6 +23,10 @@ pub enum Error {
     InvalidOptions(OptionsError),
     /// A style has no such value.
     InvalidStyle,
+    /// The definition of links with this number, counted from 0, is none of the source.
+    NoDefinition(usize),
+    /// No text was found that has the definition of links on this line, counted from 1, and else parses as before.
+    Misread(usize),
     /// Memory ran out.
     OutOfMemory,
     /// Another error of the library: its code in `tocmark.h`.
@@ -58,6 +62,16 @@ impl fmt::Display for Error {
             Error::Failed => f.write_str("Markdown serializer cannot be used after an error"),
             Error::InvalidOptions(error) => write!(f, "{error}"),
             Error::InvalidStyle => f.write_str("a style has no such value"),
+            Error::NoDefinition(number) => {
+                write!(
+                    f,
+                    "definition {number}: the source has none with this label and range"
+                )
+            }
+            Error::Misread(line) => write!(
+                f,
+                "line {line}: no text was found that has this definition and else parses as before"
+            ),
             Error::OutOfMemory => f.write_str("out of memory"),
             Error::Other(code) => write!(f, "the library returned the error {code}"),
         }

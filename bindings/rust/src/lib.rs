@@ -18,7 +18,7 @@
 //! ```
 //!
 //! [`format()`] gives a document one style, [`compare()`] says what two texts say differently, and [`definitions()`] lists
-//! the definitions of links. The other functions and [`State`] have the signatures of the crate pulldown-cmark-to-cmark, so a
+//! the definitions of links, which [`redefine`] changes. The other functions and [`State`] have the signatures of the crate pulldown-cmark-to-cmark, so a
 //! program can use this crate in its place. Three things differ: invalid options are an error ([`Error::InvalidOptions`]), the
 //! writer receives the whole text at once, and it receives nothing if there is an error.
 //!
@@ -47,7 +47,7 @@ mod value;
 
 pub use compare::{compare, same, Allowed, Difference, Kind};
 pub use count::{calculate_code_block_token_count, DEFAULT_CODE_BLOCK_TOKEN_COUNT};
-pub use definitions::{definitions, Definition};
+pub use definitions::{definitions, redefine, Definition};
 pub use error::{Error, Fault, Place};
 pub use format::{
     format, Bullet, Delimiter, Fence, FormatOptions, HardBreak, ListIndent, Marker, Numbering,

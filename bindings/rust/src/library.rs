@@ -115,6 +115,17 @@ extern "C" {
         out_len: usize,
     ) -> isize;
 
+    fn tocmark_redefine(
+        json: *const u8,
+        json_len: usize,
+        source: *const u8,
+        source_len: usize,
+        flags: u32,
+        place: *mut PlaceInC,
+        out: *mut u8,
+        out_len: usize,
+    ) -> isize;
+
     fn tocmark_rewrite(
         json: *const u8,
         json_len: usize,
@@ -173,6 +184,28 @@ pub fn definitions(text: &str, flags: u32) -> Result<String, isize> {
             )
         }
     })
+}
+
+/// The source with the definitions of links that a JSON text gives. An error has its code, the number of a definition, and a line
+/// of the source or 0.
+pub fn redefine(json: &str, source: &str, flags: u32) -> Result<String, (isize, usize, usize)> {
+    let mut place = PlaceInC::unknown();
+    text_of(2 * source.len() + 1024, |out| {
+        // A slice's pointer is never null, `place` is this function's own, and `out` overlaps nothing that is read.
+        unsafe {
+            tocmark_redefine(
+                json.as_ptr(),
+                json.len(),
+                source.as_ptr(),
+                source.len(),
+                flags,
+                &mut place,
+                out.as_mut_ptr(),
+                out.len(),
+            )
+        }
+    })
+    .map_err(|code| (code, place.event, place.first_line))
 }
 
 /// The text in this style.

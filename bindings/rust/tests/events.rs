@@ -7,10 +7,10 @@ use pulldown_cmark::{
 use std::fmt;
 use tocmark::{
     calculate_code_block_token_count, cmark, cmark_with_options, cmark_with_source_range,
-    cmark_with_source_range_and_options, compare, definitions, edit, format, read, rewrite, same,
-    Allowed, Bullet, Delimiter, Error, Fault, FormatOptions, Kind, ListIndent, Marker, Options,
-    OptionsError, Place, Progress, State, Tables, Wrap, DEFAULT_CODE_BLOCK_TOKEN_COUNT,
-    SUPPORTED_PARSER_OPTIONS,
+    cmark_with_source_range_and_options, compare, definitions, edit, format, read, redefine,
+    rewrite, same, Allowed, Bullet, Delimiter, Error, Fault, FormatOptions, Kind, ListIndent,
+    Marker, Options, OptionsError, Place, Progress, State, Tables, Wrap,
+    DEFAULT_CODE_BLOCK_TOKEN_COUNT, SUPPORTED_PARSER_OPTIONS,
 };
 
 type Events = Vec<Event<'static>>;
@@ -833,6 +833,24 @@ fn definitions_have_their_places() {
     assert_eq!(&source[first.title_range.clone()], "'e \\'f'");
     assert!(found[1].title_range.is_empty());
     assert_eq!(&source[found[2].destination_range.clone()], "/second");
+}
+
+#[test]
+fn definitions_get_what_is_given() {
+    let source = "\u{feff}é [a]\n\n[a]: /b 'c'\n> [g]: <>\n\n[A]: /second\n";
+    let mut found = definitions(source, NONE).unwrap();
+    assert_eq!(redefine(source, &found, NONE).unwrap(), source);
+    assert_eq!(redefine(source, &[], NONE).unwrap(), source);
+    found[0].destination = "/\"x\" y".to_string();
+    found[1].title = "t".to_string();
+    let text = redefine(source, &found[..2], NONE).unwrap();
+    assert_eq!(
+        text,
+        "\u{feff}é [a]\n\n[a]: </\"x\" y> 'c'\n> [g]: <> \"t\"\n\n[A]: /second\n"
+    );
+    found[2].label = "b".to_string();
+    let fault = redefine(source, &found[1..], NONE).unwrap_err();
+    assert!(matches!(fault, Error::NoDefinition(1)), "{fault}");
 }
 
 #[test]
