@@ -108,7 +108,7 @@ fn spelled_in_html(alloc: Global, destination: &str, mark: u8) -> Result<String,
         return Ok(text);
     }
     let text = text.as_str().replace(alloc, "'", "&#39;")?;
-    if mark != b'\'' && text.bytes().any(|b| matches!(b, b'=' | b'`')) {
+    if mark != b'\'' && text.bytes().any(|b| matches!(b, b' ' | b'=' | b'`')) {
         return format!(in alloc; "\"{text}\"");
     }
     Ok(text)
@@ -215,14 +215,17 @@ fn keeps_all_else(
 /// An event and its bytes.
 type Found = (Event<'static>, (usize, usize));
 
-/// The byte of the first text where two readings first differ; the front, if one only goes on.
+/// The byte of the first text where two readings first differ: that of its last event, if the other one only goes on.
 fn first_difference(one: &[Found], other: &[Found]) -> usize {
     for ((event, range), (other_event, _)) in one.iter().zip(other) {
         if !same_event(event, other_event) {
             return range.0;
         }
     }
-    0
+    match one.get(other.len()).or(one.last()) {
+        Some((_event, range)) => range.0,
+        None => 0,
+    }
 }
 
 /// The line of a byte, from 1 on.

@@ -61,14 +61,31 @@ fn in_form(alloc: Global, path: &str, form: Form) -> Result<String, AllocError> 
     }
 }
 
-/// Whether a path has to be written with percent signs: the old one was, or it has what Markdown or an address would misread.
-fn needs_percent_signs(old: &str, new: &str) -> bool {
-    old.contains('%')
-        || new.bytes().any(|b| b <= b' '
-            || matches!(b, b'(' | b')' | b'<' | b'>' | b'#' | b'?' | b'%' | b'\\'))
+/// Whether a byte of a path has to be written with a percent sign, because Markdown or an address would misread it. The place of
+/// a path with blanks takes them and parentheses as they are.
+fn is_misread(byte: u8, takes_blanks: bool) -> bool {
+    match byte {
+        b' ' | b'(' | b')' => !takes_blanks,
+        b'<' | b'>' | b'#' | b'?' | b'%' | b'\\' => true,
+        _ => byte < b' ',
+    }
 }
 
-/// The path from a folder to a target, spelled as the old path was: `/` or `./` in front, percent signs. At its end is `/`, if the
+/// Whether a path has to be written with percent signs: the old one was, or it has what Markdown or an address would misread.
+fn needs_percent_signs(old: &str, new: &str) -> bool {
+    if old.contains('%') {
+        return true;
+    }
+    let takes_blanks = old.contains(' ');
+    for byte in new.as_bytes() {
+        if is_misread(*byte, takes_blanks) {
+            return true;
+        }
+    }
+    false
+}
+
+/// The path from a folder to a target, spelled as the old path was: `/` or `./` in front, blanks, percent signs. At its end is `/`, if the
 /// target has one, or the old path had one and the target is no page.
 fn spelled(alloc: Global, old: &str, folder: &str, target: &str) -> Result<String, AllocError> {
     let has_slash = target.ends_with('/') || old.ends_with('/') && !target.ends_with(".md");
@@ -235,7 +252,7 @@ impl Trip<'_> {
 /// led nowhere or out of the root, or if it is not local.
 ///
 /// The new path is relative or begins at the root as the old one did, names the page in the same form, and keeps `./`, a slash
-/// at the end, percent signs, query and anchor. If a path of that form leads elsewhere, it is the path of the file itself.
+/// at the end, blanks, percent signs, query and anchor. If a path of that form leads elsewhere, it is the path of the file itself.
 pub fn relocated(
     alloc: Global,
     tree: &Tree,

@@ -53,7 +53,7 @@ contents FILE..: fill tables of contents";
 
 /// The last lines of `--help`.
 const LAST: &str =
-    "Status 1: a link is broken, a file could not be read, or standard output\ncould not be written; 2: nothing was done.";
+    "Status 1: a link is broken, contents --dry-run found a file that would change,\na file could not be read, or standard output could not be written;\n2: nothing was done.";
 
 /// The options of this program alone.
 static OPTIONS: [CommandOption<'static>; 6] = [

@@ -118,6 +118,18 @@ fn contents_fault(file: String, text: &str, fault: changed::Fault) -> Fault {
     fault_of(file, fault)
 }
 
+/// The first line of a text that another text has otherwise, from 1 on.
+fn first_changed_line(old: &str, new: &str) -> usize {
+    let mut number = 1usize;
+    for (was, is) in old.split('\n').zip(new.split('\n')) {
+        if was != is {
+            return number;
+        }
+        number = number.saturating_add(1);
+    }
+    number
+}
+
 impl Site {
     /// What is said of an anchor of the page at a path that no heading has.
     fn no_heading(
@@ -272,7 +284,7 @@ impl Site {
         let note = Note {
             kind: Kind::Contents,
             file: shown.as_str(),
-            line: 1,
+            line: first_changed_line(old, new.as_str()),
             column: 1,
             old: "table of contents",
             new: None,

@@ -22,10 +22,11 @@ use crate::fault::Fault;
 use crate::outcome::{Outcome, status_of};
 use crate::plan::Plan;
 use crate::report::Report;
-use crate::root::Root;
+use crate::root::{Root, within};
 use crate::shell::ShellWord;
 use crate::site::{LINKS, Site};
 use clap::ArgMatches;
+use std::fmt::Write;
 use std::fs;
 use std::process::ExitCode;
 use tocmark_command::program::words_of;
@@ -104,17 +105,33 @@ fn diff_of(rt: &HostRuntime, site: &Site, plan: &Plan) -> Result<String, Fault> 
     Ok(diff)
 }
 
-/// How to stage a move, if Git has the tree.
-fn staging_line(rt: &HostRuntime, site: &Site, new: &str) -> Result<Option<String>, Fault> {
+/// How to stage a move and the changes that it makes, if Git has the tree. What is changed in the old place is in the new one.
+fn staging_line(
+    rt: &HostRuntime,
+    site: &Site,
+    plan: &Plan,
+    (old, new): (&str, &str),
+) -> Result<Option<String>, Fault> {
     if !site.root.is_git || site.terms.is_dry {
         return Ok(None);
     }
-    let new = site.root.shown(rt.alloc(), new)?;
-    let new = ShellWord(new.as_str());
-    let line = format!(in rt.alloc();
-        "nothing is staged; to do that: git add --update && git add -- {new}"
-    )?;
+    let mut line = String::from_str(rt.alloc(), "nothing is staged; to do that: git add --")?;
+    add_word(rt, site, &mut line, old)?;
+    add_word(rt, site, &mut line, new)?;
+    for edit in &plan.edits {
+        if within(edit.path.as_str(), old).is_none() {
+            add_word(rt, site, &mut line, edit.path.as_str())?;
+        }
+    }
     Ok(Some(line))
+}
+
+/// Adds a blank and a path in the tree, as a word of a shell, to a command.
+fn add_word(rt: &HostRuntime, site: &Site, line: &mut String, path: &str) -> Result<(), Fault> {
+    let path = site.root.shown(rt.alloc(), path)?;
+    let word = ShellWord(path.as_str());
+    write!(line, " {word}")?;
+    Ok(())
 }
 
 /// What is said last: what is moved, how much is changed, and how to stage it.
@@ -139,8 +156,8 @@ fn last_lines(
     let files = plan.edits.len();
     let noun = if files == 1 { "file" } else { "files" };
     lines.push(format!(in rt.alloc(); "{changed}: {count} in {files} {noun}")?)?;
-    if let Some((_, new)) = &plan.way
-        && let Some(line) = staging_line(rt, site, new.as_str())?
+    if let Some((old, new)) = &plan.way
+        && let Some(line) = staging_line(rt, site, plan, (old.as_str(), new.as_str()))?
     {
         lines.push(line)?;
     }
@@ -148,7 +165,7 @@ fn last_lines(
 }
 
 /// Writes what was changed, and returns what becomes of that. The change stays, also if nobody can read of it.
-fn tell(rt: &HostRuntime, output: &str) -> Outcome {
+fn report_change(rt: &HostRuntime, output: &str) -> Outcome {
     match write_out(&mut rt.stdout(), output) {
         Ok(()) => Outcome::Right,
         Err(error) => {
@@ -176,17 +193,17 @@ fn finish(
     } else {
         report.end()?
     };
-    let mut told = Outcome::Right;
+    let mut outcome = Outcome::Right;
     if site.terms.is_dry {
         print(rt, output.as_str())?;
     } else {
         plan.carry_out(rt, &site.root, text)?;
-        told = tell(rt, output.as_str());
+        outcome = report_change(rt, output.as_str());
     }
     for line in &lines {
         LINKS.complain(&mut rt.stderr(), &line.as_str());
     }
-    let status = status_of(&[told]);
+    let status = status_of(&[outcome]);
     Ok(if status == 0 {
         status_of(&site.outcomes)
     } else {

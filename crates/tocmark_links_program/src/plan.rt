@@ -117,8 +117,8 @@ fn write_mark(rt: &HostRuntime, path: &str, text: &str) -> io::Result<()> {
     done
 }
 
-/// What the file of an earlier call says. Its line has an end once the call may change files.
-fn said_by(text: &str) -> &str {
+/// The message in the file of an earlier call. Its line has an end once the call may change files.
+fn message_in(text: &str) -> &str {
     if text.ends_with('\n') {
         text.trim_end()
     } else {
@@ -132,7 +132,7 @@ fn begin(rt: &HostRuntime, path: &str, text: &str) -> Result<(), Fault> {
         Ok(()) => Ok(()),
         Err(error) if error.kind() == io::ErrorKind::AlreadyExists => {
             let text = match fs::read_to_string(rt, path) {
-                Ok(said) => String::from_str(rt.alloc(), said_by(said.as_str()))?,
+                Ok(line) => String::from_str(rt.alloc(), message_in(line.as_str()))?,
                 Err(_error) => String::from_str(rt.alloc(), "it cannot be read")?,
             };
             Err(Fault::Running(in_quotes(rt.alloc(), path)?, text))
