@@ -640,7 +640,7 @@ class Comparing(unittest.TestCase):
     def test_differences(self):
         found = tocmark.compare("# a\n\nb \"c\"\n", "## a\n\nb \\\\d\n\n- e\n")
         self.assertEqual([(it.kind, it.old, it.new) for it in found],
-                         [("level", (1, 1), (1, 1)), ("text", (3, 3), (3, 3)), ("added", found[2].old, (5, 5))])
+                         [("level", (1, 1), (1, 1)), ("text", (3, 3), (3, 3)), ("added", (3, 3), (5, 5))])
         self.assertEqual((found[1].was, found[1].is_), ('"c"', "\\d"))
         self.assertEqual([str(it) for it in found], [it.message for it in found])
 

@@ -24,19 +24,19 @@ definition_events true ds = []
 definition_events false ds = map definition_event ds
 
 -- the events that a reader finds, and then the link definitions, without what may differ; each longest stretch of texts is one
-abbrev pub said : Allowed → ReadingView → List DefinedLink → List EventView
-said a found ds =
+abbrev pub remaining_events : Allowed → ReadingView → List DefinedLink → List EventView
+remaining_events a found ds =
     merged (erased a within.Prose (counted a.wrap (found_events found) ++ definition_events a.definitions ds))
 
 -- what a reader finds in a text; a byte order mark at its front is no text
-abbrev pub said_by : Allowed → ParserOptions → (List ℕ → ParserOptions → ReadingView) → (List ℕ → ParserOptions → List DefinedLink) → List ℕ → List EventView
-said_by a flags reading definitions text =
-    said a (reading (after_mark text) flags) (definitions (after_mark text) flags)
+abbrev pub remaining_events_of : Allowed → ParserOptions → (List ℕ → ParserOptions → ReadingView) → (List ℕ → ParserOptions → List DefinedLink) → List ℕ → List EventView
+remaining_events_of a flags reading definitions text =
+    remaining_events a (reading (after_mark text) flags) (definitions (after_mark text) flags)
 
 -- two texts say the same but for what may differ
 abbrev pub SayTheSame : Allowed → ParserOptions → (List ℕ → ParserOptions → ReadingView) → (List ℕ → ParserOptions → List DefinedLink) → List ℕ → List ℕ → Type 0
 SayTheSame a flags reading definitions old new =
-    said_by a flags reading definitions old ≡ said_by a flags reading definitions new
+    remaining_events_of a flags reading definitions old ≡ remaining_events_of a flags reading definitions new
 
 -- two texts have the same letters in the same order, whatever a reader finds
 abbrev pub HaveSameLetters : List ℕ → List ℕ → Type 0

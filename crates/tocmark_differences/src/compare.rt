@@ -11,7 +11,7 @@ ghost use Rattle.tocmark_judge.specs.Marks.{after_mark};
 ghost use Rattle.tocmark_judge.specs.Same.{counted};
 ghost use Rattle.tocmark_differences.specs.Erased.{erased};
 ghost use Rattle.tocmark_differences.specs.First.{IsFirst};
-ghost use Rattle.tocmark_differences.specs.Said.{SayTheSame, definition_event, definition_events, said, said_by};
+ghost use Rattle.tocmark_differences.specs.Said.{SayTheSame, definition_event, definition_events, remaining_events, remaining_events_of};
 
 use crate::align::differences_between;
 use crate::allowed::Allowed;
@@ -98,9 +98,9 @@ impl<R: PartReader> Comparer<'_, R> {
     }
 
     /// What a text after its byte order mark says, without what may differ.
-    fn said_in(&self, text: &str) -> Result<Vec<Placed>, AllocError>
+    fn events_of(&self, text: &str) -> Result<Vec<Placed>, AllocError>
         ensures { IfOk result (λ events. merged (given_events events.items)
-            ≡ said self.now.allowed
+            ≡ remaining_events self.now.allowed
             (R.reading self.now.reader.now text.now self.now.flags)
             (R.definitions self.now.reader.now text.now self.now.flags)) }
     {
@@ -144,8 +144,8 @@ pub fn compared<R: PartReader>(
     ensures same { IfOk result (λ all. (all.items ≡ []) ↔ SayTheSame allowed flags
         (R.reading reader.now) (R.definitions reader.now) old.now new.now) }
     ensures first { IfOk result (λ all. IsFirst
-        (said_by allowed flags (R.reading reader.now) (R.definitions reader.now) old.now)
-        (said_by allowed flags (R.reading reader.now) (R.definitions reader.now) new.now)
+        (remaining_events_of allowed flags (R.reading reader.now) (R.definitions reader.now) old.now)
+        (remaining_events_of allowed flags (R.reading reader.now) (R.definitions reader.now) new.now)
         all.items) }
 {
     let comparer = Comparer {
@@ -155,6 +155,6 @@ pub fn compared<R: PartReader>(
         allowed,
     };
     let (old, new) = (after_mark(old), after_mark(new));
-    let (was, is) = (comparer.said_in(old)?, comparer.said_in(new)?);
+    let (was, is) = (comparer.events_of(old)?, comparer.events_of(new)?);
     differences_between(alloc, (old, was), (new, is))
 }
