@@ -281,7 +281,7 @@ impl EditorConfigs {
     }
 
     /// What is said of the file with this path in this folder. The nearest file that says something counts.
-    fn said_of(&mut self, rt: &HostRuntime, folder: &str, path: &str) -> Result<Said, Refused> {
+    fn options_of(&mut self, rt: &HostRuntime, folder: &str, path: &str) -> Result<Said, Refused> {
         let mut said = Said::NOTHING;
         for above in Path::new(folder).ancestors() {
             let EditorFolder { file, is_last } = self.folder(rt, above)?;
@@ -305,6 +305,8 @@ pub struct Configurations {
     editors: EditorConfigs,
     /// The first holds where there is no file, or is that of `--config`.
     all: Vec<Configuration>,
+    /// The path of the file of each.
+    paths: Vec<String>,
     /// Whether the first is for all folders.
     is_one: bool,
     by_folder: HashMap<String, usize>,
@@ -323,11 +325,14 @@ impl Configurations {
         };
         let mut all = Vec::new(rt.alloc());
         all.push(first)?;
+        let mut paths = Vec::new(rt.alloc());
+        paths.push(String::from_str(rt.alloc(), path.unwrap_or(""))?)?;
         let caller = Caller::new(rt);
         Ok(Configurations {
             caller,
             editors: EditorConfigs::new(rt, caller),
             all,
+            paths,
             is_one: path.is_some(),
             by_folder: HashMap::new(rt.alloc()),
             sites: HashMap::new(rt.alloc()),
@@ -351,6 +356,8 @@ impl Configurations {
             if let Some(configuration) = configuration_of(rt, self.caller, above)? {
                 nearest = self.all.len();
                 self.all.push(configuration)?;
+                self.paths
+                    .push(joined(rt.alloc(), above.as_str(), CONFIGURATION_FILE)?)?;
                 break;
             }
             if !goes_on(rt, self.caller, above)? {
@@ -378,6 +385,14 @@ impl Configurations {
 
     pub(crate) fn get(&self, at: usize) -> Option<&Configuration> {
         self.all.get(at)
+    }
+
+    /// The path of the file of a configuration.
+    pub(crate) fn path(&self, at: usize) -> &str {
+        match self.paths.get(at) {
+            Some(path) => path.as_str(),
+            None => "",
+        }
     }
 
     /// Whether a folder, by its path from the root on, belongs to a site of MkDocs: its file is there or above. It isn't looked
@@ -411,7 +426,7 @@ impl Configurations {
     }
 
     /// What files of EditorConfig say of the file with this path in this folder, if a configuration asks for them.
-    fn said_of(
+    fn editor_options(
         &mut self,
         rt: &HostRuntime,
         at: usize,
@@ -423,7 +438,7 @@ impl Configurations {
             None => Asked::Nothing,
         };
         match path {
-            Some(path) if asked != Asked::Nothing => self.editors.said_of(rt, folder, path),
+            Some(path) if asked != Asked::Nothing => self.editors.options_of(rt, folder, path),
             _ => Ok(Said::NOTHING),
         }
     }
@@ -439,7 +454,7 @@ impl Configurations {
         let is_of_site = self.is_of_site(rt, folder)?;
         let document = Document {
             path,
-            said: self.said_of(rt, at, folder, path)?,
+            said: self.editor_options(rt, at, folder, path)?,
             is_of_site,
         };
         match self.all.get(at) {

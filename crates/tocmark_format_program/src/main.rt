@@ -270,13 +270,13 @@ fn is_colored(rt: &HostRuntime, color: Color) -> bool {
     }
 }
 
-/// Whether there is a summary: not of standard input alone, nor of folders without files alone.
+/// Whether there is a summary: not of standard input alone, nor of folders without files or of what is excluded alone.
 fn has_summary(found: &Found) -> bool {
     if !found.failures.is_empty() {
         return true;
     }
     match found.targets.as_slice() {
-        [] => found.empty.is_empty(),
+        [] => found.empty.is_empty() && found.excluded.is_empty(),
         [only] => match &only.origin {
             Origin::File(_) => true,
             _ => false,
@@ -408,8 +408,9 @@ fn perform(
         report.failed(failure.path.as_str(), &failure.fault)?;
         outcomes.push(Outcome::FAILED)?;
     }
-    for path in &found.excluded {
-        report.note(path.as_str(), "excluded");
+    let is_alone = found.targets.is_empty() && found.failures.is_empty();
+    for it in &found.excluded {
+        report.excluded(it.path.as_str(), it.by.as_str(), is_alone);
     }
     for path in &found.site_files {
         report.site(path.as_str());

@@ -152,6 +152,20 @@ impl fmt::Display for Note<'_> {
     }
 }
 
+/// A file or folder that is excluded, and by what.
+#[derive(Drop)]
+struct Excluded<'m> {
+    path: Quoted<'m>,
+    by: Quoted<'m>,
+}
+
+impl fmt::Display for Excluded<'_> {
+    fn fmt<W: fmt::Write>(&self, f: &mut fmt::Formatter<W>) -> fmt::Result {
+        let (path, by) = (self.path, self.by);
+        write!(f, "{path}: excluded by {by}")
+    }
+}
+
 /// What is found in a file or folder, and in which of its lines.
 #[derive(Drop)]
 struct Finding<'m, M: fmt::Display> {
@@ -293,6 +307,16 @@ impl<E: Write + Drop> Report<E> {
             self.say(&Note {
                 path: Quoted(path),
                 what,
+            });
+        }
+    }
+
+    /// Writes a line about a file or folder that is excluded, and by what: if each file is named, or if there are no others.
+    pub fn excluded(&mut self, path: &str, by: &str, is_alone: bool) {
+        if self.voice.is_verbose || is_alone && !self.voice.is_quiet {
+            self.say(&Excluded {
+                path: Quoted(path),
+                by: Quoted(by),
             });
         }
     }

@@ -45,13 +45,21 @@ pub struct Failure {
     pub fault: Fault,
 }
 
+/// A file or folder that is named and excluded.
+#[derive(Drop)]
+pub struct Exclusion {
+    pub path: String,
+    /// What excludes it: `--exclude`, or the path of a configuration file.
+    pub by: String,
+}
+
 /// What a search found.
 #[derive(Drop)]
 pub struct Found {
     pub targets: Vec<Target>,
     pub failures: Vec<Failure>,
-    /// Files that are named and excluded.
-    pub excluded: Vec<String>,
+    /// Files and folders that are named and excluded.
+    pub excluded: Vec<Exclusion>,
     /// Folders that are named and have no files to format.
     pub empty: Vec<String>,
     /// Files below folders that look as if an interrupted call left them after.
@@ -170,40 +178,48 @@ impl Search {
         }
     }
 
-    /// Whether something or a folder above it is excluded.
-    fn covers(
+    /// What excludes something or a folder above it: `--exclude`, or the path of a configuration file. `None`: nothing does.
+    fn excluder(
         &self,
         rt: &HostRuntime,
         configuration: usize,
         entry: Entry<'_>,
-    ) -> Result<bool, Refused> {
+    ) -> Result<Option<String>, Refused> {
         if self.choice.exclude.cover(rt.alloc(), entry)? {
-            return Ok(true);
+            return Ok(Some(String::from_str(rt.alloc(), "--exclude")?));
         }
         match self.configurations.get(configuration) {
-            Some(configuration) => Ok(configuration.exclude.cover(rt.alloc(), entry)?),
-            None => Ok(false),
+            Some(it) if it.exclude.cover(rt.alloc(), entry)? => {
+                let path = self.configurations.path(configuration);
+                Ok(Some(String::from_str(rt.alloc(), path)?))
+            }
+            _ => Ok(None),
         }
     }
 
-    /// Whether a folder that is named, or one above it, is excluded.
-    pub(crate) fn is_excluded_folder(
+    /// What excludes a folder that is named, or one above it. `None`: nothing does.
+    pub(crate) fn folder_excluder(
         &mut self,
         rt: &HostRuntime,
         path: &str,
-    ) -> Result<bool, Refused> {
+    ) -> Result<Option<String>, Refused> {
         let configuration = self.nearest(rt, path)?;
         let entry = Entry {
             path,
             is_folder: true,
         };
-        self.covers(rt, configuration, entry)
+        self.excluder(rt, configuration, entry)
     }
 
-    /// Notes that something that is named is excluded.
-    pub(crate) fn exclude(&mut self, rt: &HostRuntime, path: &str) -> Result<(), Refused> {
+    /// Notes that something that is named is excluded, and by what.
+    pub(crate) fn exclude(
+        &mut self,
+        rt: &HostRuntime,
+        path: &str,
+        by: String,
+    ) -> Result<(), Refused> {
         let path = String::from_str(rt.alloc(), path)?;
-        self.found.excluded.push(path)?;
+        self.found.excluded.push(Exclusion { path, by })?;
         Ok(())
     }
 
@@ -284,8 +300,8 @@ impl Search {
     fn add_file(&mut self, rt: &HostRuntime, path: &str) -> Result<(), Refused> {
         let whole = self.whole(rt, path)?;
         let configuration = self.nearest(rt, folder_of(whole.as_str()))?;
-        if self.covers(rt, configuration, Entry::file(whole.as_str()))? {
-            return self.exclude(rt, path);
+        if let Some(by) = self.excluder(rt, configuration, Entry::file(whole.as_str()))? {
+            return self.exclude(rt, path, by);
         }
         if !self.includes(rt, configuration, whole.as_str())? {
             return self.fail(rt, path, Fault::NotIncluded);
@@ -345,7 +361,8 @@ impl Search {
     pub fn add_input_as(&mut self, rt: &HostRuntime, path: &str) -> Result<(), Refused> {
         let whole = self.whole(rt, path)?;
         let configuration = self.nearest(rt, folder_of(whole.as_str()))?;
-        let origin = if self.covers(rt, configuration, Entry::file(whole.as_str()))? {
+        let excluder = self.excluder(rt, configuration, Entry::file(whole.as_str()))?;
+        let origin = if excluder.is_some() {
             Origin::ExcludedInput
         } else {
             Origin::Input

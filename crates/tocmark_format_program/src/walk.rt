@@ -97,8 +97,8 @@ impl Search {
             Err(error) => return self.fail(rt, path, Fault::Read(error)),
         };
         let whole = whole_path(rt, path)?;
-        if self.is_excluded_folder(rt, whole.as_str())? {
-            return self.exclude(rt, path);
+        if let Some(by) = self.folder_excluder(rt, whole.as_str())? {
+            return self.exclude(rt, path, by);
         }
         let Some(ignores) = self.ignores_above(rt, whole.as_str())? else {
             return Ok(());
