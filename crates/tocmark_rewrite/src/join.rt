@@ -355,7 +355,7 @@ fn put_block(
     }
 }
 
-/// The source's end, or what is left of it if its last blocks were taken out.
+/// The source's end, or what is left of it if its last blocks were taken out. After definitions at the end it is as it was.
 fn put_tail(
     source: &str,
     between: Between<'_>,
@@ -373,6 +373,10 @@ fn put_tail(
     put_gaps(source, between, last.next, count.saturating_add(1), output)?;
     if output.text.is_empty() {
         return Ok(());
+    }
+    if has_text(source.as_bytes(), from, to) {
+        let (_, past) = trimmed(source.as_bytes(), from, to);
+        return output.copy(source, past, to);
     }
     output.put_str(source, between.line_end(last.next).as_str())
 }
