@@ -1,4 +1,4 @@
--- The events that are handed to rewriting are those of the JSON text.
+-- What is rewritten for the events of a JSON text.
 use Rattle.std.proofs.Common.{◌≡◌, ◌≢◌, ◌++◌, [], ℕ, List, Option, Result, false, map, refl, subst, sym, ap, ◌∙◌, string_bytes}
 use mathlib.Core.List.{map-map}
 use Rattle.std.specs.Borrow.{Bor}
@@ -26,24 +26,6 @@ use Rattle.tocmark_documents.specs.declared.fault.RewriteError.{RewriteError}
 use Rattle.tocmark_documents.specs.declared.fault.RewriteError.TheVariants as rewrite_error
 use Rattle.tocmark_documents.specs.declared.pairs.EventPairs.{EventPairs}
 use Rattle.tocmark_documents.proofs.FoundAgain.{given_read}
-
--- all that was lent was handed on
-edited_are : (xs : List (Bor ParserEvent × Option Range)) (it : EventPairs) → Drains (YieldsFirstBy lent_pair places_left) it xs → edited_events xs ≡ without_range (places_left it)
-edited_are xs it (u, (t, gave, last)) =
-    sym (map-map (λ (p : Pair). p.0) lent_pair xs) ∙ ap without_range (drained lent_pair places_left xs it (t, gave, λ _. (u, last)))
-
--- ranges don't count
-without_kept : (ps : List Pair) → without_range (in_source true ps) ≡ without_range ps
-without_kept ps = map-map (λ (p : Pair). p.0) (λ (p : Pair). (p.0, kept true p.1)) ps
-
--- the events that were taken from pairs are theirs
-pub events_handed : (xs : List (Bor ParserEvent × Option Range)) (it given : EventPairs) (ps : List (ParserEvent × Option (ℕ × ℕ))) → it ≡ given → places_left given ≡ in_source true (map (pair_view text_of) ps) → Drains (YieldsFirstBy lent_pair places_left) it xs → edited_events xs ≡ given_events ps
-events_handed xs it given ps same left all =
-    edited_are xs it all
-    ∙ ap (λ (s : EventPairs). without_range (places_left s)) same
-    ∙ ap without_range left
-    ∙ without_kept (map (pair_view text_of) ps)
-    ∙ sym (given_read ps)
 
 -- what is written for the events of a JSON text is written from that text
 pub written_from : (flags : ParserOptions) (source input : List ℕ) (ps : List (ParserEvent × Option (ℕ × ℕ))) (r : Result Rewritten RewriteError) → IsTextOf input (map (pair_view text_of) ps) → IfOk r (IsWrittenAfterMark (reading_under flags) source (given_events ps)) → IfOk r (IsRewrittenFrom flags source input)
@@ -78,9 +60,3 @@ unmarked reading source given r none h =
       is_written = subst (λ (s : List ℕ). IsWrittenFor reading s given answer) (sym (rest-unmarked source none)) w;
       is_marked = record { text = ap (λ (s : List ℕ). s ++ string_bytes answer.text) (sym (no_mark source none)); parts = refl; trees = refl };
     }) h
-
--- a fault that isn't of memory has its cause, so each has
-pub caused : (reading : List ℕ → ReadingView) (source : List ℕ) (given : List EventView) (f : Fault) → (f ≢ fault.OutOfMemory → HasItsCause reading source given f) → HasItsCause reading source given f
-caused reading source given fault.OutOfMemory h = tt
-caused reading source given (fault.Refused p e) h = h (λ is. absurd (let same = is in cc))
-caused reading source given (fault.ReadOtherwise p) h = h (λ is. absurd (let same = is in cc))

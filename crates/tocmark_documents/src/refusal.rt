@@ -28,7 +28,10 @@ impl fmt::Write for Discarded {
 
 /// The number of the event that unbalances a list: of the first End that isn't the innermost open container's, or else of
 /// the innermost Start that has no End.
-pub(crate) fn unbalanced(alloc: Global, pairs: &[Placed<'_>]) -> Result<Option<usize>, AllocError>
+pub(crate) fn unbalanced<X>(
+    alloc: Global,
+    pairs: &[(Event<'_>, X)],
+) -> Result<Option<usize>, AllocError>
     ensures { IfOk result (λ answer. IfSome answer (λ at. at < length pairs.now)) }
 {
     let mut open = Vec::new(alloc);
@@ -134,7 +137,7 @@ fn range_at(pairs: &[Placed<'_>], event: usize, has_source: bool) -> Option<(usi
 }
 
 /// The lines of a range of a source: those of its first byte and of its last one.
-fn lines_of(
+pub(crate) fn lines_of(
     alloc: Global,
     source: &str,
     range: (usize, usize),

@@ -13,37 +13,46 @@ ghost use Rattle.tocmark_documents.specs.Document.{without_range};
 ghost use Rattle.tocmark_documents.specs.Interchange.{IsNoEvents};
 ghost use Rattle.tocmark_documents.specs.Rewriting.{IsAfterMark, IsOfBlock, IsRewriteCause, IsRewrittenFrom, IsWrittenAfterMark, reading_under};
 
-use crate::aligning::{aligned, in_rest};
+use crate::aligning::{aligned, in_places, in_rest};
 use crate::fault::{RewriteError, WriteError};
-use crate::pairs::{EventPairs, Placed};
-use crate::refusal::{place_at, unbalanced};
-use crate::writing::{lent, pairs_in};
+use crate::pairs::Placed;
+use crate::refusal::{lines_of, unbalanced};
+use crate::writing::pairs_in;
 use std::alloc::{AllocError, Global};
-use tocmark::event::ParserOptions;
+use tocmark::event::{Event, ParserOptions};
 use tocmark::{Error, Options};
 use tocmark_judge::mark::{with_mark, without_mark};
 use tocmark_reader::{ExtendedReader, Names};
-use tocmark_rewrite::{Fault, Place, Rewritten, rewritten};
+use tocmark_rewrite::{Fault, Place, Rewritten, rewritten_slice};
 
-/// The place of the event that unbalances a list, if one does.
+/// The place of the event that unbalances a list, if one does, with its lines unless its range is empty.
 fn unbalanced_place(
     alloc: Global,
-    pairs: &[Placed<'_>],
+    events: &[(Event<'_>, (usize, usize))],
     source: &str,
 ) -> Result<Option<Place>, AllocError> {
-    match unbalanced(alloc, pairs)? {
-        Some(at) => Ok(Some(place_at(alloc, pairs, at, source, true)?)),
-        None => Ok(None),
-    }
+    let Some(event) = unbalanced(alloc, events)? else {
+        return Ok(None);
+    };
+    let lines = match events.get(event) {
+        Some((_, range)) if range.0 < range.1 => Some(lines_of(alloc, source, *range)?),
+        _ => None,
+    };
+    Ok(Some(Place { event, lines }))
 }
 
 /// Why events have no text: if they are unbalanced, the event that makes them so is named.
-fn told(alloc: Global, pairs: &[Placed<'_>], source: &str, fault: Fault) -> RewriteError
+fn refusal_of(
+    alloc: Global,
+    events: &[(Event<'_>, (usize, usize))],
+    source: &str,
+    fault: Fault,
+) -> RewriteError
     ensures { (reading : List ℕ → ReadingView) → (given : List EventView)
         → HasItsCause reading source.now given fault
         → IsOfBlock reading source.now given result }
 {
-    let Ok(unbalanced) = unbalanced_place(alloc, pairs, source) else {
+    let Ok(unbalanced) = unbalanced_place(alloc, events, source) else {
         return RewriteError::OutOfMemory;
     };
     if let Some(place) = unbalanced {
@@ -60,6 +69,15 @@ fn told(alloc: Global, pairs: &[Placed<'_>], source: &str, fault: Fault) -> Rewr
     }
 }
 
+/// The events, lent.
+fn lent<'a>(
+    events: &'a [(Event<'static>, (usize, usize))],
+) -> &'a [(Event<'a>, (usize, usize))]
+    ensures { result.now ≡ events.now }
+{
+    events
+}
+
 /// The source, rewritten to these events.
 fn rewritten_pairs(
     alloc: Global,
@@ -74,11 +92,11 @@ fn rewritten_pairs(
         (given_events pairs.entry.items)) }
 {
     let placed = aligned(alloc, pairs, source, flags)?;
-    let given = EventPairs::new(lent(&placed), true);
+    let events = in_places(alloc, placed)?;
     let reader = ExtendedReader { names: Names::All };
-    match rewritten(alloc, source, given, &reader, flags, options) {
+    match rewritten_slice(alloc, source, lent(&events), &reader, flags, options) {
         Ok(answer) => Ok(answer),
-        Err(fault) => Err(told(alloc, lent(&placed), source, fault)),
+        Err(fault) => Err(refusal_of(alloc, &events, source, fault)),
     }
 }
 
