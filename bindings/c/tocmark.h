@@ -119,7 +119,8 @@ ptrdiff_t tocmark_write_json(const uint8_t *json, size_t json_len, const uint8_t
                              const uint8_t *options, size_t options_len, uint8_t *out, size_t out_len);
 
 /* Does what tocmark_write_json does, parses the result as a whole, and refuses it (TOCMARK_CHANGED) unless it has just these
- * events. Texts side by side count as one. */
+ * events. Texts side by side count as one. Use this one unless time matters more: of some lists, the blocks that
+ * tocmark_write_json writes one by one are read otherwise together. */
 ptrdiff_t tocmark_write_checked(const uint8_t *json, size_t json_len, const uint8_t *source, size_t source_len,
                                 uint32_t flags, const uint8_t *options, size_t options_len, uint8_t *out, size_t out_len);
 

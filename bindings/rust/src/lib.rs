@@ -186,6 +186,47 @@ fn rewritten(
         .map_err(|fault| fault.numbered(&events.numbers))
 }
 
+/// Returns a document of these events alone. It chooses the layout, and leaves out definitions that no link uses.
+///
+/// The result parses to just these events, with neighbouring texts joined, or you get a [`Fault`]. The parser for that is the
+/// library's own. [`cmark`] parses only the blocks that its writer doubts, so that a few documents come back changed. Flags that
+/// aren't among [`SUPPORTED_PARSER_OPTIONS`] are ignored.
+///
+/// A fault names the block that isn't written by its first event. If the whole text parses otherwise, it names the first event
+/// that the text doesn't have.
+///
+/// ```
+/// use pulldown_cmark::{Event, Options, Tag, TagEnd};
+///
+/// let events = [Event::Start(Tag::Paragraph), Event::Text("# a".into()), Event::End(TagEnd::Paragraph)];
+/// assert_eq!(tocmark::write(events.iter(), Options::empty(), Default::default())?, "\\# a");
+/// # Ok::<(), tocmark::Fault>(())
+/// ```
+pub fn write<'a, I, E>(
+    events: I,
+    flags: ParserOptions,
+    options: Options<'_>,
+) -> Result<String, Fault>
+where
+    I: IntoIterator<Item = E>,
+    E: Borrow<Event<'a>>,
+{
+    let flags = options::written_flags(flags);
+    options.validate(flags)?;
+    let given: Vec<E> = events.into_iter().collect();
+    let merged = own::Merged::new(given.iter().map(Borrow::borrow));
+    let json = format!("[{}]", merged.events.join(","));
+    let given = library::Given {
+        events: json.as_bytes(),
+        source: "",
+        flags: flags.bits(),
+        options: &options.to_json(),
+    };
+    given
+        .write_checked()
+        .map_err(|fault| fault.numbered(&merged.numbers))
+}
+
 /// Writes events under the default options. The text has to parse back under these flags.
 pub fn cmark<'a, I, E, F>(
     events: I,

@@ -126,6 +126,19 @@ extern "C" {
         out_len: usize,
     ) -> isize;
 
+    fn tocmark_write_checked_at(
+        json: *const u8,
+        json_len: usize,
+        source: *const u8,
+        source_len: usize,
+        flags: u32,
+        options: *const u8,
+        options_len: usize,
+        place: *mut PlaceInC,
+        out: *mut u8,
+        out_len: usize,
+    ) -> isize;
+
     fn tocmark_rewrite(
         json: *const u8,
         json_len: usize,
@@ -246,7 +259,21 @@ pub fn compare(old: &str, new: &str, flags: u32, allowed: u32) -> Result<String,
     })
 }
 
-/// What both functions get. The events are packed for `write`, and JSON for `rewrite`.
+/// A function of the library that makes a text of events as JSON over a source.
+type TextMaker = unsafe extern "C" fn(
+    *const u8,
+    usize,
+    *const u8,
+    usize,
+    u32,
+    *const u8,
+    usize,
+    *mut PlaceInC,
+    *mut u8,
+    usize,
+) -> isize;
+
+/// What these functions get. The events are packed for `write`, and else JSON.
 pub struct Given<'g> {
     pub events: &'g [u8],
     pub source: &'g str,
@@ -278,13 +305,22 @@ impl Given<'_> {
         .map_err(Error::from_code)
     }
 
+    /// The Markdown of the events alone, which parses to just these events.
+    pub fn write_checked(&self) -> Result<String, Fault> {
+        self.made_by(tocmark_write_checked_at, 2 * self.events.len() + 1024)
+    }
+
     /// The source, rewritten to the events.
     pub fn rewrite(&self) -> Result<String, Fault> {
+        self.made_by(tocmark_rewrite, self.source.len() + 4096)
+    }
+
+    fn made_by(&self, make: TextMaker, room: usize) -> Result<String, Fault> {
         let mut place = PlaceInC::unknown();
-        text_of(self.source.len() + 4096, |out| {
-            // As above.
+        text_of(room, |out| {
+            // A slice's pointer is never null, `place` is this function's own, and `out` overlaps nothing that is read.
             unsafe {
-                tocmark_rewrite(
+                make(
                     self.events.as_ptr(),
                     self.events.len(),
                     self.source.as_ptr(),

@@ -8,8 +8,8 @@ use std::fmt;
 use tocmark::{
     calculate_code_block_token_count, cmark, cmark_with_options, cmark_with_source_range,
     cmark_with_source_range_and_options, compare, definitions, edit, format, read, redefine,
-    rewrite, same, Allowed, Bullet, Delimiter, Error, Fault, FormatOptions, Kind, ListIndent,
-    Marker, Options, OptionsError, Place, Progress, State, Tables, Wrap,
+    rewrite, same, write, Allowed, Bullet, Delimiter, Error, Fault, FormatOptions, Kind,
+    ListIndent, Marker, Options, OptionsError, Place, Progress, State, Tables, Wrap,
     DEFAULT_CODE_BLOCK_TOKEN_COUNT, SUPPORTED_PARSER_OPTIONS,
 };
 
@@ -642,6 +642,42 @@ fn a_source_is_rewritten() {
 }
 
 #[test]
+fn a_document_is_written_and_read() {
+    let options = Options::default();
+    let list = around(Tag::List(None), [around(Tag::Item, [text("a")])]);
+    let events = [paragraph([text("# "), text("b")]), list.clone()].concat();
+    assert_eq!(write(events, NONE, options).unwrap(), "\\# b\n\n* a");
+    assert_eq!(write(Events::new(), NONE, options).unwrap(), "");
+    // A list after an empty definition of a footnote falls into it.
+    let note = around(Tag::FootnoteDefinition("1".into()), []);
+    let events = [paragraph([text("a"), text("b")]), note, list].concat();
+    let footnotes = ParserOptions::ENABLE_FOOTNOTES;
+    assert!(cmark(events.iter(), String::new(), footnotes).is_ok());
+    let fault = write(events, footnotes, options).unwrap_err();
+    // The first event that the text doesn't have is the footnote's End: five of the given events come before it.
+    let place = Place {
+        event: 5,
+        lines: None,
+    };
+    assert!(
+        matches!(fault, Fault::ReadOtherwise(at) if at == place),
+        "{fault}"
+    );
+    let struck = paragraph([around(Tag::Strikethrough, [text("b")])]);
+    let fault = write(struck, NONE, options).unwrap_err();
+    assert!(matches!(
+        fault,
+        Fault::Refused(
+            Place {
+                event: 0,
+                lines: None
+            },
+            Error::Unrepresentable
+        )
+    ));
+}
+
+#[test]
 fn a_fault_has_a_place() {
     let struck = paragraph([around(Tag::Strikethrough, [text("b")])]);
     let events = [paragraph([text("a")]), struck].concat();
@@ -737,7 +773,10 @@ fn a_text_is_formatted() {
         text
     );
     let text = "_a_\n===\n\n***\n\n1) b\n1) c\n\n*   d\n";
-    assert_eq!(format(text, NONE, &FormatOptions::look_source()).unwrap(), text);
+    assert_eq!(
+        format(text, NONE, &FormatOptions::look_source()).unwrap(),
+        text
+    );
     assert_eq!(
         format(text, NONE, &FormatOptions::look_one()).unwrap(),
         "# *a*\n\n---\n\n1. b\n2. c\n\n- d\n"
