@@ -13,7 +13,7 @@ use tocmark_judge::summary::Summary;
 use tocmark_judge::{Judge, PartReader, PartTaker};
 use tocmark_printing::{Blocks, Ladder, Placed, Step};
 
-/// Keeps what a text says that is read back, and where its trees begin.
+/// Collects what the output says, and where its trees begin.
 #[derive(Drop)]
 pub(crate) struct ReadBack {
     pub(crate) says: Summary,

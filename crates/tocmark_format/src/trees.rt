@@ -48,15 +48,15 @@ impl Count {
     /// Moves on to a place; how many of the places are before it.
     pub(crate) fn move_to(&mut self, places: &Places, place: usize) -> usize {
         for _ in self.at..places.numbers.len() {
-            let mut behind = self.at;
-            let Some(step) = places.numbers.take(&mut behind) else {
+            let mut after = self.at;
+            let Some(step) = places.numbers.take(&mut after) else {
                 break;
             };
             let next = self.last.saturating_add(step);
             if next >= place {
                 break;
             }
-            self.at = behind;
+            self.at = after;
             self.last = next;
             self.count = self.count.saturating_add(1);
         }
