@@ -141,8 +141,15 @@ impl Printer<'_> {
         }
         let white = text.len().saturating_sub(bare.len());
         let is_apart = text.get(..white).unwrap_or("").contains('\n');
+        self.goes_on = self.goes_on && !is_apart;
         self.begin_definitions(is_apart, from, end.min(self.source.text.len()))?;
-        self.print_definitions(bare.trim_end_matches(&[' ', '\t', '\n']))?;
+        let inner = bare.trim_end_matches(&[' ', '\t', '\n']);
+        if self.goes_on {
+            // to other programs they are text
+            self.print_spelled(inner)?;
+        } else {
+            self.print_definitions(inner)?;
+        }
         self.finish(Kind::Definitions, end)
     }
 

@@ -103,6 +103,11 @@ fn begins_foreign_block(text: &str) -> bool {
     }
 }
 
+/// Whether a block that begins like this text is one of another dialect.
+pub(crate) fn begins_foreign(text: &str) -> bool {
+    begins_foreign_line(text) || begins_foreign_block(text)
+}
+
 /// Whether bytes are a letter, and letters, digits, blanks, `-` and `_` after it.
 fn is_key(bytes: &[u8]) -> bool {
     bytes.first().is_some_and(|byte| byte.is_ascii_alphabetic())
@@ -136,15 +141,15 @@ fn is_lone_tag(line: &str) -> bool {
         .skip(name)
         .take_while(|byte| byte.is_ascii_alphanumeric() || matches!(**byte, b'-' | b'.'))
         .count();
-    let behind = bytes.get(name.saturating_add(letters)).copied();
+    let next = bytes.get(name.saturating_add(letters)).copied();
     letters > 0
-        && matches!(behind, Some(b'>' | b'/' | b' ' | b'\t'))
+        && matches!(next, Some(b'>' | b'/' | b' ' | b'\t'))
         && line.trim_end_matches(&[' ', '\t']).ends_with('>')
 }
 
 /// What is after the marker of an item, if a line begins with one.
-fn behind_marker(line: &str) -> Option<&str> {
-    let behind = match line.as_bytes().first() {
+fn after_marker(line: &str) -> Option<&str> {
+    let rest = match line.as_bytes().first() {
         Some(b'-' | b'*' | b'+') => line.get(1..)?,
         Some(b'0'..=b'9') => {
             let number = line.trim_start_matches(&[
@@ -154,15 +159,15 @@ fn behind_marker(line: &str) -> Option<&str> {
         }
         _ => return None,
     };
-    if begins_blank(behind) {
-        Some(behind.trim_start_matches(&[' ', '\t']))
+    if begins_blank(rest) {
+        Some(rest.trim_start_matches(&[' ', '\t']))
     } else {
         None
     }
 }
 
 /// Whether a text ends with the marker of an item.
-fn ends_with_marker(text: &str) -> bool {
+pub(crate) fn ends_with_marker(text: &str) -> bool {
     let mut bytes = text.as_bytes().iter().rev().copied();
     match (bytes.next(), bytes.next()) {
         (Some(b'-' | b'*' | b'+'), None | Some(b' ' | b'\t' | b'>')) => true,
@@ -178,9 +183,9 @@ fn is_marker_alone(line: &str) -> bool {
     }
     let mut inner = line;
     for _ in 0..line.len() {
-        match behind_marker(inner) {
+        match after_marker(inner) {
             None => break,
-            Some(behind) => inner = behind,
+            Some(rest) => inner = rest,
         }
     }
     inner.is_empty()
@@ -214,8 +219,8 @@ fn begins_link_definition(line: &str) -> bool {
     let mut text = line;
     for _ in 0..NEAR {
         text = text.trim_start_matches(&[' ', '\t', '>']);
-        match behind_marker(text) {
-            Some(behind) => text = behind,
+        match after_marker(text) {
+            Some(rest) => text = rest,
             None => break,
         }
     }
@@ -257,7 +262,7 @@ impl Printer<'_> {
     fn could_be_row(&self, line: usize) -> bool {
         let source = self.source;
         let place = self.page.stripped(source, source.start_of(line));
-        place.is_met && self.indent_behind(place) < 4
+        place.is_met && self.indent_after(place) < 4
     }
 
     /// Whether a table has a row that is indented like code. To `cmark-gfm` the table ends before it.
@@ -268,7 +273,7 @@ impl Printer<'_> {
         for line in second..=last {
             if source.line(line).starts_with(&[' ', '\t', '>']) {
                 let place = self.page.stripped(source, source.start_of(line));
-                if place.is_met && self.indent_behind(place) > 3 {
+                if place.is_met && self.indent_after(place) > 3 {
                     return true;
                 }
             }
@@ -345,7 +350,7 @@ impl Printer<'_> {
         for line in second..=last {
             if is_lone_tag(self.bare_line(line)) {
                 let place = self.page.stripped(source, source.start_of(line));
-                if !place.is_met && self.indent_behind(place) < 4 {
+                if !place.is_met && self.indent_after(place) < 4 {
                     return true;
                 }
             }
@@ -459,8 +464,8 @@ impl Printer<'_> {
     fn ends_openly(&self, start: usize, end: usize) -> bool {
         let source = self.source;
         let front = source.line_start(end.saturating_sub(1));
-        let behind = source.text.floor_char_boundary(front.saturating_add(NEAR));
-        let first = source.slice(front, behind.min(end));
+        let near = source.text.floor_char_boundary(front.saturating_add(NEAR));
+        let first = source.slice(front, near.min(end));
         let last = source.slice(front.max(end.saturating_sub(NEAR)), end);
         let next = source.line_end(end.saturating_sub(1)).saturating_add(1);
         let has_text = source
@@ -493,7 +498,7 @@ impl Printer<'_> {
         let place = self
             .page
             .stripped(source, source.line_start(blank.saturating_add(gap)));
-        place.is_met && self.indent_behind(place) > self.column_in_container(start)
+        place.is_met && self.indent_after(place) > self.column_in_container(start)
     }
 
     /// Whether a list has a marker alone on its line, and a task in a list below it. On one line GitHub shows no box.
@@ -502,7 +507,7 @@ impl Printer<'_> {
         let last = self.source.line_of(end.saturating_sub(1));
         for line in first..last {
             if is_marker_alone(self.bare_line(line)) {
-                let below = behind_marker(self.bare_line(line.saturating_add(1)));
+                let below = after_marker(self.bare_line(line.saturating_add(1)));
                 if below.is_some_and(begins_box) {
                     return true;
                 }
@@ -557,8 +562,7 @@ impl Printer<'_> {
         match kind {
             Kind::Paragraph | Kind::Heading => {
                 let text = self.source.slice(start, end);
-                begins_foreign_line(text)
-                    || begins_foreign_block(text)
+                begins_foreign(text)
                     || self.has_foreign_line(start, end, false)
                     || self.has_table(start, end)
                     || self.has_keys(start, end)
@@ -586,7 +590,7 @@ impl Printer<'_> {
     }
 
     /// The column in the innermost container where the text of a line begins that goes on here after its prefixes.
-    fn indent_behind(&self, place: Place) -> usize {
+    fn indent_after(&self, place: Place) -> usize {
         let source = self.source;
         let at = source.past_blanks(place.at);
         let column = source.column_at(place.column, place.at, at);
@@ -597,7 +601,7 @@ impl Printer<'_> {
 
     /// The column in the innermost container where the line of a place begins, without its blanks.
     fn column_in_container(&self, place: usize) -> usize {
-        self.indent_behind(self.page.front(self.source, place))
+        self.indent_after(self.page.front(self.source, place))
     }
 
     /// Whether a block is below one of another dialect, deeper indented.
@@ -620,7 +624,7 @@ impl Printer<'_> {
         let (_, printed) = self.page.prefix_columns();
         printed
             .saturating_sub(place.column)
-            .min(self.indent_behind(place))
+            .min(self.indent_after(place))
     }
 
     /// How many columns a block loses. All lines of a block of another dialect lose the same number.

@@ -413,6 +413,14 @@ impl Page {
         has_marker && self.top.kind == Kind::Quote
     }
 
+    /// Whether the next line has, just before the innermost container, the marker of an item.
+    pub(crate) fn is_after_marker(&self) -> bool {
+        match self.outer.last() {
+            Some(frame) => frame.kind == Kind::Item && frame.owes_sign(),
+            None => false,
+        }
+    }
+
     /// Puts after the text what the containers have before the next line. From here on their first lines are printed.
     fn push_prefixes(&mut self) -> Result<(), AllocError> {
         let mut signs = self.signs.as_str();
@@ -507,7 +515,7 @@ impl Page {
         }
     }
 
-    /// Where the content of the innermost container that begins after a place begins, and its column. Lists don't count.
+    /// Where the content of the innermost container begins, and its column, if that is after a place. Lists don't count.
     fn content_after(&self, place: usize) -> Option<(usize, usize)> {
         if self.top.kind != Kind::List && self.top.content() > place {
             return Some((self.top.content(), self.top.column as usize));

@@ -1,6 +1,6 @@
 //! The walk over the events of a document: each block is printed as it comes.
 
-use crate::dialect::Foreign;
+use crate::dialect::{Foreign, ends_with_marker};
 use crate::kept::Stretch;
 use crate::look::Look;
 use crate::page::{Kind, Page};
@@ -82,7 +82,8 @@ impl<'d> Printer<'d> {
         let is_beside = last == Kind::Definitions || kind == Kind::Definitions;
         let is_joined = top.is_close || (top.keeps_gaps && !is_apart);
         if top.is_tight || (is_joined && !is_beside) {
-            if last == Kind::Quote && matches!(kind, Kind::Paragraph | Kind::Foreign) {
+            let is_text = matches!(kind, Kind::Paragraph | Kind::Foreign);
+            if last == Kind::Quote && is_text && !self.goes_on {
                 // else the text would go on with the quote's paragraph
                 return if top.keeps_gaps {
                     self.page.blank()
@@ -96,11 +97,15 @@ impl<'d> Printer<'d> {
             (Kind::Html, Kind::Html) | (Kind::Footnote, Kind::Footnote) => true,
             (Kind::Definition, Kind::Definition) => true,
             (Kind::Title, Kind::Title | Kind::Definition) => true,
+            // to other programs all of these are one text
+            (Kind::Definitions, Kind::Foreign) | (_, Kind::Definitions) if self.goes_on => true,
             (Kind::Definitions, _) => self.look.is_literal || kind == Kind::Rule,
             (Kind::Foreign, _) | (_, Kind::Foreign) => true,
             // the text lacks too many cells for one more row, but other programs go on with the table
             (Kind::Table, Kind::Paragraph) => true,
             (Kind::Rule, Kind::Html) => false,
+            // with blanks in front the HTML would be in the item
+            (Kind::List, Kind::Html) if self.ends_with_marker() => false,
             // to Python-Markdown the lines can be one paragraph
             (Kind::Html, _) | (_, Kind::Html) => matches!(self.look.list_indent, ListIndent::Four),
             _ => false,
@@ -152,15 +157,22 @@ impl<'d> Printer<'d> {
         Ok(())
     }
 
-    /// Begins definitions of links. They get a line before them, unless they are directly below a block of another dialect.
+    /// Whether the last line that is printed ends with the marker of an item that is empty.
+    fn ends_with_marker(&self) -> bool {
+        ends_with_marker(self.page.text.as_str().trim_end_matches('\n'))
+    }
+
+    /// Begins definitions of links. They get a line before them, unless they are directly below a block of another dialect, or
+    /// below text that goes on for other programs.
     pub(crate) fn begin_definitions(
         &mut self,
         is_apart: bool,
         from: usize,
         to: usize,
     ) -> Result<(), AllocError> {
-        let is_below_foreign = !is_apart && matches!(self.page.top().last, Some(Kind::Foreign));
-        self.begin(Kind::Definitions, !is_below_foreign, (None, (from, to)))
+        let is_below_foreign = matches!(self.page.top().last, Some(Kind::Foreign));
+        let is_joined = !is_apart && (is_below_foreign || self.goes_on);
+        self.begin(Kind::Definitions, !is_joined, (None, (from, to)))
     }
 
     /// Whether a blank line of the source is before the line of a place, or nothing.
