@@ -79,6 +79,10 @@ impl<'d> Printer<'d> {
         let Some(last) = top.last else {
             return Ok(());
         };
+        if self.goes_on && !is_apart && kind != Kind::Item {
+            // to other programs a blank line would end what goes on
+            return Ok(());
+        }
         let is_beside = last == Kind::Definitions || kind == Kind::Definitions;
         let is_joined = top.is_close || (top.keeps_gaps && !is_apart);
         if top.is_tight || (is_joined && !is_beside) {
@@ -107,7 +111,9 @@ impl<'d> Printer<'d> {
             // with blanks in front the HTML would be in the item
             (Kind::List, Kind::Html) if self.ends_with_marker() => false,
             // to Python-Markdown the lines can be one paragraph
-            (Kind::Html, _) | (_, Kind::Html) => matches!(self.look.list_indent, ListIndent::Four),
+            (Kind::Html, _) | (_, Kind::Html) => {
+                matches!(self.wanted.list_indent, ListIndent::Four)
+            }
             _ => false,
         };
         if is_apart || !is_pair {
