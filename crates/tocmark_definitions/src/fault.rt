@@ -11,7 +11,7 @@ use tocmark_redefine::DefinitionFault;
 /// Why a text doesn't get other definitions.
 #[derive(Debug, Drop)]
 pub enum Fault {
-    /// The text isn't JSON, or is nested deeper than the kit's JSON reads.
+    /// The text isn't JSON, or is nested too deeply to be read.
     NotJson(serde_json::Error),
     /// The JSON isn't a list.
     NotAList,
