@@ -86,32 +86,28 @@ fault_of definition_fault.OutOfMemory = fault.OutOfMemory
 fault_of (definition_fault.NoDefinition index) = fault.NoDefinition index
 fault_of (definition_fault.Misread line) = fault.Misread line
 
--- what is wanted of a value isn't there
-abbrev pub IsRefused : {A : Type 0} → Option A → Fault → Type 0
-IsRefused found (fault.NotJson e) = ⊥
-IsRefused found fault.NotAList = ⊥
-IsRefused found (fault.Wanted index key wanted) = found ≡ None
-IsRefused found (fault.NoDefinition index) = Unit {0}
-IsRefused found (fault.Misread line) = Unit {0}
-IsRefused found fault.OutOfMemory = Unit {0}
+-- an element of a list is faulty only if this is so
+abbrev pub IsFaultOf : Type 0 → Fault → Type 0
+IsFaultOf IsSo (fault.NotJson e) = ⊥
+IsFaultOf IsSo fault.NotAList = ⊥
+IsFaultOf IsSo (fault.Wanted index key wanted) = IsSo
+IsFaultOf IsSo (fault.NoDefinition index) = Unit {0}
+IsFaultOf IsSo (fault.Misread line) = Unit {0}
+IsFaultOf IsSo fault.OutOfMemory = Unit {0}
 
 -- a value is no definition
 abbrev pub IsNoDefinition : Data → Type 0
 IsNoDefinition value = (more : ℕ) → (given : GivenDefinition) → said_by value ≡ saying_of more given → ⊥
 
--- a text is the JSON of a list, and one of its elements is no definition
-pub record HasNoDefinition (json : List ℕ) : Type 0 where
-  pub values : List Data
-  pub is_read : read json ≡ Some (array (items_of values))
-  pub value : Data
-  pub is_there : Contains values value
-  pub is_none : IsNoDefinition value
+-- one of these values is none
+abbrev pub HasNoDefinition : List Data → Type 0
+HasNoDefinition values = (value : Data) × Contains values value × IsNoDefinition value
 
 -- why a JSON text is no list of definitions
 abbrev pub IsCause : List ℕ → Fault → Type 0
 IsCause json (fault.NotJson e) = read json ≡ None
 IsCause json fault.NotAList = (value : Data) × (read json ≡ Some value) × (as_array value ≡ None)
-IsCause json (fault.Wanted index key wanted) = HasNoDefinition json
+IsCause json (fault.Wanted index key wanted) = (values : List Data) × (read json ≡ Some (array (items_of values))) × HasNoDefinition values
 IsCause json (fault.NoDefinition index) = Unit {0}
 IsCause json (fault.Misread line) = Unit {0}
 IsCause json fault.OutOfMemory = Unit {0}

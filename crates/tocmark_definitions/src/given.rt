@@ -1,9 +1,10 @@
 //! The definitions of links in a JSON text.
 
-ghost use Rattle.std.specs.Prelude.{◌≡◌, ◌+◌, IfErr, IfOk, Some, codes, option_and_then};
+ghost use Rattle.std.specs.Prelude.{◌≡◌, ◌+◌, IfErr, IfOk, None, Some, codes, map};
 ghost use Rattle.serde_json.specs.Find.{get};
+ghost use Rattle.serde_json.specs.Read.{read};
 ghost use Rattle.serde_json.specs.View.{view};
-ghost use Rattle.tocmark_definitions.specs.Redefining.{AreGivenBy, IsCause, IsRefused, end_at, number_at, said_by, saying_of, text_at};
+ghost use Rattle.tocmark_definitions.specs.Redefining.{AreGivenBy, HasNoDefinition, IsCause, IsFaultOf, IsNoDefinition, number_at, said_by, saying_of, text_at};
 
 use crate::fault::Fault;
 use serde_json::Value;
@@ -13,7 +14,7 @@ use tocmark_redefine::GivenDefinition;
 /// The text that a value has at a key.
 fn text_at<'v>(value: &'v Value, index: usize, key: &'static str) -> Result<&'v str, Fault>
     ensures text { IfOk result (λ text. text_at key.now (view value.now) ≡ Some text.now) }
-    ensures fault { IfErr result (IsRefused (text_at key.now (view value.now))) }
+    ensures fault { IfErr result (IsFaultOf (text_at key.now (view value.now) ≡ None)) }
 {
     match value.get(key).and_then(Value::as_str) {
         Some(text) => Ok(text),
@@ -29,7 +30,7 @@ fn text_at<'v>(value: &'v Value, index: usize, key: &'static str) -> Result<&'v 
 fn range_in<'v>(value: &'v Value, index: usize) -> Result<&'v Value, Fault>
     ensures range { IfOk result (λ range.
         get (codes "range") (view value.now) ≡ Some (view range.now)) }
-    ensures fault { IfErr result (IsRefused (get (codes "range") (view value.now))) }
+    ensures fault { IfErr result (IsFaultOf (get (codes "range") (view value.now) ≡ None)) }
 {
     match value.get("range") {
         Some(range) => Ok(range),
@@ -45,7 +46,7 @@ fn range_in<'v>(value: &'v Value, index: usize) -> Result<&'v Value, Fault>
 fn end_in(range: &Value, index: usize, key: &'static str, more: usize) -> Result<usize, Fault>
     ensures place { IfOk result (λ place.
         number_at key.now (view range.now) ≡ Some (place + more)) }
-    ensures fault { IfErr result (IsRefused (number_at key.now (view range.now))) }
+    ensures fault { IfErr result (IsFaultOf (number_at key.now (view range.now) ≡ None)) }
 {
     let Some(number) = range.get(key).and_then(Value::as_u64) else {
         return Err(Fault::Wanted {
@@ -61,6 +62,7 @@ fn end_in(range: &Value, index: usize, key: &'static str, more: usize) -> Result
 }
 
 /// The definition that an element of a list is, in what follows so many bytes of the whole text.
+#[tactic(auto, using(crate::proofs::Missing::label_missing, crate::proofs::Missing::destination_missing, crate::proofs::Missing::title_missing, crate::proofs::Missing::range_missing, crate::proofs::Missing::start_missing, crate::proofs::Missing::end_missing))]
 fn definition_in(
     alloc: Global,
     value: &Value,
@@ -68,6 +70,7 @@ fn definition_in(
     more: usize,
 ) -> Result<GivenDefinition, Fault>
     ensures given { IfOk result (λ given. said_by (view value.now) ≡ saying_of more given) }
+    ensures fault { IfErr result (IsFaultOf (IsNoDefinition (view value.now))) }
 {
     let label = text_at(value, index, "label")?;
     let destination = text_at(value, index, "destination")?;
@@ -88,7 +91,11 @@ fn definitions_of(
     alloc: Global,
     values: &[Value],
     more: usize,
-) -> Result<Vec<GivenDefinition>, Fault> {
+) -> Result<Vec<GivenDefinition>, Fault>
+    ensures given { IfOk result (λ all.
+        map said_by (map view values.now) ≡ map (saying_of more) all.items) }
+    ensures fault { IfErr result (IsFaultOf (HasNoDefinition (map view values.now))) }
+{
     let mut all = Vec::with_capacity(alloc, values.len())?;
     for value in values {
         let index = all.len();
@@ -98,7 +105,10 @@ fn definitions_of(
 }
 
 /// The value of a JSON text.
-fn value_in(alloc: Global, json: &str) -> Result<Value, Fault> {
+fn value_in(alloc: Global, json: &str) -> Result<Value, Fault>
+    ensures value { IfOk result (λ value. read json.now ≡ Some (view value)) }
+    ensures cause { IfErr result (IsCause json.now) }
+{
     match Value::from_str(alloc, json) {
         Ok(value) => Ok(value),
         Err(error) if error.is_memory() => Err(Fault::OutOfMemory),
