@@ -1,10 +1,13 @@
 -- A value in which something is missing is no definition.
-use Rattle.std.proofs.Common.{◌≡◌, ◌∙◌, ap, sym, ℕ, List, Option, None, Some, codes}
+use Rattle.std.proofs.Common.{◌≡◌, ◌∙◌, ◌<◌, ap, arith, length, map, slice_index_or, sym, ℕ, List, Option, None, Some, codes}
+use Rattle.std.proofs.lemmas.List.{get_or-map, length-map}
 use Rattle.std.specs.Prelude.{option_and_then}
 use Rattle.serde_json.specs.Data.{Data}
 use Rattle.serde_json.specs.Find.{get}
+use Rattle.serde_json.specs.View.{view}
+use Rattle.serde_json.specs.declared.value.Value.{Value}
 use Rattle.tocmark_redefine.specs.declared.defining.GivenDefinition.{GivenDefinition}
-use Rattle.tocmark_definitions.specs.Redefining.{IsFaultOf, IsNoDefinition, Saying, end_at, number_at, text_at}
+use Rattle.tocmark_definitions.specs.Redefining.{HasNoDefinition, IsFaultOf, IsNoDefinition, Saying, number_at, text_at}
 use Rattle.tocmark_definitions.specs.declared.fault.Fault.{Fault}
 use Rattle.tocmark_definitions.specs.declared.fault.Fault.TheVariants as fault
 
@@ -62,6 +65,8 @@ start_missing value range f is h = weaker (number_at (codes "start") range ≡ N
 pub end_missing : (value range : Data) (f : Fault) → get (codes "range") value ≡ Some range → IsFaultOf (number_at (codes "end") range ≡ None) f → IsFaultOf (IsNoDefinition value) f
 end_missing value range f is h = weaker (number_at (codes "end") range ≡ None) (IsNoDefinition value) (no-end value range is) f h
 
--- one faulty element
-pub element_faulty : (P Q : Type 0) → (P → Q) → (f : Fault) → IsFaultOf P f → IsFaultOf Q f
-element_faulty P Q such f h = weaker P Q such f h
+-- a fault of an element is one of the list
+pub of_element : (values : List Value) (i : ℕ) (value : Value) (f : Fault) → i < length values → slice_index_or values i value ≡ value → IsFaultOf (IsNoDefinition (view value)) f → IsFaultOf (HasNoDefinition (map view values)) f
+of_element values i value f lt is h =
+    let long = length-map values view in
+    weaker (IsNoDefinition (view value)) (HasNoDefinition (map view values)) (λ none. (view value, (i, omega arith, get_or-map view values i value (view value) lt ∙ ap view is), none)) f h
