@@ -1,0 +1,4 @@
+pub mod Indexed
+pub mod Lying
+pub mod LyingWalk
+pub mod LyingRun
