@@ -1,6 +1,6 @@
 //! Rewrites documents to the events of a JSON text.
 
-ghost use Rattle.std.specs.Prelude.{◌++◌, ℕ, IfErr, IfOk, List};
+ghost use Rattle.std.specs.Prelude.{◌≡◌, ◌++◌, ℕ, IfErr, IfOk, List};
 ghost use Rattle.tocmark_event.specs.Reading.{ReadingView};
 ghost use Rattle.tocmark_event.specs.Text.{text_of};
 ghost use Rattle.tocmark_event.specs.View.{EventView};
@@ -70,9 +70,7 @@ fn refusal_of(
 }
 
 /// The events, lent.
-fn lent<'a>(
-    events: &'a [(Event<'static>, (usize, usize))],
-) -> &'a [(Event<'a>, (usize, usize))]
+fn lent<'a>(events: &'a [(Event<'static>, (usize, usize))]) -> &'a [(Event<'a>, (usize, usize))]
     ensures { result.now ≡ events.now }
 {
     events

@@ -5,4 +5,4 @@ use Rattle.tocmark_documents.proofs.refusal.unbalanced.Given as goal
 
 -- each open container's Start is one of the events
 abbrev pub invariant-loop-at : goal.invariant-loop-at
-invariant-loop-at l = All (λ (x : ℕ × TagEnd). x.0 < length l.pairs) l.open.items
+invariant-loop-at g l = All (λ (x : ℕ × TagEnd). x.0 < length l.pairs) l.open.items
