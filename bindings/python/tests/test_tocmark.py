@@ -315,6 +315,37 @@ class Listing(unittest.TestCase):
                 call(b"a")
 
 
+class Redefining(unittest.TestCase):
+    SOURCE = "[a]\r\n\r\n[a]: /b 'c'\r\n> [d]: /e\r\n"
+
+    def test_definitions_get_what_is_given(self):
+        for mark in ("", "\ufeff"):
+            whole = mark + self.SOURCE
+            one, other = tocmark.definitions(whole)
+            self.assertEqual(tocmark.redefine(whole, []), whole)
+            self.assertEqual(tocmark.redefine(whole, [one, other]), whole)
+            self.assertEqual(tocmark.redefine(whole, [other._replace(title="f")]), f'{mark}[a]\r\n\r\n[a]: /b \'c\'\r\n> [d]: /e "f"\r\n')
+            self.assertEqual(tocmark.redefine(whole, (it._replace(destination="/é x", title="") for it in (other, one))),
+                             f"{mark}[a]\r\n\r\n[a]: </é x>\r\n> [d]: </é x>\r\n")
+        self.assertEqual(tocmark.redefine("", [], syntax="commonmark"), "")
+
+    def test_errors_say_where_they_are(self):
+        one, other = tocmark.definitions(self.SOURCE)
+        for error, code, lines, given, said in (
+                (tocmark.NoDefinition, -19, None, [other, one._replace(label="b")], "definition 1: a definition is none of the source"),
+                (tocmark.NoDefinition, -19, None, [other._replace(range=one.range)], "definition 0: a definition is none of the source"),
+                (tocmark.Error, -18, None, [one._replace(title=None)], "definition 0: the JSON is not that of definitions of links"),
+                (tocmark.Changed, -16, (4, 4), [other, other._replace(destination="/f")],
+                 "line 4: no text was found that has this definition and else parses as before")):
+            with self.assertRaises(error) as caught:
+                tocmark.redefine(self.SOURCE, given)
+            self.assertEqual((caught.exception.code, caught.exception.lines, str(caught.exception)), (code, lines, said))
+        with self.assertRaisesRegex(TypeError, "source must be a str"):
+            tocmark.redefine(b"a", [])
+        with self.assertRaisesRegex(ValueError, "'html' is none of commonmark"):
+            tocmark.redefine("a", [], syntax="html")
+
+
 class Rewriting(unittest.TestCase):
     def refused(self, error, source, events, event, lines, **options):
         with self.assertRaises(error) as caught:
