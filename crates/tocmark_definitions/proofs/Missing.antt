@@ -6,7 +6,6 @@ use Rattle.serde_json.specs.Data.{Data}
 use Rattle.serde_json.specs.Find.{get}
 use Rattle.serde_json.specs.View.{view}
 use Rattle.serde_json.specs.declared.value.Value.{Value}
-use Rattle.tocmark_redefine.specs.declared.defining.GivenDefinition.{GivenDefinition}
 use Rattle.tocmark_definitions.specs.Redefining.{HasNoDefinition, IsFaultOf, IsNoDefinition, Saying, number_at, text_at}
 use Rattle.tocmark_definitions.specs.declared.fault.Fault.{Fault}
 use Rattle.tocmark_definitions.specs.declared.fault.Fault.TheVariants as fault
