@@ -167,8 +167,8 @@ impl Printer<'_> {
     /// The sign of the next item of the innermost list, which has these digits and columns in the source.
     fn item_sign(&mut self, own: &str, columns: ItemColumns) -> Result<String, AllocError> {
         let mut first = String::new(self.alloc);
-        // after the marker of an outer item the blanks would be that item's
-        if matches!(self.look.list_indent, ListIndent::Source) && !self.page.is_after_marker() {
+        // beside the marker of an outer item the indent would be that item's
+        if matches!(self.look.list_indent, ListIndent::Source) && !self.page.moves_up(self.source) {
             push_repeated(&mut first, ' ', columns.indent)?;
         }
         self.push_marker(&mut first, own)?;

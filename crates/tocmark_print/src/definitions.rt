@@ -141,7 +141,8 @@ impl Printer<'_> {
         }
         let white = text.len().saturating_sub(bare.len());
         let is_apart = text.get(..white).unwrap_or("").contains('\n');
-        self.goes_on = self.goes_on && !is_apart;
+        // a blank line ends that, unless the lines of the block at the top are kept anyway
+        self.goes_on = self.goes_on && (self.has_misread || !is_apart);
         self.begin_definitions(is_apart, from, end.min(self.source.text.len()))?;
         let inner = bare.trim_end_matches(&[' ', '\t', '\n']);
         if self.goes_on {

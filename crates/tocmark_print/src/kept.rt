@@ -277,6 +277,7 @@ impl Printer<'_> {
         kind: Kind,
     ) -> Result<(), AllocError> {
         let (from, to) = range;
+        self.print_gap(from)?;
         self.goes_on = self.goes_on && self.is_below_text(from);
         self.begin_events(kind, from, to)?;
         if kind == Kind::Foreign {

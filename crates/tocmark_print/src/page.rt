@@ -413,10 +413,14 @@ impl Page {
         has_marker && self.top.kind == Kind::Quote
     }
 
-    /// Whether the next line has, just before the innermost container, the marker of an item.
-    pub(crate) fn is_after_marker(&self) -> bool {
+    /// Whether the innermost list is the first block of an item, on a line of the source below the item's marker. It moves up
+    /// beside that. A footnote and a definition have markers, too.
+    pub(crate) fn moves_up(&self, source: &Source<'_>) -> bool {
         match self.outer.last() {
-            Some(frame) => frame.kind == Kind::Item && frame.owes_sign(),
+            Some(item) => {
+                let start = source.line_start(self.top.content());
+                item.sign_length > 0 && item.last.is_none() && item.content() <= start
+            }
             None => false,
         }
     }

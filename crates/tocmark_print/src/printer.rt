@@ -86,8 +86,7 @@ impl<'d> Printer<'d> {
         let is_beside = last == Kind::Definitions || kind == Kind::Definitions;
         let is_joined = top.is_close || (top.keeps_gaps && !is_apart);
         if top.is_tight || (is_joined && !is_beside) {
-            let is_text = matches!(kind, Kind::Paragraph | Kind::Foreign);
-            if last == Kind::Quote && is_text && !self.goes_on {
+            if last == Kind::Quote && matches!(kind, Kind::Paragraph | Kind::Foreign) {
                 // else the text would go on with the quote's paragraph
                 return if top.keeps_gaps {
                     self.page.blank()
@@ -101,8 +100,6 @@ impl<'d> Printer<'d> {
             (Kind::Html, Kind::Html) | (Kind::Footnote, Kind::Footnote) => true,
             (Kind::Definition, Kind::Definition) => true,
             (Kind::Title, Kind::Title | Kind::Definition) => true,
-            // to other programs all of these are one text
-            (Kind::Definitions, Kind::Foreign) | (_, Kind::Definitions) if self.goes_on => true,
             (Kind::Definitions, _) => self.look.is_literal || kind == Kind::Rule,
             (Kind::Foreign, _) | (_, Kind::Foreign) => true,
             // the text lacks too many cells for one more row, but other programs go on with the table
@@ -189,7 +186,7 @@ impl<'d> Printer<'d> {
         before.trim_matches(&[' ', '\t', '>', '\n']).is_empty()
     }
 
-    /// Begins a block of events after the definitions that are before it.
+    /// Begins a block of events, below the definitions that are before it.
     pub(crate) fn begin_events(
         &mut self,
         kind: Kind,
@@ -197,7 +194,6 @@ impl<'d> Printer<'d> {
         end: usize,
     ) -> Result<(), AllocError> {
         let is_apart = !self.goes_on && self.is_apart(start);
-        self.print_gap(start)?;
         let tree = self.trees.checked_sub(1);
         self.begin(kind, is_apart, (tree, (start, end)))
     }
@@ -261,6 +257,7 @@ impl<'d> Printer<'d> {
         let place = source.past_blanks(front.at).min(start);
         let behind = part.past_inlines(at);
         let end = part.range(behind.saturating_sub(1)).1;
+        self.print_gap(place)?;
         if self.is_foreign(Kind::Paragraph, place, end) {
             self.print_foreign(place, end)?;
             return Ok(behind);
@@ -304,6 +301,7 @@ impl<'d> Printer<'d> {
     fn print_next(&mut self, part: &Part, at: usize, kind: Kind) -> Result<usize, AllocError> {
         let (start, end) = part.range(at);
         let behind = part.end(at).saturating_add(1);
+        self.print_gap(start)?;
         if kind == Kind::Item {
             self.separate(kind, self.is_apart(start))?;
             // what is in another item isn't above
