@@ -103,11 +103,6 @@ fn begins_foreign_block(text: &str) -> bool {
     }
 }
 
-/// Whether a block that begins like this text is one of another dialect.
-pub(crate) fn begins_foreign(text: &str) -> bool {
-    begins_foreign_line(text) || begins_foreign_block(text)
-}
-
 /// Whether bytes are a letter, and letters, digits, blanks, `-` and `_` after it.
 fn is_key(bytes: &[u8]) -> bool {
     bytes.first().is_some_and(|byte| byte.is_ascii_alphabetic())
@@ -562,7 +557,8 @@ impl Printer<'_> {
         match kind {
             Kind::Paragraph | Kind::Heading => {
                 let text = self.source.slice(start, end);
-                begins_foreign(text)
+                begins_foreign_line(text)
+                    || begins_foreign_block(text)
                     || self.has_foreign_line(start, end, false)
                     || self.has_table(start, end)
                     || self.has_keys(start, end)

@@ -1,6 +1,5 @@
 //! Leaves: paragraphs, headings, code, HTML and rules.
 
-use crate::dialect::begins_foreign;
 use crate::fill::{Measure, filled};
 use crate::hazard::is_hazard;
 use crate::inline::{Context, Inlines};
@@ -500,20 +499,8 @@ impl<'d> Printer<'d> {
         is_below && run(signs, b'-') == signs.len()
     }
 
-    /// Whether a rule at the top is directly above a line of another dialect, and isn't `---` in the source. As `---` it would
-    /// begin metadata if such a line is further below.
-    fn would_open_metadata(&self, range: (usize, usize)) -> bool {
-        if self.page.depth() > 0 {
-            return false;
-        }
-        let source = self.source;
-        let line = source.line_of(range.0);
-        source.line(line) != "---"
-            && begins_foreign(without_blanks(source.line(line.saturating_add(1))))
-    }
-
-    /// Prints a rule: not of `-` below a text without a blank line between, nor where metadata would begin: at the front of a
-    /// document, or above a line of another dialect. After a bullet it isn't of the bullet's sign.
+    /// Prints a rule: not of `-` below a text without a blank line between, nor at the front of a document, where metadata
+    /// would begin; and after a bullet not of its sign.
     pub(crate) fn print_rule(&mut self, range: (usize, usize)) -> Result<(), AllocError> {
         let own = without_end_blanks(self.source.slice(range.0, range.1));
         if self.is_text_below(range) {
@@ -532,7 +519,7 @@ impl<'d> Printer<'d> {
             None
         };
         let is_below = top.last.is_some() && (top.is_tight || (top.keeps_gaps && !is_apart));
-        let no_dashes = is_below || self.page.text.is_empty() || self.would_open_metadata(range);
+        let no_dashes = is_below || self.page.text.is_empty();
         for rule in [own, "***", "___"] {
             let byte = rule.as_bytes().first().copied();
             if byte != sign && !(no_dashes && byte == Some(b'-')) {

@@ -387,6 +387,16 @@ impl Page {
         cut(&mut self.text, start);
     }
 
+    /// Puts `***` in place of the last line if that is `---`.
+    pub(crate) fn replace_dashes(&mut self) -> Result<(), AllocError> {
+        if !self.text.as_str().ends_with("\n---\n") {
+            return Ok(());
+        }
+        let start = self.text.len().saturating_sub(4);
+        cut(&mut self.text, start);
+        self.text.push_str("***\n")
+    }
+
     /// How many columns the containers have before the next line, and before each line after it.
     pub(crate) fn prefix_columns(&self) -> (usize, usize) {
         let mut signs = self.signs.as_str();
@@ -413,8 +423,8 @@ impl Page {
         has_marker && self.top.kind == Kind::Quote
     }
 
-    /// Whether the innermost list is the first block of an item, on a line of the source below the item's marker. It moves up
-    /// beside that. A footnote and a definition have markers, too.
+    /// Whether the innermost list is the first block of an item, on a line of the source below the item's marker. It moves
+    /// up beside that. A footnote and a definition have markers, too.
     pub(crate) fn moves_up(&self, source: &Source<'_>) -> bool {
         match self.outer.last() {
             Some(item) => {

@@ -6,7 +6,7 @@ use crate::look::Look;
 use crate::page::{Kind, Page};
 use crate::part::{Mark, Opening, Part, is_inline};
 use crate::piece::Pieces;
-use crate::source::Source;
+use crate::source::{Source, without_end_blanks};
 use crate::style::ListIndent;
 use std::alloc::{AllocError, Global};
 use tocmark_printing::{Block, Blocks, Ladder, Step};
@@ -120,6 +120,19 @@ impl<'d> Printer<'d> {
         }
     }
 
+    /// Prints the rule above a block at the top as `***` if it is printed as `---`, without a line between, and isn't `---` in
+    /// the source. It would begin metadata if such a line is further below.
+    fn end_dashes(&mut self, start: usize) -> Result<(), AllocError> {
+        let source = self.source;
+        let above = source.line(source.line_of(start).saturating_sub(1));
+        let is_below = self.page.top().last == Some(Kind::Rule) && !self.goes_on;
+        if is_below && without_end_blanks(above) != "---" {
+            self.page.replace_dashes()
+        } else {
+            Ok(())
+        }
+    }
+
     /// Begins a block: puts a line between it and the one before. At the top of the document it also chooses the block's
     /// look, and limits its prefixes.
     fn begin(
@@ -150,6 +163,7 @@ impl<'d> Printer<'d> {
             self.separate(kind, is_apart)?;
         }
         if is_top {
+            self.end_dashes(range.0)?;
             self.blocks.push(Block {
                 tree,
                 range,
