@@ -1,13 +1,14 @@
 -- The lines and the inlines of each block lie in it.
-use Rattle.std.proofs.Common.{◌≡◌, ℕ, suc, ◌+◌, ◌-◌, ◌*◌, ◌^◌, ◌<◌, ◌≤◌, Bool, true, false, ◌==◌, ◌&&◌, if◌then◌else◌, nat_lt, nat_le, List, [], ◌∷◌, length, drop, refl, subst, arith}
-use Rattle.std.specs.Prelude.{slice_get, slice_range, Some}
+use Rattle.std.proofs.Common.{◌≡◌, inr, ℕ, zero, suc, ◌+◌, ◌-◌, ◌*◌, ◌^◌, ◌<◌, ◌≤◌, Bool, true, false, ◌==◌, ◌&&◌, if◌then◌else◌, nat_lt, nat_le, List, [], ◌∷◌, ◌++◌, length, length-take, drop, refl, sym, ◌∙◌, subst, arith, true≢false}
+use Rattle.std.specs.Prelude.{◌%◌, min, replicate, slice_get, slice_range, Some}
 use Rattle.std.specs.List.{AllByRecursion, fold}
 use Rattle.std.proofs.lemmas.Bool.Decides.{nat_tests}
-use Rattle.tocmark_read_scan.specs.Basic.{byte_at, bytes_between}
+use Rattle.tocmark_read_scan.specs.Basic.{byte_at, bytes_between, plus}
 use Rattle.tocmark_read_scan.specs.declared.syntax.TheConstants.{CORE}
-use Rattle.tocmark_read_lines.specs.Cells.{cells_of, cell_place}
+use Rattle.tocmark_read_lines.specs.Cells.{cell, cells_of, cell_place, filled}
 use Rattle.tocmark_read_lines.specs.Lines.{ends_here, line, line_stop, lines_from, lines_of}
 use Rattle.tocmark_read_lines.specs.declared.cell.Cell.{Cell}
+use Rattle.tocmark_read_lines.specs.declared.container.Opened.{Opened}
 use Rattle.tocmark_read_lines.specs.declared.line.Line.{Line}
 use Rattle.tocmark_read_page.specs.Pages.{State, first_page, closed_to}
 use Rattle.tocmark_read_page.specs.declared.page.Block.{Block}
@@ -17,19 +18,24 @@ use Rattle.tocmark_read_blocks.specs.Blocks.{blocks_in, core_known, line_taken_i
 use Rattle.tocmark_read_inlines.specs.Inlines as inlines
 use Rattle.tocmark_read_inlines.specs.declared.write.Node.{Node}
 use Rattle.tocmark_reader.specs.Pages.{pieces_of}
-use Rattle.tocmark_text_laws.proofs.Alls.{all_weaker}
+use Rattle.tocmark_text_laws.proofs.Alls.{all_both, all_got, all_weaker}
+use Rattle.tocmark_text_laws.proofs.Placed as placed
+use Rattle.tocmark_text_laws.proofs.Walked as walked
+use Rattle.tocmark_text_laws.specs.Loose.{has_ink}
 use Rattle.tocmark_text_laws.proofs.Leaves.{is_core}
 use Rattle.tocmark_text_laws.proofs.Kept.{line_core}
 use Rattle.tocmark_text_laws.proofs.Grounds.{Grounded, Valid, columns}
-use Rattle.tocmark_text_laws.proofs.Ranged.{cells_head, grounded}
+use Rattle.tocmark_text_laws.proofs.Ranged.{LineIn, Ascend, cells_head, grounded, lines_ascend}
 use Rattle.tocmark_text_laws.proofs.NestRun.{any, lines_few}
 use Rattle.tocmark_text_laws.proofs.NestWalk.{Any}
 use Rattle.tocmark_text_laws.proofs.InlinePlaces.{inlines_lie}
 use Rattle.tocmark_text_laws.specs.InlinePlaces.{LiesIn, last_of}
 use Rattle.tocmark_text_laws.specs.SourceOrder.{leaf_of}
 use Rattle.tocmark_range_laws.proofs.Indexed.{got_take, got_drop, all_of}
-use Rattle.tocmark_range_laws.proofs.Lying.{Fit, Shut, Stands, shut, closed_to_shut, later_stands}
-use Rattle.tocmark_range_laws.proofs.LyingWalk.{From, cells_stand}
+use Rattle.tocmark_range_laws.proofs.Inked.{cells_inked}
+use Rattle.tocmark_range_laws.proofs.Lying.{Fit, Found, Begun, Met, Kept, Shut, Stands, shut, closed_to_shut, later_stands, more}
+use Rattle.tocmark_range_laws.proofs.LyingWalk.{From, Short, cells_stand}
+use Rattle.tocmark_range_laws.specs.Found.{IsFound, InBlock, InLeaf, LinesAreFound}
 use Rattle.tocmark_range_laws.specs.Within.{Lies, IsIn, LinesLieInTheirBlocks, InlinesLieInTheirBlocks}
 
 -- lines one after the other, up to a place
@@ -88,29 +94,78 @@ grounded_in t l small a b c = record {
     low : (i : ℕ) → l.start ≤ cell_place cs i l.end
     low i = let w : l.start ≤ cell_place cs 0 l.end = cells_head (From l) l.start l.end (bytes_between t l.start l.end) (omega arith) a in let q : cell_place cs 0 l.end ≤ cell_place cs i l.end = g.rising 0 i (omega arith) in omega arith
 
-line_stands : (c : ℕ) (t : List ℕ) (l : Line) (s : State) → 4 * length t < 2 ^ 64 - 1 → c ≤ 2 ^ 64 - 1 → l.start ≤ l.end → l.end ≤ l.next → l.next ≤ length t → is_core s.leaf ≡ true → Stands c l.start s → Stands (suc c) l.next (line_taken_in core_known t s l)
+-- each column of a line is before its end
+
+copies_before : (n k : ℕ) (c : Cell) → c.at < n → AllByRecursion (λ (x : Cell). x.at < n) (replicate k c)
+copies_before n zero c h = tt
+copies_before n (suc k) c h = (h, copies_before n k c h)
+
+filled_before : (n : ℕ) (cs : List Cell) (b at : ℕ) → at < n → AllByRecursion (λ (x : Cell). x.at < n) cs → AllByRecursion (λ (x : Cell). x.at < n) (filled cs b at)
+unfolding filled
+filled_before n cs b at l h = by (b == 9)
+  where
+    by : (x : Bool) → AllByRecursion (λ (x : Cell). x.at < n) (if x then cs ++ replicate (4 - length cs % 4) (cell 32 at) else cs ++ cell b at ∷ [])
+    by true = all_both (λ (x : Cell). x.at < n) cs (replicate (4 - length cs % 4) (cell 32 at)) h (copies_before n (4 - length cs % 4) (cell 32 at) l)
+    by false = all_both (λ (x : Cell). x.at < n) cs (cell b at ∷ []) h (l, tt)
+
+cells_before : (n : ℕ) (cs : List Cell) (at : ℕ) (bs : List ℕ) → at + length bs ≤ n → AllByRecursion (λ (x : Cell). x.at < n) cs → AllByRecursion (λ (x : Cell). x.at < n) (cells_of cs at bs)
+cells_before n cs at [] l h = h
+cells_before n cs at (b ∷ bs) l h = cells_before n (filled cs b at) (plus at 1) bs (omega arith) (filled_before n cs b at (omega arith) h)
+
+place_before : (n end : ℕ) (cs : List Cell) (c : ℕ) → AllByRecursion (λ (x : Cell). x.at < n) cs → c < length cs → cell_place cs c end < n
+place_before n end [] c h l = absurd (omega arith)
+place_before n end (x ∷ xs) zero h l = h.0
+place_before n end (x ∷ xs) (suc c) h l = place_before n end xs c (h.1) (omega arith)
+
+between_few : (t : List ℕ) (a b : ℕ) → a ≤ b → a + length (bytes_between t a b) ≤ b
+between_few t a b l = by (nat_le a b && nat_le b (length t))
+  where
+    by : (x : Bool) → a + length (if x then slice_range t a b else []) ≤ b
+    by true = let w : length (slice_range t a b) ≡ min (b - a) (length (drop a t)) = length-take (b - a) (drop a t) in omega arith
+    by false = omega arith
+
+short_in : (t : List ℕ) (l : Line) → l.start ≤ l.end → Short (cells_of [] l.start (bytes_between t l.start l.end)) l
+short_in t l o c w = place_before l.end l.end (cells_of [] l.start (bytes_between t l.start l.end)) c (cells_before l.end [] l.start (bytes_between t l.start l.end) (between_few t l.start l.end o) tt) w
+
+line_stands : (y : Bool) (fs : List Line) (c : ℕ) (t : List ℕ) (l : Line) (s : State) → 4 * length t < 2 ^ 64 - 1 → c ≤ 2 ^ 64 - 1 → l.start ≤ l.end → l.end ≤ l.next → l.next ≤ length t → is_core s.leaf ≡ true → (y ≡ true → has_ink (bytes_between t l.start l.end) ≡ true) → Stands fs c l.start s → Stands (more y l fs) (suc c) l.next (line_taken_in core_known t s l)
 unfolding line_taken_in
-line_stands c t l s small few x y z k h = cells_stand c (Valid (From l) cells l) t cells l s few k g (columns (From l) cells l g) h
+line_stands y fs c t l s small few x o z k i h = cells_stand y fs c (Valid (From l) cells l) t cells l s few k g (short_in t l x) (columns (From l) cells l g) (λ e. cells_inked [] l.start (bytes_between t l.start l.end) (inr (i e))) h
   where
     cells : List Cell
     cells = cells_of [] l.start (bytes_between t l.start l.end)
 
     g : Grounded (From l) cells l
-    g = grounded_in t l small x y z
+    g = grounded_in t l small x o z
 
-lines_stand : (c n : ℕ) (t : List ℕ) (ls : List Line) (s : State) → 4 * length t < 2 ^ 64 - 1 → c + length ls ≤ 2 ^ 64 - 1 → Follow n (length t) ls → is_core s.leaf ≡ true → Stands c n s → Stands (c + length ls) (length t) (fold (line_taken_in core_known t) s ls)
-lines_stand c n t [] s small few f k h = later_stands c (c + 0) n (length t) s (omega arith) f h
-lines_stand c n t (l ∷ ls) s small few (x, a, b, y, f) k h =
+-- the lines that have ink, after others
+abbrev pub collected : List ℕ → List Line → List Line → List Line
+collected t fs [] = fs
+collected t fs (l ∷ ls) = collected t (more (has_ink (bytes_between t l.start l.end)) l fs) ls
+
+collected_all : (Q : Line → Type 0) (t : List ℕ) (fs ls : List Line) → AllByRecursion Q (collected t fs ls) → AllByRecursion Q fs × AllByRecursion (λ (l : Line). has_ink (bytes_between t l.start l.end) ≡ true → Q l) ls
+collected_all Q t fs [] h = (h, tt)
+collected_all Q t fs (l ∷ ls) h = by (has_ink (bytes_between t l.start l.end)) refl (collected_all Q t (more (has_ink (bytes_between t l.start l.end)) l fs) ls h)
+  where
+    rest : Type 0
+    rest = AllByRecursion (λ (x : Line). has_ink (bytes_between t x.start x.end) ≡ true → Q x) ls
+
+    by : (x : Bool) → has_ink (bytes_between t l.start l.end) ≡ x → AllByRecursion Q (more x l fs) × rest → AllByRecursion Q fs × ((has_ink (bytes_between t l.start l.end) ≡ true → Q l) × rest)
+    by true e w = ((w.0).1, ((λ q. (w.0).0), w.1))
+    by false e w = (w.0, ((λ q. absurd (true≢false (sym q ∙ e))), w.1))
+
+lines_stand : (fs : List Line) (c n : ℕ) (t : List ℕ) (ls : List Line) (s : State) → 4 * length t < 2 ^ 64 - 1 → c + length ls ≤ 2 ^ 64 - 1 → Follow n (length t) ls → is_core s.leaf ≡ true → Stands fs c n s → Stands (collected t fs ls) (c + length ls) (length t) (fold (line_taken_in core_known t) s ls)
+lines_stand fs c n t [] s small few f k h = later_stands fs c (c + 0) n (length t) s (omega arith) f h
+lines_stand fs c n t (l ∷ ls) s small few (x, a, b, y, f) k h =
     let q : suc c + length ls ≡ c + suc (length ls) = omega arith in
-    subst (λ m. Stands m (length t) (fold (line_taken_in core_known t) (line_taken_in core_known t s l) ls)) q
-    (lines_stand (suc c) l.next t ls (line_taken_in core_known t s l) small (omega arith) f (line_core t l s k)
-    (line_stands c t l s small (omega arith) a b y k (later_stands c c n l.start s (omega arith) x h)))
+    subst (λ m. Stands (collected t (more (has_ink (bytes_between t l.start l.end)) l fs) ls) m (length t) (fold (line_taken_in core_known t) (line_taken_in core_known t s l) ls)) q
+    (lines_stand (more (has_ink (bytes_between t l.start l.end)) l fs) (suc c) l.next t ls (line_taken_in core_known t s l) small (omega arith) f (line_core t l s k)
+    (line_stands (has_ink (bytes_between t l.start l.end)) fs c t l s small (omega arith) a b y k (λ e. e) (later_stands fs c c n l.start s (omega arith) x h)))
 
 -- the page after all lines and blocks
-pub last_shut : (t : List ℕ) → 4 * length t + 1 < 2 ^ 64 → Shut (0 + length (lines_of t)) (length t) (closed_to t 0 (fold (line_taken_in core_known t) first_page (lines_of t)))
+pub last_shut : (t : List ℕ) → 4 * length t + 1 < 2 ^ 64 → Shut (collected t [] (lines_of t)) (0 + length (lines_of t)) (length t) (closed_to t 0 (fold (line_taken_in core_known t) first_page (lines_of t)))
 unfolding is_core
-last_shut t small = closed_to_shut (0 + length (lines_of t)) (length t) t 0 (fold (line_taken_in core_known t) first_page (lines_of t))
-    (lines_stand 0 0 t (lines_of t) first_page (omega arith) (let w : length (lines_of t) ≤ length t + 1 = lines_few t 0 0 0 t in omega arith) (lines_follow t (length t) 0 0 0 t (omega arith) (omega arith)) refl (shut refl (tt, tt, omega arith, omega arith)))
+last_shut t small = closed_to_shut (collected t [] (lines_of t)) (0 + length (lines_of t)) (length t) t 0 (fold (line_taken_in core_known t) first_page (lines_of t))
+    (lines_stand [] 0 0 t (lines_of t) first_page (omega arith) (let w : length (lines_of t) ≤ length t + 1 = lines_few t 0 0 0 t in omega arith) (lines_follow t (length t) 0 0 0 t (omega arith) (omega arith)) refl (shut refl (tt, tt, omega arith, omega arith, tt)))
 
 -- the lines of a block lie in it
 fit_lies : (ps : List Piece) (count : ℕ) (b : Block) → Fit ps count b → AllByRecursion (Lies b.start b.end) (pieces_of ps b.first b.last)
@@ -156,3 +211,40 @@ inlines_are_in t depth definitions s u small = all_weaker Lined Inlined (blocks_
 
     each : (b : Block) → Lined b → Inlined b
     each b h long = all_weaker (LiesIn (pieces_of (blocks_in CORE t).pieces b.first b.last)) (IsIn b) (nodes b) (λ x k. lies_in b (pieces_of (blocks_in CORE t).pieces b.first b.last) x h k) (inlines_lie t b.first b.last depth definitions s u small long)
+
+-- no block ends before it begins
+
+ordered_line : (n : ℕ) (t : List ℕ) (l : Line) (s : State) → 4 * length t < 2 ^ 64 - 1 → LineIn Any t n l → placed.Stands Any n s → placed.Stands Any l.end (line_taken_in core_known t s l)
+unfolding line_taken_in
+ordered_line n t l s small h r = walked.cells_stand Any (Valid Any cells l) t cells l s (columns Any cells l (grounded Any t n l small (any t) h)) (placed.later_stands Any n l.end s (let a : n ≤ l.start = h.after in let b : l.start ≤ l.end = h.ordered in omega arith) r)
+  where
+    cells : List Cell
+    cells = cells_of [] l.start (bytes_between t l.start l.end)
+
+ordered_run : (n : ℕ) (t : List ℕ) (ls : List Line) (s : State) → 4 * length t < 2 ^ 64 - 1 → Ascend Any t n ls → placed.Stands Any n s → (m : ℕ) × placed.Stands Any m (fold (line_taken_in core_known t) s ls)
+ordered_run n t [] s small h r = (n, r)
+ordered_run n t (l ∷ ls) s small h r = ordered_run l.end t ls (line_taken_in core_known t s l) small (h.1) (ordered_line n t l s small (h.0) r)
+
+ordered_blocks : (t : List ℕ) → 4 * length t + 1 < 2 ^ 64 → AllByRecursion (λ (b : Block). b.start ≤ b.end) (closed_to t 0 (fold (line_taken_in core_known t) first_page (lines_of t))).blocks
+ordered_blocks t small = by (ordered_run 0 t (lines_of t) first_page (omega arith) (lines_ascend Any t (any t)) (placed.shut refl (tt, tt, tt)))
+  where
+    last : State
+    last = fold (line_taken_in core_known t) first_page (lines_of t)
+
+    by : (m : ℕ) × placed.Stands Any m last → AllByRecursion (λ (b : Block). b.start ≤ b.end) (closed_to t 0 last).blocks
+    by (m, h) = all_weaker (placed.Fit Any) (λ (b : Block). b.start ≤ b.end) (closed_to t 0 last).blocks (λ b w. w.ordered) ((placed.closed_to_shut Any m t 0 last h).0)
+
+-- a line is found in the blocks and lines that are left
+
+is_found : (l : Line) (bs : List Block) (os : List Opened) (ps : List Piece) (kept : ℕ) → AllByRecursion (λ (b : Block). b.start ≤ b.end) bs → Found l bs os ps kept → IsFound bs ps l
+is_found l bs os ps kept h (Begun i b e m k) = let a : b.start ≤ b.end = all_got (λ (b : Block). b.start ≤ b.end) bs i b h e in InBlock (record { index = i; one = b; got = e; holds = record { begins = k; ends = omega arith } })
+is_found l bs os ps kept h (Met i b e m k a) = InBlock (record { index = i; one = b; got = e; holds = record { begins = m; ends = k } })
+is_found l bs os ps kept h (Kept i p e k a c d) = InLeaf (record { index = i; one = p; got = e; holds = record { after = a; some = c; before = d } })
+
+pub lines_found : LinesAreFound
+unfolding blocks_in page_in known_of
+lines_found t small = (collected_all (λ (l : Line). IsFound s.blocks s.pieces l) t [] (lines_of t)
+    (all_weaker (λ (l : Line). (l.start ≤ length t) × Found l s.blocks s.opened s.pieces (length s.pieces)) (λ (l : Line). IsFound s.blocks s.pieces l) (collected t [] (lines_of t)) (λ l w. is_found l s.blocks s.opened s.pieces (length s.pieces) (ordered_blocks t small) (w.1)) ((last_shut t small).4))).1
+  where
+    s : State
+    s = closed_to t 0 (fold (line_taken_in core_known t) first_page (lines_of t))

@@ -1,5 +1,6 @@
-//! Laws of what lies within the range of each block of a text.
+//! Laws of what lies within the range of each block of a text, and of where each line of a text is found.
 
+ghost use Rattle.tocmark_range_laws.specs.Found.{LinesAreFound};
 ghost use Rattle.tocmark_range_laws.specs.Within.{InlinesLieInTheirBlocks, LinesLieInTheirBlocks};
 
 /// Each line of a CommonMark leaf lies in the range of its block.
@@ -10,4 +11,10 @@ pub fn lines_lie_in_their_blocks()
 /// Each inline of a CommonMark leaf lies in the range of its block.
 pub fn inlines_lie_in_their_blocks()
     ensures { InlinesLieInTheirBlocks }
+{}
+
+/// No line of a text is lost that has a byte which is neither a space, nor a tab, nor `>`: the range of a CommonMark block meets
+/// it, or a part of it is a line of a leaf or of definitions of links.
+pub fn lines_are_found()
+    ensures { LinesAreFound }
 {}
