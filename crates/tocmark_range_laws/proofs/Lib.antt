@@ -1,5 +1,5 @@
 pub mod Indexed
 pub mod Inked
-pub mod Lying
-pub mod LyingWalk
-pub mod LyingRun
+pub mod Pages
+pub mod PageLines
+pub mod Texts

@@ -1,5 +1,5 @@
 -- Where each line of a text is found.
-use Rattle.std.specs.Prelude.{◌≡◌, ℕ, ◌+◌, ◌*◌, ◌^◌, ◌<◌, ◌≤◌, true, List, length, slice_get, Some}
+use Rattle.std.specs.Prelude.{◌≡◌, ℕ, ◌+◌, ◌*◌, ◌^◌, ◌<◌, ◌≤◌, true, List, [], length, slice_get, Some}
 use Rattle.std.specs.List.{AllByRecursion}
 use Rattle.tocmark_read_scan.specs.Basic.{bytes_between}
 use Rattle.tocmark_read_scan.specs.declared.syntax.TheConstants.{CORE}
@@ -37,3 +37,8 @@ pub data IsFound (blocks : List Block) (pieces : List Piece) (l : Line) : Type 0
 abbrev pub LinesAreFound : Type 0
 LinesAreFound = (text : List ℕ) → 4 * length text + 1 < 2 ^ 64
     → AllByRecursion (λ (l : Line). has_ink (bytes_between text l.start l.end) ≡ true → IsFound (blocks_in CORE text).blocks (blocks_in CORE text).pieces l) (lines_of text)
+
+-- where a text has no definitions of links, each such line meets the range of a block
+abbrev pub LinesMeetBlocks : Type 0
+LinesMeetBlocks = (text : List ℕ) → 4 * length text + 1 < 2 ^ 64 → (blocks_in CORE text).definitions ≡ []
+    → AllByRecursion (λ (l : Line). has_ink (bytes_between text l.start l.end) ≡ true → HasOne (Meets l) (blocks_in CORE text).blocks) (lines_of text)

@@ -1,6 +1,6 @@
 //! Laws of what lies within the range of each block of a text, and of where each line of a text is found.
 
-ghost use Rattle.tocmark_range_laws.specs.Found.{LinesAreFound};
+ghost use Rattle.tocmark_range_laws.specs.Found.{LinesAreFound, LinesMeetBlocks};
 ghost use Rattle.tocmark_range_laws.specs.Within.{InlinesLieInTheirBlocks, LinesLieInTheirBlocks};
 
 /// Each line of a CommonMark leaf lies in the range of its block.
@@ -17,4 +17,9 @@ pub fn inlines_lie_in_their_blocks()
 /// it, or a part of it is a line of a leaf or of definitions of links.
 pub fn lines_are_found()
     ensures { LinesAreFound }
+{}
+
+/// Each such line meets the range of a CommonMark block if the text has no definitions of links.
+pub fn lines_meet_blocks()
+    ensures { LinesMeetBlocks }
 {}

@@ -1,4 +1,4 @@
-use Rattle.tocmark_range_laws.proofs.LyingRun.{inlines_are_in}
+use Rattle.tocmark_range_laws.proofs.Texts.{inlines_are_in}
 use Rattle.tocmark_range_laws.proofs.within.inlines_lie_in_their_blocks.Goals as goal
 
 pub returns : goal.returns

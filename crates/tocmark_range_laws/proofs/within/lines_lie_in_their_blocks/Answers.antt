@@ -1,4 +1,4 @@
-use Rattle.tocmark_range_laws.proofs.LyingRun.{lines_lie}
+use Rattle.tocmark_range_laws.proofs.Texts.{lines_lie}
 use Rattle.tocmark_range_laws.proofs.within.lines_lie_in_their_blocks.Goals as goal
 
 pub returns : goal.returns

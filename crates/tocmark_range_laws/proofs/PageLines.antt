@@ -58,7 +58,7 @@ use Rattle.tocmark_text_laws.proofs.Placed.{Held, is_worded}
 use Rattle.tocmark_text_laws.proofs.Grounds.{Grounded}
 use Rattle.tocmark_text_laws.proofs.Walked.{Begins, TurnsTo, Leads, Columns, Next, words_worded, text_started_leaf, direct_words}
 use Rattle.tocmark_range_laws.proofs.Inked.{inked, Rich, Goes, rich_some, first_rich, matched_rich, turn_goes}
-use Rattle.tocmark_range_laws.proofs.Lying.{Found, Begun, Met, Kept, OpenFound, Before, Here, apart_touched, add_going, finish_more, moved_all, more, more_stands, opened_end, opened_more, piece_found, taken_end, words_all, Shut, Leafed, Going, Stands, shut, holding, Fresh, InLine, bare_touched, bares, finish, settled_going, closed_to_shut, list_left_shut, opened_with_shut, leaf_fresh, fresh_going, later_going, later_leafed, later_stands, leafed_ends, taken_going, passed_going}
+use Rattle.tocmark_range_laws.proofs.Pages.{Found, Begun, Met, Kept, OpenFound, Before, Here, apart_touched, add_going, finish_more, moved_all, more, more_stands, opened_end, opened_more, piece_found, taken_end, words_all, Shut, Leafed, Going, Stands, shut, holding, Fresh, InLine, bare_touched, bares, finish, settled_going, closed_to_shut, list_left_shut, opened_with_shut, leaf_fresh, fresh_going, later_going, later_leafed, later_stands, leafed_ends, taken_going, passed_going}
 
 -- the places of a line's columns are in the line
 abbrev pub From : Line → ℕ → Type 0
@@ -214,6 +214,7 @@ text_started_leafed ls c n x s front b z l r = by (slice_get s.blocks (length s.
         low = r.low;
         room = r.room;
         first = r.first;
+        mine = r.mine;
         covs = words_all s.leaf n front s.opened s.pieces s.kept b.start x s.end ls z r.covs;
         lines = λ i p m q. let a : length s.pieces ≤ b.first = grind (arith, nat_tests, e) in let d : i < length s.pieces = slice_get_within s.pieces i p q in absurd (omega arith);
       },
@@ -302,7 +303,7 @@ rule_or_text_stands ls c t cs line tail place s r a i z h = by (is_rule cs tail 
 ended_going : (ls : List Line) (c : ℕ) (line : Line) (s : State) (front : List Block) (b : Block) → line.start ≤ line.end → Going ls c line.start s front b → Going ls c line.start (record s { end = line.end; line = line.number }) front b
 unfolding later_leafed
 ended_going ls c line s front b o g = record {
-  leafed = later_leafed ls c c line.start line.start s (record s { end = line.end; line = line.number }) front b (omega arith) (omega arith) refl refl refl (moved_all s.leaf line.start front s.opened s.pieces s.kept b.start s.end line.end ls o g.leafed.covs) g.leafed;
+  leafed = later_leafed ls c c line.start line.start s (record s { end = line.end; line = line.number }) front b (omega arith) (omega arith) refl refl refl refl (moved_all s.leaf line.start front s.opened s.pieces s.kept b.start s.end line.end ls o g.leafed.covs) g.leafed;
   kept = g.kept;
   there = g.there;
   ends = λ i p l k e. let a : p.end ≤ line.start = leafed_ends ls c line.start s front b g.leafed i p e in omega arith;
@@ -322,6 +323,7 @@ underlined_stands ls c t level line s front b o m g = shut (finished_shut (recor
     room = g.leafed.room;
     first = g.leafed.first;
     lines = g.leafed.lines;
+    mine = g.leafed.mine;
     covs = moved_all s.leaf line.start front s.opened s.pieces s.kept b.start s.end line.end ls o g.leafed.covs;
   };
   kept = g.kept;
@@ -671,7 +673,7 @@ found_touched l bs depth e n qs os ps kept (Kept i p q k a c d) = Kept i p q k a
 
 touched_stands : (ls : List Line) (c n : ℕ) (line : Line) (depth : ℕ) (s : State) → Stands ls c n s → Stands ls c n (touched line depth s)
 unfolding touched
-touched_stands ls c n line depth s (shut e h) = shut e (h.0, bare_touched (bares s.blocks) depth line.end line.number s.quotes s.opened (h.1), h.2, h.3, all_weaker (λ (l : Line). (l.start ≤ n) × Found l s.blocks s.opened s.pieces (length s.pieces)) (λ (l : Line). (l.start ≤ n) × Found l s.blocks (touched_from depth line.end line.number s.quotes s.opened) s.pieces (length s.pieces)) ls (λ l w. (w.0, found_touched l s.blocks depth line.end line.number s.quotes s.opened s.pieces (length s.pieces) (w.1))) (h.4))
+touched_stands ls c n line depth s (shut e h) = shut e (h.0, bare_touched (bares s.blocks) depth line.end line.number s.quotes s.opened (h.1), h.2, h.3, all_weaker (λ (l : Line). (l.start ≤ n) × Found l s.blocks s.opened s.pieces (length s.pieces)) (λ (l : Line). (l.start ≤ n) × Found l s.blocks (touched_from depth line.end line.number s.quotes s.opened) s.pieces (length s.pieces)) ls (λ l w. (w.0, found_touched l s.blocks depth line.end line.number s.quotes s.opened s.pieces (length s.pieces) (w.1))) (h.4), h.5)
 touched_stands ls c n line depth s (holding w front b m g) = holding w front b m (record {
   leafed = record {
     split = g.leafed.split;
@@ -684,6 +686,7 @@ touched_stands ls c n line depth s (holding w front b m g) = holding w front b m
     room = g.leafed.room;
     first = g.leafed.first;
     lines = g.leafed.lines;
+    mine = g.leafed.mine;
     covs = all_weaker (λ (l : Line). (l.start ≤ n) × OpenFound s.leaf l front s.opened s.pieces s.kept b.start s.end) (λ (l : Line). (l.start ≤ n) × OpenFound s.leaf l front (touched_from depth line.end line.number s.quotes s.opened) s.pieces s.kept b.start s.end) ls (λ l w. (w.0, found_on (w.1))) g.leafed.covs;
   };
   kept = g.kept;

@@ -3,6 +3,7 @@ use Rattle.std.proofs.Common.{◌≡◌, inr, ℕ, zero, suc, ◌+◌, ◌-◌, 
 use Rattle.std.specs.Prelude.{◌%◌, min, replicate, slice_get, slice_range, Some}
 use Rattle.std.specs.List.{AllByRecursion, fold}
 use Rattle.std.proofs.lemmas.Bool.Decides.{nat_tests}
+use Rattle.std.proofs.lemmas.Option.{slice_get_within}
 use Rattle.tocmark_read_scan.specs.Basic.{byte_at, bytes_between, plus}
 use Rattle.tocmark_read_scan.specs.declared.syntax.TheConstants.{CORE}
 use Rattle.tocmark_read_lines.specs.Cells.{cell, cells_of, cell_place, filled}
@@ -33,9 +34,9 @@ use Rattle.tocmark_text_laws.specs.InlinePlaces.{LiesIn, last_of}
 use Rattle.tocmark_text_laws.specs.SourceOrder.{leaf_of}
 use Rattle.tocmark_range_laws.proofs.Indexed.{got_take, got_drop, all_of}
 use Rattle.tocmark_range_laws.proofs.Inked.{cells_inked}
-use Rattle.tocmark_range_laws.proofs.Lying.{Fit, Found, Begun, Met, Kept, Shut, Stands, shut, closed_to_shut, later_stands, more}
-use Rattle.tocmark_range_laws.proofs.LyingWalk.{From, Short, cells_stand}
-use Rattle.tocmark_range_laws.specs.Found.{IsFound, InBlock, InLeaf, LinesAreFound}
+use Rattle.tocmark_range_laws.proofs.Pages.{Housed, Fit, Found, Begun, Met, Kept, Shut, Stands, shut, closed_to_shut, later_stands, more}
+use Rattle.tocmark_range_laws.proofs.PageLines.{From, Short, cells_stand}
+use Rattle.tocmark_range_laws.specs.Found.{HasOne, Meets, IsFound, InBlock, InLeaf, LinesAreFound, LinesMeetBlocks}
 use Rattle.tocmark_range_laws.specs.Within.{Lies, IsIn, LinesLieInTheirBlocks, InlinesLieInTheirBlocks}
 
 -- lines one after the other, up to a place
@@ -165,7 +166,7 @@ lines_stand fs c n t (l ∷ ls) s small few (x, a, b, y, f) k h =
 pub last_shut : (t : List ℕ) → 4 * length t + 1 < 2 ^ 64 → Shut (collected t [] (lines_of t)) (0 + length (lines_of t)) (length t) (closed_to t 0 (fold (line_taken_in core_known t) first_page (lines_of t)))
 unfolding is_core
 last_shut t small = closed_to_shut (collected t [] (lines_of t)) (0 + length (lines_of t)) (length t) t 0 (fold (line_taken_in core_known t) first_page (lines_of t))
-    (lines_stand [] 0 0 t (lines_of t) first_page (omega arith) (let w : length (lines_of t) ≤ length t + 1 = lines_few t 0 0 0 t in omega arith) (lines_follow t (length t) 0 0 0 t (omega arith) (omega arith)) refl (shut refl (tt, tt, omega arith, omega arith, tt)))
+    (lines_stand [] 0 0 t (lines_of t) first_page (omega arith) (let w : length (lines_of t) ≤ length t + 1 = lines_few t 0 0 0 t in omega arith) (lines_follow t (length t) 0 0 0 t (omega arith) (omega arith)) refl (shut refl (tt, tt, omega arith, omega arith, tt, λ e. (omega arith, λ i l. absurd (omega arith)))))
 
 -- the lines of a block lie in it
 fit_lies : (ps : List Piece) (count : ℕ) (b : Block) → Fit ps count b → AllByRecursion (Lies b.start b.end) (pieces_of ps b.first b.last)
@@ -245,6 +246,31 @@ pub lines_found : LinesAreFound
 unfolding blocks_in page_in known_of
 lines_found t small = (collected_all (λ (l : Line). IsFound s.blocks s.pieces l) t [] (lines_of t)
     (all_weaker (λ (l : Line). (l.start ≤ length t) × Found l s.blocks s.opened s.pieces (length s.pieces)) (λ (l : Line). IsFound s.blocks s.pieces l) (collected t [] (lines_of t)) (λ l w. is_found l s.blocks s.opened s.pieces (length s.pieces) (ordered_blocks t small) (w.1)) ((last_shut t small).4))).1
+  where
+    s : State
+    s = closed_to t 0 (fold (line_taken_in core_known t) first_page (lines_of t))
+
+-- without definitions, each line of a leaf is in a block
+
+meets_block : (l : Line) (bs : List Block) (ps : List Piece) → ((i : ℕ) → i < length ps → Housed bs i) → AllByRecursion (Fit ps (length ps)) bs → IsFound bs ps l → HasOne (Meets l) bs
+meets_block l bs ps f h (InBlock w) = w
+meets_block l bs ps f h (InLeaf w) = by (f w.index (slice_get_within ps w.index w.one w.got))
+  where
+    by : Housed bs w.index → HasOne (Meets l) bs
+    by v =
+        let k : Fit ps (length ps) v.one = all_got (Fit ps (length ps)) bs v.index v.one h v.got in
+        let q : Lies v.one.start v.one.end w.one = k.lines w.index w.one ((v.holds).0) ((v.holds).1) w.got in
+        let a : v.one.start ≤ w.one.start = q.begins in
+        let b : w.one.end ≤ v.one.end = q.ends in
+        let c : l.start ≤ w.one.start = (w.holds).after in
+        let d : w.one.start < w.one.end = (w.holds).some in
+        let e : w.one.end ≤ l.end = (w.holds).before in
+        record { index = v.index; one = v.one; got = v.got; holds = record { begins = omega arith; ends = omega arith } }
+
+pub lines_meet : LinesMeetBlocks
+unfolding blocks_in page_in known_of
+lines_meet t small none = all_weaker (λ (l : Line). has_ink (bytes_between t l.start l.end) ≡ true → IsFound s.blocks s.pieces l) (λ (l : Line). has_ink (bytes_between t l.start l.end) ≡ true → HasOne (Meets l) s.blocks) (lines_of t)
+    (λ l w e. meets_block l s.blocks s.pieces ((((last_shut t small).5) none).1) ((last_shut t small).0) (w e)) (lines_found t small)
   where
     s : State
     s = closed_to t 0 (fold (line_taken_in core_known t) first_page (lines_of t))

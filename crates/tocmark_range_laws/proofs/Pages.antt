@@ -7,11 +7,14 @@ use Rattle.std.proofs.lemmas.Bool.Decides.{nat_tests}
 use Rattle.std.proofs.lemmas.List.{length-map, map-append}
 use Rattle.std.proofs.lemmas.Option.{slice_get-map, slice_get_within}
 use Rattle.tocmark_read_scan.specs.Basic.{plus}
+use Rattle.tocmark_read_scan.specs.Repeat.{going, repeated}
+use Rattle.tocmark_read_tokens.specs.Word.{definition_at}
+use Rattle.tocmark_read_tokens.specs.declared.word.Definition.{Definition}
 use Rattle.tocmark_read_lines.specs.Containers.{raised, raised_at, touched_from}
 use Rattle.tocmark_read_lines.specs.declared.container.Container.{Container}
 use Rattle.tocmark_read_lines.specs.declared.container.Opened.{Opened}
 use Rattle.tocmark_read_lines.specs.declared.line.Line.{Line}
-use Rattle.tocmark_read_page.specs.Definitions.{definitions_from}
+use Rattle.tocmark_read_page.specs.Definitions.{DefinitionView, begins_definition, define_once, definitions_from, found_view, joined, line_count, lines_defined}
 use Rattle.tocmark_read_page.specs.Leaves.{is_paragraph}
 use Rattle.tocmark_read_page.specs.Pages.{State, innermost, ended, finished, raised_last, leaf_finished, shortened, defined_as, settled_as, settled, leaf_closed_as, leaf_closed, is_quote, is_list, is_definitions, quote_left, one_closed, times, closed_to, list_of, is_loose, left_noted, list_left, is_apart, loosened, had_marked, begun, quote_entered, opened_with, leaf_opened, piece_taken}
 use Rattle.tocmark_read_page.specs.declared.leaf.Leaf.{Leaf}
@@ -22,6 +25,7 @@ use Rattle.tocmark_read_page.specs.declared.piece.Piece.{Piece}
 use Rattle.tocmark_text_laws.proofs.Alls.{all_got, all_changed, all_both, all_take, all_weaker, got_end, got_front, got_last, set_last, last_changed, same_numbers}
 use Rattle.tocmark_text_laws.proofs.Placed.{is_worded}
 use Rattle.tocmark_range_laws.proofs.Indexed.{changed_got, got_take, got_more, take_got}
+use Rattle.tocmark_range_laws.specs.Found.{HasOne}
 use Rattle.tocmark_range_laws.specs.Within.{Lies}
 
 -- lines of leaves that come one after the other, from one place to another
@@ -92,10 +96,19 @@ pub data OpenFound (k : Leaf) (l : Line) (bs : List Block) (os : List Opened) (p
   Before : Found l bs os ps kept → OpenFound k l bs os ps kept from to
   Here : is_paragraph k ≡ false → from ≤ l.end → l.start ≤ to → OpenFound k l bs os ps kept from to
 
+-- some block has a line
+abbrev pub Housed : List Block → ℕ → Type 0
+Housed bs i = HasOne (λ (b : Block). (b.first ≤ i) × (i < b.last)) bs
+
+-- without definitions, there are so many lines of leaves, and each of these is in one of some blocks
+abbrev pub AllHoused : State → List Block → ℕ → Type 0
+AllHoused s bs n = s.definitions ≡ [] → (n ≤ length s.pieces) × ((i : ℕ) → i < n → Housed bs i)
+
 -- a page in which no leaf is open
 abbrev pub Shut : List Line → ℕ → ℕ → State → Type 0
 Shut ls c n s = AllByRecursion (Fit s.pieces (length s.pieces)) s.blocks × AllByRecursion (Bare (bares s.blocks)) s.opened × Climb 0 n s.pieces × (length s.pieces ≤ c)
     × AllByRecursion (λ (l : Line). (l.start ≤ n) × Found l s.blocks s.opened s.pieces (length s.pieces)) ls
+    × AllHoused s s.blocks (length s.pieces)
 
 -- a page whose last block is an open leaf
 pub record Leafed (ls : List Line) (c n : ℕ) (s : State) (front : List Block) (b : Block) : Type 0 where
@@ -110,6 +123,7 @@ pub record Leafed (ls : List Line) (c n : ℕ) (s : State) (front : List Block) 
   pub first : b.first ≤ 2 ^ 64 - 1
   pub lines : (i : ℕ) (p : Piece) → b.first ≤ i → slice_get s.pieces i ≡ Some p → b.start ≤ p.start
   pub covs : AllByRecursion (λ (l : Line). (l.start ≤ n) × OpenFound s.leaf l front s.opened s.pieces s.kept b.start s.end) ls
+  pub mine : AllHoused s front b.first
 
 -- the same, where the leaf's end is known
 pub record Going (ls : List Line) (c n : ℕ) (s : State) (front : List Block) (b : Block) : Type 0 where
@@ -170,6 +184,20 @@ found_finish l n s front b w (Before (Met i x e m k a)) = Met i x (got_front fro
 found_finish l n s front b w (Before (Kept i p e k a c d)) = let q : slice_get (take s.kept s.pieces) i ≡ Some p = take_got s.kept s.pieces i p k e in Kept i p q (slice_get_within (take s.kept s.pieces) i p q) a c d
 found_finish l n s front b w (Here f m k) = Met (length front) (record b { end = s.end; last = n }) (got_end front [] (record b { end = s.end; last = n })) m k (apart_raised (length front) s.opened (length s.opened - 1) s.end s.line (bare_apart front s.opened w))
 
+housed_more : (front : List Block) (b : Block) (i : ℕ) → Housed front i → Housed (front ++ b ∷ []) i
+housed_more front b i h = record { index = h.index; one = h.one; got = got_front front (b ∷ []) h.index h.one h.got; holds = h.holds }
+
+-- a block changes, and keeps its lines
+housed_changed : (bs : List Block) (j : ℕ) (f : Block → Block) (i : ℕ) → ((b : Block) → (f b).first ≡ b.first) → ((b : Block) → (f b).last ≡ b.last) → Housed bs i → Housed (option_map_or (λ (y : Block). slice_set bs j (f y)) (slice_get bs j) bs) i
+housed_changed bs j f i p q h = by (changed_got bs j f h.index h.one h.got)
+  where
+    after : List Block
+    after = option_map_or (λ (y : Block). slice_set bs j (f y)) (slice_get bs j) bs
+
+    by : ((j ≡ h.index) × (slice_get after h.index ≡ Some (f h.one))) ⊎ (slice_get after h.index ≡ Some h.one) → Housed after i
+    by (inl w) = let a : (f h.one).first ≡ h.one.first = p h.one in let c : (f h.one).last ≡ h.one.last = q h.one in let d : h.one.first ≤ i = (h.holds).0 in let e : i < h.one.last = (h.holds).1 in record { index = h.index; one = f h.one; got = w.1; holds = (omega arith, omega arith) }
+    by (inr w) = record { index = h.index; one = h.one; got = w; holds = h.holds }
+
 -- the leaf ends
 pub finish : (ls : List Line) (c n : ℕ) (s : State) (front : List Block) (b : Block) → Going ls c n s front b → Shut ls c n (leaf_finished s)
 unfolding leaf_finished finished
@@ -181,6 +209,7 @@ finish ls c n s front b g = (
   subst (λ bs. AllByRecursion (λ (l : Line). (l.start ≤ n) × Found l bs (raised_at s.opened (length s.opened - 1) s.end s.line) kept (length kept)) ls) (sym same)
       (all_weaker (λ (l : Line). (l.start ≤ n) × OpenFound s.leaf l front s.opened s.pieces s.kept b.start s.end) (λ (l : Line). (l.start ≤ n) × Found l (front ++ new ∷ []) (raised_at s.opened (length s.opened - 1) s.end s.line) kept (length kept)) ls
       (λ l w. (w.0, found_finish l (length kept) s front b g.leafed.bare (w.1))) g.leafed.covs),
+  λ e. (omega arith, λ i l. subst (λ bs. Housed bs i) (sym same) (housed e i l (nat_lt i b.first) refl)),
 )
   where
     kept : List Piece
@@ -203,6 +232,10 @@ finish ls c n s front b g = (
 
     same : blocks ≡ front ++ new ∷ []
     same = last_changed s.blocks front b change g.leafed.split
+
+    housed : s.definitions ≡ [] → (i : ℕ) → i < length kept → (x : Bool) → nat_lt i b.first ≡ x → Housed (front ++ new ∷ []) i
+    housed e i l true q = let a : i < b.first = grind (arith, nat_tests) in housed_more front new i ((g.leafed.mine e).1 i a)
+    housed e i l false q = let a : b.first ≤ i = grind (arith, nat_tests) in record { index = length front; one = new; got = got_end front [] new; holds = (a, l) }
 
     others : AllByRecursion (Fit kept (length kept)) front
     others = all_weaker (Fit s.pieces g.leafed.floor) (Fit kept (length kept)) front
@@ -254,6 +287,10 @@ found_closed l bs os ps kept o q (Met i b e m k a) = by (ended_got bs o.block o.
     by (x, w, v, z) = let y : x.end ≡ b.end = z (all_got (Apart i) os (length os - 1) o a q) in Met i x w (omega arith) (omega arith) (apart_raised i (take (length os - 1) os) (length (take (length os - 1) os) - 1) o.end o.line (all_take (Apart i) (length os - 1) os a))
 found_closed l bs os ps kept o q (Kept i p e k a c d) = Kept i p e k a c d
 
+housed_ended : (bs : List Block) (j e i : ℕ) → Housed bs i → Housed (ended bs j e) i
+unfolding ended
+housed_ended bs j e i h = housed_changed bs j (λ (b : Block). record b { end = e }) i (λ b. refl) (λ b. refl) h
+
 quote_left_shut : (ls : List Line) (c n : ℕ) (k : Container) (s : State) → Shut ls c n s → Shut ls c n (quote_left k s)
 quote_left_shut ls c n k s h = by (is_quote k)
   where
@@ -280,6 +317,7 @@ one_shut ls c n s h = by (slice_get s.opened (length s.opened - 1)) refl
       h.3,
       all_weaker (λ (l : Line). (l.start ≤ n) × Found l s.blocks s.opened s.pieces (length s.pieces)) (λ (l : Line). (l.start ≤ n) × Found l (closes o).blocks (closes o).opened s.pieces (length s.pieces)) ls
           (λ l w. (w.0, found_closed l s.blocks s.opened s.pieces (length s.pieces) o q (w.1))) (h.4),
+      λ e. (omega arith, λ i l. housed_ended s.blocks o.block o.end i (((h.5) e).1 i l)),
     )
 
     by : (f : Option Opened) → slice_get s.opened (length s.opened - 1) ≡ f → Shut ls c n (option_map_or (λ (o : Opened). quote_left o.container (closes o)) f s)
@@ -313,6 +351,41 @@ shortened_first : (b : Block) (ps : List Piece) (count : ℕ) → (shortened b p
 unfolding shortened
 shortened_first b ps count = refl
 
+-- if no definition is found, none was, and no line is taken
+
+no_more : (ds : List DefinitionView) (d : DefinitionView) → ds ++ d ∷ [] ≡ [] → ⊥
+no_more [] d e = absurd cc
+no_more (x ∷ xs) d e = absurd cc
+
+none_repeated : (content : List ℕ) (n place : ℕ) (ds : List DefinitionView) → (repeated (define_once content) n place ds).0 ≡ [] → (ds ≡ []) × ((repeated (define_once content) n place ds).1 ≡ place)
+unfolding repeated define_once
+none_repeated content zero place ds h = (h, refl)
+none_repeated content (suc n) place ds h = by (definition_at content place) h (λ d k. none_repeated content n d.next (ds ++ found_view content d ∷ []) k)
+  where
+    rest : ℕ → List DefinitionView → List DefinitionView × ℕ
+    rest = λ d u. repeated (define_once content) n d u
+
+    found : Option Definition → List DefinitionView × ℕ
+    found o = going rest place (option_map_or (λ (d : Definition). (ds ++ found_view content d ∷ [], Some d.next)) o (ds, None))
+
+    by : (o : Option Definition) → (found o).0 ≡ [] → ((d : Definition) → (rest d.next (ds ++ found_view content d ∷ [])).0 ≡ [] → (ds ++ found_view content d ∷ [] ≡ []) × ((rest d.next (ds ++ found_view content d ∷ [])).1 ≡ d.next)) → (ds ≡ []) × ((found o).1 ≡ place)
+    by None k f = (k, refl)
+    by (Some d) k f = absurd (no_more ds (found_view content d) ((f d k).0))
+
+none_defined : (t : List ℕ) (ps : List Piece) (ds : List DefinitionView) → (definitions_from t ps ds).0 ≡ [] → (ds ≡ []) × ((definitions_from t ps ds).1 ≡ 0)
+unfolding definitions_from
+none_defined t ps ds = by (begins_definition t ps)
+  where
+    content : List ℕ
+    content = joined t ps
+
+    found : List DefinitionView × ℕ
+    found = repeated (define_once content) (length content) 0 ds
+
+    by : (x : Bool) → (if x then lines_defined t ps ds else (ds, 0)).0 ≡ [] → (ds ≡ []) × ((if x then lines_defined t ps ds else (ds, 0)).1 ≡ 0)
+    by true h = let w : (ds ≡ []) × (found.1 ≡ 0) = none_repeated content (length content) 0 ds h in (w.0, ap (line_count content) (w.1))
+    by false h = (h, refl)
+
 -- an open paragraph begins elsewhere
 pub found_words : (k : Leaf) (l : Line) (bs : List Block) (os : List Opened) (ps : List Piece) (kept from new to : ℕ) → is_paragraph k ≡ true → OpenFound k l bs os ps kept from to → OpenFound k l bs os ps kept new to
 found_words k l bs os ps kept from new to e (Before f) = Before f
@@ -345,6 +418,14 @@ settled_going ls c n t s front b z m g = by (slice_get s.blocks (length s.blocks
         first = let q : new.first ≡ plus b.first count = shortened_first b s.pieces count in omega arith;
         lines = shortened_lines n b s.pieces count g.leafed.climb g.leafed.first g.leafed.lines;
         covs = all_weaker (λ (l : Line). (l.start ≤ n) × OpenFound s.leaf l front s.opened s.pieces s.kept b.start s.end) (λ (l : Line). (l.start ≤ n) × OpenFound s.leaf l front s.opened s.pieces s.kept new.start s.end) ls (λ l w. (w.0, found_words s.leaf l front s.opened s.pieces s.kept b.start new.start s.end z (w.1))) g.leafed.covs;
+        mine = λ e.
+            let w : (s.definitions ≡ []) × (count ≡ 0) = none_defined t (drop b.first s.pieces) s.definitions e in
+            let q : new.first ≡ plus b.first count = shortened_first b s.pieces count in
+            let a : count ≡ 0 = w.1 in
+            let m : b.first ≤ 2 ^ 64 - 1 = g.leafed.first in
+            let d : b.first ≤ length s.pieces = (g.leafed.mine (w.0)).0 in
+            let f : new.first ≡ b.first = omega arith in
+            (omega arith, λ i l. (g.leafed.mine (w.0)).1 i (omega arith));
       };
       kept = g.kept;
       there = g.there;
@@ -455,6 +536,12 @@ loosened_got (Some i) true bs j b q = by (changed_got bs i (λ (y : Block). reco
     by (inl w) = (change b, w.1, refl, refl)
     by (inr w) = (b, w, refl, refl)
 
+housed_loosened : (list : Option ℕ) (apart : Bool) (bs : List Block) (i : ℕ) → Housed bs i → Housed (loosened list apart bs) i
+unfolding loosened
+housed_loosened list false bs i h = h
+housed_loosened None true bs i h = h
+housed_loosened (Some j) true bs i h = housed_changed bs j (λ (b : Block). record b { loose = true }) i (λ b. refl) (λ b. refl) h
+
 apart_had : (i : ℕ) (os : List Opened) → AllByRecursion (Apart i) os → AllByRecursion (Apart i) (had_marked os)
 unfolding had_marked
 apart_had i os h = all_changed (Apart i) os (length os - 1) (λ (o : Opened). record o { had = true }) (λ o e w. w) h
@@ -492,6 +579,7 @@ opened_with_shut ls c n k d start line s h =
       h.2,
       h.3,
       founds,
+      λ e. (omega arith, λ i l. housed_more front b i (housed_loosened (list_of s.opened) (is_apart s.opened line.number) s.blocks i (((h.5) e).1 i l))),
     )
   where
     front : List Block
@@ -541,6 +629,7 @@ leaf_fresh ls c n f k start line s r h = record {
     lines = λ i p l e. let w : i < length u.pieces = slice_get_within u.pieces i p e in absurd (omega arith);
     covs = all_weaker (λ (l : Line). (l.start ≤ n) × Found l u.blocks u.opened u.pieces (length u.pieces)) (λ (l : Line). (l.start ≤ n) × OpenFound f l (before line.number u) (had_marked u.opened) u.pieces (length u.pieces) start line.end) ls
         (λ l w. (w.0, Before (found_begun l line.number u (length u.pieces) (w.1)))) (g.4);
+    mine = λ e. (omega arith, λ i l. housed_loosened (list_of u.opened) (is_apart u.opened line.number) u.blocks i (((g.5) e).1 i l));
   };
   floor = refl;
 }
@@ -576,8 +665,8 @@ more_fits ps p m bs r h = all_weaker (Fit ps m) (Fit (ps ++ p ∷ []) m) bs (λ 
     either b w i x l k (inr q) = let a : b.last ≤ m = w.lasts in let d : i ≡ length ps = q.0 in absurd (omega arith)
 
 -- a line comes into the open leaf
-pushed_leafed : (ls : List Line) (c : ℕ) (p : Piece) (line : Line) (s u : State) (front : List Block) (b : Block) → InLine line p → b.start ≤ p.start → u.blocks ≡ s.blocks → u.opened ≡ s.opened → u.pieces ≡ s.pieces ++ p ∷ [] → AllByRecursion (λ (l : Line). (l.start ≤ line.next) × OpenFound u.leaf l front u.opened u.pieces u.kept b.start u.end) ls → Leafed ls c line.start s front b → Leafed ls (suc c) line.next u front b
-pushed_leafed ls c p line s u front b i l bs os ps f h = record {
+pushed_leafed : (ls : List Line) (c : ℕ) (p : Piece) (line : Line) (s u : State) (front : List Block) (b : Block) → InLine line p → b.start ≤ p.start → u.blocks ≡ s.blocks → u.opened ≡ s.opened → u.pieces ≡ s.pieces ++ p ∷ [] → u.definitions ≡ s.definitions → AllByRecursion (λ (l : Line). (l.start ≤ line.next) × OpenFound u.leaf l front u.opened u.pieces u.kept b.start u.end) ls → Leafed ls c line.start s front b → Leafed ls (suc c) line.next u front b
+pushed_leafed ls c p line s u front b i l bs os ps ds f h = record {
   split = bs ∙ h.split;
   floor = h.floor;
   fits = subst (λ (xs : List Piece). AllByRecursion (Fit xs h.floor) front) (sym ps) (more_fits s.pieces p h.floor front h.room h.fits);
@@ -588,6 +677,7 @@ pushed_leafed ls c p line s u front b i l bs os ps f h = record {
   room = let a : length u.pieces ≡ length s.pieces + 1 = long in let b : h.floor ≤ length s.pieces = h.room in omega arith;
   first = h.first;
   covs = f;
+  mine = λ e. let a : length u.pieces ≡ length s.pieces + 1 = long in let d : b.first ≤ length s.pieces = (h.mine (sym ds ∙ e)).0 in (omega arith, (h.mine (sym ds ∙ e)).1);
   lines = λ j x k e. either j x k (got_more s.pieces p j x (ap (λ (xs : List Piece). slice_get xs j) (sym ps) ∙ e));
 }
   where
@@ -599,8 +689,8 @@ pushed_leafed ls c p line s u front b i l bs os ps f h = record {
     either j x k (inr q) = subst (λ (y : Piece). b.start ≤ y.start) (q.1) l
 
 -- the same page as seen from a later place
-unfoldable pub later_leafed : (ls : List Line) (c d n m : ℕ) (s u : State) (front : List Block) (b : Block) → c ≤ d → n ≤ m → u.blocks ≡ s.blocks → u.opened ≡ s.opened → u.pieces ≡ s.pieces → AllByRecursion (λ (l : Line). (l.start ≤ m) × OpenFound u.leaf l front u.opened u.pieces u.kept b.start u.end) ls → Leafed ls c n s front b → Leafed ls d m u front b
-later_leafed ls c d n m s u front b l k bs os ps f h = record {
+unfoldable pub later_leafed : (ls : List Line) (c d n m : ℕ) (s u : State) (front : List Block) (b : Block) → c ≤ d → n ≤ m → u.blocks ≡ s.blocks → u.opened ≡ s.opened → u.pieces ≡ s.pieces → u.definitions ≡ s.definitions → AllByRecursion (λ (l : Line). (l.start ≤ m) × OpenFound u.leaf l front u.opened u.pieces u.kept b.start u.end) ls → Leafed ls c n s front b → Leafed ls d m u front b
+later_leafed ls c d n m s u front b l k bs os ps ds f h = record {
   split = bs ∙ h.split;
   floor = h.floor;
   fits = subst (λ (xs : List Piece). AllByRecursion (Fit xs h.floor) front) (sym ps) h.fits;
@@ -611,6 +701,7 @@ later_leafed ls c d n m s u front b l k bs os ps f h = record {
   room = let a : h.floor ≤ length s.pieces = h.room in let b : length u.pieces ≡ length s.pieces = long in omega arith;
   first = h.first;
   covs = f;
+  mine = λ e. let w : length u.pieces ≡ length s.pieces = long in let d : b.first ≤ length s.pieces = (h.mine (sym ds ∙ e)).0 in (omega arith, (h.mine (sym ds ∙ e)).1);
   lines = λ j x k e. h.lines j x k (ap (λ (xs : List Piece). slice_get xs j) (sym ps) ∙ e);
 }
   where
@@ -622,10 +713,10 @@ later_all Q n m ls k h = all_weaker (λ (l : Line). (l.start ≤ n) × Q l) (λ 
 
 pub later_going : (ls : List Line) (c d n m : ℕ) (s : State) (front : List Block) (b : Block) → c ≤ d → n ≤ m → Going ls c n s front b → Going ls d m s front b
 unfolding later_leafed
-later_going ls c d n m s front b l k g = record { leafed = later_leafed ls c d n m s s front b l k refl refl refl (later_all (λ (x : Line). OpenFound s.leaf x front s.opened s.pieces s.kept b.start s.end) n m ls k g.leafed.covs) g.leafed; kept = g.kept; there = g.there; ends = g.ends }
+later_going ls c d n m s front b l k g = record { leafed = later_leafed ls c d n m s s front b l k refl refl refl refl (later_all (λ (x : Line). OpenFound s.leaf x front s.opened s.pieces s.kept b.start s.end) n m ls k g.leafed.covs) g.leafed; kept = g.kept; there = g.there; ends = g.ends }
 
 pub later_shut : (ls : List Line) (c d n m : ℕ) (s : State) → c ≤ d → n ≤ m → Shut ls c n s → Shut ls d m s
-later_shut ls c d n m s l k h = (h.0, h.1, climb_more 0 n m s.pieces k (h.2), let a : length s.pieces ≤ c = h.3 in omega arith, later_all (λ (x : Line). Found x s.blocks s.opened s.pieces (length s.pieces)) n m ls k (h.4))
+later_shut ls c d n m s l k h = (h.0, h.1, climb_more 0 n m s.pieces k (h.2), let a : length s.pieces ≤ c = h.3 in omega arith, later_all (λ (x : Line). Found x s.blocks s.opened s.pieces (length s.pieces)) n m ls k (h.4), h.5)
 
 pub later_stands : (ls : List Line) (c d n m : ℕ) (s : State) → c ≤ d → n ≤ m → Stands ls c n s → Stands ls d m s
 later_stands ls c d n m s l k (shut e h) = shut e (later_shut ls c d n m s l k h)
@@ -671,13 +762,13 @@ taken_going ls c p line s front b i o l h = by (nat_lt 0 p.spaces || nat_lt p.st
 
     by : (x : Bool) → Going ls (suc c) line.next (let t = if x then record s { pieces = s.pieces ++ p ∷ [] } else s in record t { kept = length t.pieces; end = line.end; line = line.number }) front b
     by true = record {
-      leafed = pushed_leafed ls c p line s (record s { pieces = s.pieces ++ p ∷ []; kept = length (s.pieces ++ p ∷ []); end = line.end; line = line.number }) front b i l refl refl refl (all_weaker (λ (l : Line). (l.start ≤ line.start) × OpenFound s.leaf l front s.opened s.pieces s.kept b.start s.end) (λ (l : Line). (l.start ≤ line.next) × OpenFound s.leaf l front s.opened (s.pieces ++ p ∷ []) (length (s.pieces ++ p ∷ [])) b.start line.end) ls (λ l w. (let a : l.start ≤ line.start = w.0 in omega arith, found_pushed s.leaf l front s.opened s.pieces p s.kept b.start s.end line.end (let a : l.start ≤ line.start = w.0 in omega arith) (w.1))) h.covs) h;
+      leafed = pushed_leafed ls c p line s (record s { pieces = s.pieces ++ p ∷ []; kept = length (s.pieces ++ p ∷ []); end = line.end; line = line.number }) front b i l refl refl refl refl (all_weaker (λ (l : Line). (l.start ≤ line.start) × OpenFound s.leaf l front s.opened s.pieces s.kept b.start s.end) (λ (l : Line). (l.start ≤ line.next) × OpenFound s.leaf l front s.opened (s.pieces ++ p ∷ []) (length (s.pieces ++ p ∷ [])) b.start line.end) ls (λ l w. (let a : l.start ≤ line.start = w.0 in omega arith, found_pushed s.leaf l front s.opened s.pieces p s.kept b.start s.end line.end (let a : l.start ≤ line.start = w.0 in omega arith) (w.1))) h.covs) h;
       kept = let a : h.floor ≤ length s.pieces = h.room in omega (arith, long, a);
       there = omega arith;
       ends = λ j x k m e. either j x (got_more s.pieces p j x e);
     }
     by false = record {
-      leafed = later_leafed ls c (suc c) line.start line.next s (record s { kept = length s.pieces; end = line.end; line = line.number }) front b (omega arith) later refl refl refl (all_weaker (λ (l : Line). (l.start ≤ line.start) × OpenFound s.leaf l front s.opened s.pieces s.kept b.start s.end) (λ (l : Line). (l.start ≤ line.next) × OpenFound s.leaf l front s.opened s.pieces (length s.pieces) b.start line.end) ls (λ l w. (let a : l.start ≤ line.start = w.0 in omega arith, found_ended s.leaf l front s.opened s.pieces s.kept b.start s.end line.end (let a : l.start ≤ line.start = w.0 in omega arith) (w.1))) h.covs) h;
+      leafed = later_leafed ls c (suc c) line.start line.next s (record s { kept = length s.pieces; end = line.end; line = line.number }) front b (omega arith) later refl refl refl refl (all_weaker (λ (l : Line). (l.start ≤ line.start) × OpenFound s.leaf l front s.opened s.pieces s.kept b.start s.end) (λ (l : Line). (l.start ≤ line.next) × OpenFound s.leaf l front s.opened s.pieces (length s.pieces) b.start line.end) ls (λ l w. (let a : l.start ≤ line.start = w.0 in omega arith, found_ended s.leaf l front s.opened s.pieces s.kept b.start s.end line.end (let a : l.start ≤ line.start = w.0 in omega arith) (w.1))) h.covs) h;
       kept = h.room;
       there = omega arith;
       ends = λ j x k m e. let a : x.end ≤ line.start = leafed_ends ls c line.start s front b h j x e in omega arith;
@@ -697,7 +788,7 @@ passed_going ls c p line s front b i l g = by (nat_lt 0 p.spaces || nat_lt p.sta
 
     by : (x : Bool) → Going ls (suc c) line.next (if x then record s { pieces = s.pieces ++ p ∷ [] } else s) front b
     by true = record {
-      leafed = pushed_leafed ls c p line s (record s { pieces = s.pieces ++ p ∷ [] }) front b i l refl refl refl (all_weaker (λ (l : Line). (l.start ≤ line.start) × OpenFound s.leaf l front s.opened s.pieces s.kept b.start s.end) (λ (l : Line). (l.start ≤ line.next) × OpenFound s.leaf l front s.opened (s.pieces ++ p ∷ []) s.kept b.start s.end) ls (λ l w. (let a : l.start ≤ line.start = w.0 in omega arith, found_passed s.leaf l front s.opened s.pieces p s.kept b.start s.end (w.1))) g.leafed.covs) g.leafed;
+      leafed = pushed_leafed ls c p line s (record s { pieces = s.pieces ++ p ∷ [] }) front b i l refl refl refl refl (all_weaker (λ (l : Line). (l.start ≤ line.start) × OpenFound s.leaf l front s.opened s.pieces s.kept b.start s.end) (λ (l : Line). (l.start ≤ line.next) × OpenFound s.leaf l front s.opened (s.pieces ++ p ∷ []) s.kept b.start s.end) ls (λ l w. (let a : l.start ≤ line.start = w.0 in omega arith, found_passed s.leaf l front s.opened s.pieces p s.kept b.start s.end (w.1))) g.leafed.covs) g.leafed;
       kept = g.kept;
       there = let a : s.kept ≤ length s.pieces = g.there in omega (arith, length-append s.pieces (p ∷ []), a);
       ends = λ j x k m e. either j x k m (got_more s.pieces p j x e);
@@ -707,7 +798,7 @@ passed_going ls c p line s front b i l g = by (nat_lt 0 p.spaces || nat_lt p.sta
 -- one more line is found
 
 pub add_shut : (l : Line) (ls : List Line) (c n : ℕ) (s : State) → l.start ≤ n → Found l s.blocks s.opened s.pieces (length s.pieces) → Shut ls c n s → Shut (l ∷ ls) c n s
-add_shut l ls c n s m f h = (h.0, h.1, h.2, h.3, ((m, f), h.4))
+add_shut l ls c n s m f h = (h.0, h.1, h.2, h.3, ((m, f), h.4), h.5)
 
 pub add_going : (l : Line) (ls : List Line) (c n : ℕ) (s : State) (front : List Block) (b : Block) → l.start ≤ n → OpenFound s.leaf l front s.opened s.pieces s.kept b.start s.end → Going ls c n s front b → Going (l ∷ ls) c n s front b
 add_going l ls c n s front b m f g = record {
@@ -723,6 +814,7 @@ add_going l ls c n s front b m f g = record {
     first = g.leafed.first;
     lines = g.leafed.lines;
     covs = ((m, f), g.leafed.covs);
+    mine = g.leafed.mine;
   };
   kept = g.kept;
   there = g.there;
@@ -731,7 +823,7 @@ add_going l ls c n s front b m f g = record {
 
 -- one line fewer is found
 pub less_stands : (l : Line) (ls : List Line) (c n : ℕ) (s : State) → Stands (l ∷ ls) c n s → Stands ls c n s
-less_stands l ls c n s (shut e h) = shut e (h.0, h.1, h.2, h.3, (h.4).1)
+less_stands l ls c n s (shut e h) = shut e (h.0, h.1, h.2, h.3, (h.4).1, h.5)
 less_stands l ls c n s (holding w front b m g) = holding w front b m (record {
   leafed = record {
     split = g.leafed.split;
@@ -745,6 +837,7 @@ less_stands l ls c n s (holding w front b m g) = holding w front b m (record {
     first = g.leafed.first;
     lines = g.leafed.lines;
     covs = (g.leafed.covs).1;
+    mine = g.leafed.mine;
   };
   kept = g.kept;
   there = g.there;
