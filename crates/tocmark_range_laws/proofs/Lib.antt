@@ -3,3 +3,4 @@ pub mod Inked
 pub mod Pages
 pub mod PageLines
 pub mod Texts
+pub mod Rows

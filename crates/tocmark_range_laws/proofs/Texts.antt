@@ -29,6 +29,8 @@ use Rattle.tocmark_text_laws.proofs.Grounds.{Grounded, Valid, columns}
 use Rattle.tocmark_text_laws.proofs.Ranged.{LineIn, Ascend, cells_head, grounded, lines_ascend}
 use Rattle.tocmark_text_laws.proofs.NestRun.{any, lines_few}
 use Rattle.tocmark_text_laws.proofs.NestWalk.{Any}
+use Rattle.tocmark_text_laws.proofs.ShortTexts.{short_counted}
+use Rattle.tocmark_text_laws.specs.Proper.{IsCounted}
 use Rattle.tocmark_text_laws.proofs.InlinePlaces.{inlines_lie}
 use Rattle.tocmark_text_laws.specs.InlinePlaces.{LiesIn, last_of}
 use Rattle.tocmark_text_laws.specs.SourceOrder.{leaf_of}
@@ -37,7 +39,7 @@ use Rattle.tocmark_range_laws.proofs.Inked.{cells_inked}
 use Rattle.tocmark_range_laws.proofs.Pages.{Housed, Fit, Found, Begun, Met, Kept, Shut, Stands, shut, closed_to_shut, later_stands, more}
 use Rattle.tocmark_range_laws.proofs.PageLines.{From, Short, cells_stand}
 use Rattle.tocmark_range_laws.specs.Found.{HasOne, Meets, IsFound, InBlock, InLeaf, LinesAreFound, LinesMeetBlocks}
-use Rattle.tocmark_range_laws.specs.Within.{Lies, IsIn, LinesLieInTheirBlocks, InlinesLieInTheirBlocks}
+use Rattle.tocmark_range_laws.specs.Within.{ShortInlinesLieInTheirBlocks, Lies, IsIn, LinesLieInTheirBlocks, InlinesLieInTheirBlocks}
 
 -- lines one after the other, up to a place
 abbrev pub Follow : ℕ → ℕ → List Line → Type 0
@@ -274,3 +276,14 @@ lines_meet t small none = all_weaker (λ (l : Line). has_ink (bytes_between t l.
   where
     s : State
     s = closed_to t 0 (fold (line_taken_in core_known t) first_page (lines_of t))
+
+-- so it is with texts that aren't too long
+pub short_inlines : ShortInlinesLieInTheirBlocks
+short_inlines t depth definitions s u short = both (blocks_in CORE t).blocks (inlines_are_in t depth definitions s u (omega arith)) (short_counted t short)
+  where
+    nodes : Block → List Node
+    nodes b = (inlines.read_inlines (leaf_of t b.first b.last) depth definitions (record s { nodes = [] })).nodes
+
+    both : (bs : List Block) → AllByRecursion (λ (b : Block). length (leaf_of t b.first b.last).bytes < 2 ^ 64 - 1 → AllByRecursion (IsIn b) (nodes b)) bs → AllByRecursion (IsCounted t (blocks_in CORE t).pieces) bs → AllByRecursion (λ (b : Block). AllByRecursion (IsIn b) (nodes b)) bs
+    both [] h k = tt
+    both (b ∷ bs) h k = let w : b.depth + length (leaf_of t b.first b.last).bytes + 1 < 2 ^ 64 - 1 = k.0 in ((h.0) (omega arith), both bs (h.1) (k.1))

@@ -1,5 +1,5 @@
 -- Where each line of a text is found.
-use Rattle.std.specs.Prelude.{◌≡◌, ℕ, ◌+◌, ◌*◌, ◌^◌, ◌<◌, ◌≤◌, true, List, [], length, slice_get, Some}
+use Rattle.std.specs.Prelude.{◌≡◌, ℕ, ◌+◌, ◌*◌, ◌^◌, ◌<◌, ◌≤◌, true, List, [], ◌∷◌, codes, length, map, slice_get, Some}
 use Rattle.std.specs.List.{AllByRecursion}
 use Rattle.tocmark_read_scan.specs.Basic.{bytes_between}
 use Rattle.tocmark_read_scan.specs.declared.syntax.TheConstants.{CORE}
@@ -42,3 +42,21 @@ LinesAreFound = (text : List ℕ) → 4 * length text + 1 < 2 ^ 64
 abbrev pub LinesMeetBlocks : Type 0
 LinesMeetBlocks = (text : List ℕ) → 4 * length text + 1 < 2 ^ 64 → (blocks_in CORE text).definitions ≡ []
     → AllByRecursion (λ (l : Line). has_ink (bytes_between text l.start l.end) ≡ true → HasOne (Meets l) (blocks_in CORE text).blocks) (lines_of text)
+
+-- where the blocks of a text begin and end
+abbrev pub ranges_in : List ℕ → List (ℕ × ℕ)
+ranges_in text = map (λ (b : Block). (b.start, b.end)) (blocks_in CORE text).blocks
+
+-- where the lines of its leaves begin and end, with those of definitions of links
+abbrev pub leaf_lines_in : List ℕ → List (ℕ × ℕ)
+leaf_lines_in text = map (λ (p : Piece). (p.start, p.end)) (blocks_in CORE text).pieces
+
+-- Some texts. In the first one, an item has a heading with an underline, which is in no line of a leaf. In the second one, fences are in
+-- none. In the third one, a definition of a link is in no block, but in a line of a leaf. In the fourth one, a line with `>` alone ends
+-- the quote.
+abbrev pub SomeTexts : Type 0
+SomeTexts =
+    ((ranges_in (codes "- a\n  -\n") ≡ (0, 7) ∷ (0, 7) ∷ (2, 7) ∷ []) × (leaf_lines_in (codes "- a\n  -\n") ≡ (2, 3) ∷ []))
+    × ((ranges_in (codes "```\na\n```") ≡ (0, 9) ∷ []) × (leaf_lines_in (codes "```\na\n```") ≡ (4, 5) ∷ []))
+    × ((ranges_in (codes "[a]: b\nc") ≡ (7, 8) ∷ []) × (leaf_lines_in (codes "[a]: b\nc") ≡ (0, 6) ∷ (7, 8) ∷ []))
+    × ((ranges_in (codes "> a\n>\n") ≡ (0, 5) ∷ (2, 3) ∷ []) × (leaf_lines_in (codes "> a\n>\n") ≡ (2, 3) ∷ []))

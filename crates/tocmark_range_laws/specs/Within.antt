@@ -31,3 +31,8 @@ pub record IsIn (b : Block) (n : Node) : Type 0 where
 abbrev pub InlinesLieInTheirBlocks : Type 0
 InlinesLieInTheirBlocks = (text : List ℕ) (depth : ℕ) (definitions : List ℕ → Option Entry) (s : State) → IsUtf8 text → 4 * length text + 1 < 2 ^ 64
     → AllByRecursion (λ (b : Block). length (leaf_of text b.first b.last).bytes < 2 ^ 64 - 1 → AllByRecursion (IsIn b) (read_inlines (leaf_of text b.first b.last) depth definitions (record s { nodes = [] })).nodes) (blocks_in CORE text).blocks
+
+-- and so it is with each text of less than a gibibyte
+abbrev pub ShortInlinesLieInTheirBlocks : Type 0
+ShortInlinesLieInTheirBlocks = (text : List ℕ) (depth : ℕ) (definitions : List ℕ → Option Entry) (s : State) → IsUtf8 text → length text < 2 ^ 30
+    → AllByRecursion (λ (b : Block). AllByRecursion (IsIn b) (read_inlines (leaf_of text b.first b.last) depth definitions (record s { nodes = [] })).nodes) (blocks_in CORE text).blocks
