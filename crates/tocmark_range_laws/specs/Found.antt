@@ -52,8 +52,8 @@ abbrev pub leaf_lines_in : List ℕ → List (ℕ × ℕ)
 leaf_lines_in text = map (λ (p : Piece). (p.start, p.end)) (blocks_in CORE text).pieces
 
 -- Some texts. In the first one, an item has a heading with an underline, which is in no line of a leaf. In the second one, fences are in
--- none. In the third one, a definition of a link is in no block, but in a line of a leaf. In the fourth one, a line with `>` alone ends
--- the quote.
+-- none. In the third one, a definition of a link is in no block, but in a line of a leaf. In the fourth one, the quote ends with a line
+-- that is `>` alone.
 abbrev pub SomeTexts : Type 0
 SomeTexts =
     ((ranges_in (codes "- a\n  -\n") ≡ (0, 7) ∷ (0, 7) ∷ (2, 7) ∷ []) × (leaf_lines_in (codes "- a\n  -\n") ≡ (2, 3) ∷ []))
