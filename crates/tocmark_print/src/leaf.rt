@@ -114,7 +114,7 @@ fn has_meant_breaks(text: &str) -> bool {
 /// Whether a line of a paragraph, but not the first one, looks like the definition of a link.
 fn has_definition(text: &str) -> bool {
     for line in text.split('\n').skip(1) {
-        let bare = line.trim_start_matches(' ');
+        let bare = line.trim_start_matches(&[' ', '>']);
         if bare.starts_with('[') && !bare.starts_with("[^") && bare.contains("]:") {
             return true;
         }
